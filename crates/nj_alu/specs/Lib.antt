@@ -1,0 +1,4 @@
+pub mod Bits
+pub mod Arithmetic
+pub mod Shifts
+pub mod FlagByte
