@@ -1,13 +1,15 @@
-// A library with one function.
+//! The processor of the NES, a 2A03: an NMOS 6502 without decimal mode, over any bus. One call runs
+//! one unit: an instruction, an NMI entry or a sprite copy, cycle by cycle.
 #![tactic(auto)]
 
-ghost use Rattle.std.specs.Prelude.{◌≡◌};
-ghost use Rattle.nj_cpu.specs.Echo.{echo_of};
+mod cycle;
+mod effects;
+mod modes;
+mod rows;
+mod state;
+mod units;
 
-// The `ensures` clause is the contract: what `echo` returns is `echo_of` of its argument, a definition
-// in `specs/Echo.antt`, which a caller's clause can cite too.
-pub fn echo(x: usize) -> usize
-    ensures { result ≡ echo_of x }
-{
-    x
-}
+pub use nj_alu::Flags;
+pub use nj_isa::Bus;
+pub use state::{Cpu, Note, UnitEnd};
+pub use units::{power_on, unit};

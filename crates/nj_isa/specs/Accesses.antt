@@ -7,13 +7,10 @@ use Rattle.nj_isa.specs.declared.modes.Mode.{Mode}
 use Rattle.nj_isa.specs.declared.modes.Mode.TheVariants.{Implied, Accumulator, Immediate, Zp, ZpX, ZpY, Abs, AbsX, AbsY, IndX, IndY, Indirect, Relative}
 use Rattle.nj_isa.specs.declared.modes.Kind.{Kind}
 use Rattle.nj_isa.specs.declared.modes.Kind.TheVariants.{Read, Write, Modify}
+use Rattle.nj_isa.specs.declared.modes.Index.{Index}
+use Rattle.nj_isa.specs.declared.modes.Index.TheVariants.{X, Y}
 use Rattle.nj_isa.specs.declared.classes.Class.{Class}
 use Rattle.nj_isa.specs.declared.classes.Class.TheVariants.{ByMode, Branches, Jumps, JumpsIndirect, Calls, Returns, ReturnsFromInterrupt, Breaks, PushesA, PushesFlags, PullsA, PullsFlags, Jams}
-
--- an index register
-pub data Index : Type 0 where
-  X : Index
-  Y : Index
 
 -- where an access goes
 pub data Place : Type 0 where
@@ -120,7 +117,9 @@ end_indexed i Modify = access (AtUncarried i) Ignores Stay ∷ end_on (AtWordBy 
 abbrev pub by_mode : Mode → Kind → List Access
 by_mode Implied kind = access AtPc Ignores Stay ∷ []
 by_mode Accumulator kind = access AtPc Ignores Stay ∷ []
-by_mode Immediate kind = fetch ToData ∷ []
+by_mode Immediate Read = fetch ToData ∷ []
+by_mode Immediate Write = []
+by_mode Immediate Modify = []
 by_mode Zp kind = fetch ToLow ∷ end_on InZero kind
 by_mode ZpX kind = fetch ToLow ∷ access InZero Ignores Stay ∷ end_on (InZeroBy X) kind
 by_mode ZpY kind = fetch ToLow ∷ access InZero Ignores Stay ∷ end_on (InZeroBy Y) kind

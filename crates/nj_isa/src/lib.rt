@@ -10,6 +10,6 @@ mod table;
 
 pub use buses::Bus;
 pub use classes::{Class, op_class};
-pub use modes::{Kind, Mode, mode_len};
+pub use modes::{Index, Kind, Mode, mode_len};
 pub use operations::{Op, op_name};
 pub use table::{OpRow, op_row};

@@ -21,6 +21,13 @@ pub enum Mode {
     Relative,
 }
 
+/// An index register.
+#[derive(Clone, Copy, Debug, PartialEq, Eq)]
+pub enum Index {
+    X,
+    Y,
+}
+
 /// What an instruction does with the byte at its address.
 #[derive(Clone, Copy, Debug, PartialEq, Eq)]
 pub enum Kind {
