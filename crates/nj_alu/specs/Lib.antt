@@ -2,3 +2,4 @@ pub mod Bits
 pub mod Arithmetic
 pub mod Shifts
 pub mod FlagByte
+pub mod Signed

@@ -1,5 +1,5 @@
 -- The 256 opcodes: operation, mode and kind of access.
-use Rattle.std.specs.Prelude.{ℕ, Bool, true, false, List, [], ◌∷◌, ◌++◌, ◌==◌, map, cond, if◌then◌else◌}
+use Rattle.std.specs.Prelude.{ℕ, Bool, true, false, List, [], ◌∷◌, ◌++◌, ◌==◌, map, if◌then◌else◌}
 use Rattle.nj_isa.specs.declared.operations.Op.{Op}
 use Rattle.nj_isa.specs.declared.operations.Op.TheVariants.{Ora, And, Eor, Adc, Sta, Lda, Cmp, Sbc, Ldx, Ldy, Stx, Sty, Cpx, Cpy, Bit, Inc, Dec, Asl, Rol, Lsr, Ror, Jmp, Jsr, Rts, Rti, Brk, Bpl, Bmi, Bvc, Bvs, Bcc, Bcs, Bne, Beq, Php, Plp, Pha, Pla, Clc, Sec, Cli, Sei, Clv, Cld, Sed, Dey, Iny, Inx, Dex, Txa, Tya, Txs, Tay, Tax, Tsx, Nop, Jam}
 use Rattle.nj_isa.specs.declared.modes.Mode.{Mode}
