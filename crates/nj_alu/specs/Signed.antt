@@ -11,5 +11,6 @@ pub record FitsSignedByte (z : ℤ) : Type 0 where
   pub least : (pos 0 -ℤ pos 128) ≤ℤ z
   pub most : z ≤ℤ pos 127
 
+-- what ADC adds, as signed numbers
 abbrev pub signed_sum : ℕ → ℕ → Bool → ℤ
 signed_sum a m carry = signed a +ℤ signed m +ℤ pos (bit carry)

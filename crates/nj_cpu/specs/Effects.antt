@@ -58,9 +58,11 @@ with_result value f = record f { z = value == 0; n = is_negative value }
 abbrev pub in_a : ℕ → Cpu → Cpu
 in_a value cpu = record cpu { a = value; flags = with_result value cpu.flags }
 
+-- the same of X
 abbrev pub in_x : ℕ → Cpu → Cpu
 in_x value cpu = record cpu { x = value; flags = with_result value cpu.flags }
 
+-- the same of Y
 abbrev pub in_y : ℕ → Cpu → Cpu
 in_y value cpu = record cpu { y = value; flags = with_result value cpu.flags }
 
@@ -69,6 +71,7 @@ abbrev pub with_sum : Sum → Cpu → Cpu
 with_sum sum cpu =
     record cpu { a = sum.value; flags = record (with_result sum.value cpu.flags) { c = sum.carry; v = sum.overflow } }
 
+-- a comparison changes C, Z and N alone
 abbrev pub compared : Flags3 → Cpu → Cpu
 compared result cpu =
     record cpu { flags = record cpu.flags { c = result.carry; z = result.zero; n = result.negative } }
@@ -82,6 +85,7 @@ with_changed op value cpu =
 abbrev pub a_changed : Op → Cpu → Cpu
 a_changed op cpu = record (with_changed op cpu.a cpu) { a = changed_by op cpu.flags.c cpu.a }
 
+-- a shift or a rotation, of A or of a byte in memory
 abbrev pub shifted : Op → Mode → ℕ → Cpu → Cpu
 shifted op Accumulator value cpu = a_changed op cpu
 shifted op _ value cpu = with_changed op value cpu

@@ -52,6 +52,7 @@ finished Read op mode value cpu = done op mode value cpu
 finished Write op mode value cpu = cpu
 finished Modify op mode value cpu = done op mode value cpu
 
+-- a taken branch goes to its target
 abbrev pub branched : Bool → ℕ → Cpu → Cpu
 branched taken offset cpu = if taken then record cpu { pc = target_of cpu.pc offset } else cpu
 
@@ -68,6 +69,7 @@ unfoldable pub rest_by : {Held : Type 0} → Acts Held → Class → OpRow → W
 rest_by acts class row w =
     let v = walk acts row.op (accesses class row.mode row.kind) (opened class w) in record v { cpu = settled class row v }
 
+-- the rest of an instruction, by the class of its row
 unfoldable pub rest_of : {Held : Type 0} → Acts Held → OpRow → Walk Held → Walk Held
 rest_of acts row w = rest_by acts (class_of row.op row.mode) row w
 
@@ -106,6 +108,7 @@ note_after Late now rises = Due
 note_after NoNote now rises = later_note now rises
 note_after Due now rises = later_note now rises
 
+-- what comes next where no sprite copy was asked for
 abbrev pub on_note : {Held : Type 0} → Note → Acts Held → Cpu → Held → Walk Held
 on_note Due acts cpu held = entered acts cpu held
 on_note NoNote acts cpu held = instruction acts cpu held
@@ -116,6 +119,7 @@ abbrev pub on_page : {Held : Type 0} → Option ℕ → Acts Held → Cpu → He
 on_page (Some page) acts cpu held = copied acts page cpu (acts.after_take held)
 on_page None acts cpu held = on_note cpu.note acts cpu held
 
+-- a unit of a processor that is not jammed, but for the note
 unfoldable pub active : {Held : Type 0} → Acts Held → Cpu → Held → Walk Held
 active acts cpu held = on_page (acts.page held) acts cpu held
 
@@ -125,10 +129,12 @@ pub record Unit (Held : Type 0) : Type 0 where
   pub held : Held
   pub end_ : UnitEnd
 
+-- a unit ends as jammed exactly where the processor is
 abbrev pub end_of : Bool → UnitEnd
 end_of true = Jammed
 end_of false = Done
 
+-- a unit is over: the note is set by what was seen of the NMI line
 abbrev pub noted : {Held : Type 0} → Note → Walk Held → Unit Held
 noted began w =
     record {

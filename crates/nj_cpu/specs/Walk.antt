@@ -30,6 +30,7 @@ begun cpu held rises =
 abbrev pub word : ℕ → ℕ → ℕ
 word high low = high * 256 + low
 
+-- the value of an index register
 abbrev pub index_of : Index → Cpu → ℕ
 index_of X cpu = cpu.x
 index_of Y cpu = cpu.y
@@ -69,9 +70,11 @@ abbrev pub seen : {Held : Type 0} → Acts Held → Held → Walk Held → Walk 
 seen acts held w =
     record w { cpu = record w.cpu { line = acts.line held }; held = held; rises = risen w.cpu.line (acts.line held) w.rises }
 
+-- a cycle that reads
 abbrev pub read_at : {Held : Type 0} → Acts Held → ℕ → Walk Held → Walk Held
 read_at acts at w = seen acts (acts.after_read w.held at) w
 
+-- a cycle that writes
 abbrev pub write_at : {Held : Type 0} → Acts Held → ℕ → ℕ → Walk Held → Walk Held
 write_at acts at value w = seen acts (acts.after_write w.held at value) w
 

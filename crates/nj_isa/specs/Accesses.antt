@@ -88,9 +88,11 @@ pub record Access : Type 0 where
   pub transfer : Transfer
   pub then_ : Move
 
+-- an access that is always made
 abbrev pub access : Place → Transfer → Move → Access
 access place transfer then_ = record { when_ = Always; place = place; transfer = transfer; then_ = then_ }
 
+-- an access that is made on a condition
 abbrev pub only : When → Place → Transfer → Move → Access
 only when_ place transfer then_ = record { when_ = when_; place = place; transfer = transfer; then_ = then_ }
 
@@ -98,6 +100,7 @@ only when_ place transfer then_ = record { when_ = when_; place = place; transfe
 abbrev pub fetch : Transfer → Access
 fetch transfer = access AtPc transfer PcUp
 
+-- a byte onto the stack
 abbrev pub push : Transfer → Access
 push transfer = access AtStack transfer StackDown
 
@@ -133,22 +136,28 @@ by_mode IndY kind =
 by_mode Indirect kind = []
 by_mode Relative kind = []
 
+-- a branch: two, three or four cycles
 abbrev pub branch : List Access
 branch = fetch ToData ∷ only Taken AtPc Ignores Stay ∷ only TakenAway AtBranchLow Ignores Stay ∷ []
 
+-- JMP to an absolute address
 abbrev pub jump : List Access
 jump = fetch ToLow ∷ access AtPc ToHigh Jump ∷ []
 
+-- JMP through a pointer: its second byte is read within the same page
 abbrev pub jump_indirect : List Access
 jump_indirect = fetch ToPointer ∷ access AtPc ToPage Stay ∷ access AtPointer ToLow Stay ∷ access AfterPointer ToHigh Jump ∷ []
 
+-- JSR: PC is pushed while it stands at the operand's second byte
 abbrev pub call : List Access
 call = fetch ToLow ∷ access AtStack Ignores Stay ∷ push PutsPcHigh ∷ push PutsPcLow ∷ access AtPc ToHigh Jump ∷ []
 
+-- RTS: the address that was pulled is read, and PC goes behind it
 abbrev pub return : List Access
 return =
     access AtPc Ignores Stay ∷ access AtStack Ignores StackUp ∷ access AtStack ToLow StackUp ∷ access AtStack ToHigh Stay ∷ access AtWord Ignores JumpPast ∷ []
 
+-- RTI: the flags first, then PC
 abbrev pub return_from_interrupt : List Access
 return_from_interrupt =
     access AtPc Ignores Stay ∷ access AtStack Ignores StackUp ∷ access AtStack ToFlags StackUp ∷ access AtStack ToLow StackUp ∷ access AtStack ToHigh Jump ∷ []
@@ -158,6 +167,7 @@ abbrev pub enter : Bool → ℕ → List Access
 enter bit vector =
     push PutsPcHigh ∷ push PutsPcLow ∷ push (PutsFlags bit) ∷ access (At vector) ToLow Mask ∷ access (At (vector + 1)) ToHigh Jump ∷ []
 
+-- BRK: the byte behind the opcode is read and skipped
 abbrev pub break : List Access
 break = fetch Ignores ∷ enter true 0xFFFE
 
@@ -165,9 +175,11 @@ break = fetch Ignores ∷ enter true 0xFFFE
 abbrev pub nmi_entry : List Access
 nmi_entry = access AtPc Ignores Stay ∷ access AtPc Ignores Stay ∷ enter false 0xFFFA
 
+-- PHA and PHP
 abbrev pub push_register : Transfer → List Access
 push_register transfer = access AtPc Ignores Stay ∷ push transfer ∷ []
 
+-- PLA and PLP
 abbrev pub pull_register : Transfer → List Access
 pull_register transfer = access AtPc Ignores Stay ∷ access AtStack Ignores StackUp ∷ access AtStack transfer Stay ∷ []
 

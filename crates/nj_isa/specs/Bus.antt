@@ -21,5 +21,6 @@ abbrev pub after_none_or : {Held : Type 0} → Option ℕ → Held → Held → 
 after_none_or None old taken = old
 after_none_or (Some page) old taken = taken
 
+-- what a bus holds after it was asked for a page
 abbrev pub after_asking : {Held : Type 0} → Acts Held → Held → Held
 after_asking acts held = after_none_or (acts.page held) held (acts.after_take held)

@@ -31,6 +31,7 @@ cycle_table =
 abbrev pub cycles_of : ℕ → ℕ
 cycles_of opcode = slice_index cycle_table opcode
 
+-- whether a list has an opcode
 abbrev pub is_among : List ℕ → ℕ → Bool
 is_among [] opcode = false
 is_among (x ∷ xs) opcode = if x == opcode then true else is_among xs opcode
@@ -50,6 +51,7 @@ crossing_opcodes =
 abbrev pub branch_opcodes : List ℕ
 branch_opcodes = 0x10 ∷ 0x30 ∷ 0x50 ∷ 0x70 ∷ 0x90 ∷ 0xB0 ∷ 0xD0 ∷ 0xF0 ∷ []
 
+-- one cycle, or none
 abbrev pub one_if : Bool → ℕ
 one_if false = 0
 one_if true = 1
@@ -77,6 +79,7 @@ count_made crossed taken away (a ∷ rest) =
 unfoldable pub accesses_of : OpRow → List Access
 accesses_of row = accesses (class_of row.op row.mode) row.mode row.kind
 
+-- whether an operation is the jam
 abbrev pub is_jam : Op → Bool
 is_jam Jam = true
 is_jam _ = false
