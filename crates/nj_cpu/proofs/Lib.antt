@@ -1,2 +1,4 @@
 pub mod Walks
 pub mod Lower
+pub mod Runs
+pub mod Cycles
