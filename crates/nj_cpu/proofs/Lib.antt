@@ -2,3 +2,4 @@ pub mod Walks
 pub mod Lower
 pub mod Runs
 pub mod Cycles
+pub mod Straight
