@@ -1,8 +1,8 @@
 -- An instruction takes its published cycles.
-use Rattle.std.proofs.Common.{◌≡◌, ℕ, ◌+◌, ◌/◌, ◌<◌, Bool, true, false, not, ◌&&◌, ◌==◌, cond, List, [], ◌∷◌, refl, sym, ap, ◌∙◌, arith}
+use Rattle.std.proofs.Common.{◌≡◌, ℕ, ◌+◌, ◌<◌, Bool, true, false, ◌&&◌, cond, List, [], ◌∷◌, refl, ap, ◌∙◌, arith}
 use Rattle.nj_isa.specs.Bus.{Acts}
 use Rattle.nj_isa.specs.Table.{row_of}
-use Rattle.nj_isa.specs.Accesses.{Place, AtPc, AtBranchLow, Transfer, Ignores, ToLow, ToHigh, ToPointer, ToPage, ToData, ToFlags, PutsStored, PutsData, PutsChanged, PutsPcHigh, PutsPcLow, PutsFlags, Move, Stay, Taken, TakenAway, Access, only, fetch, accesses, class_of}
+use Rattle.nj_isa.specs.Accesses.{Transfer, Ignores, ToLow, ToHigh, ToPointer, ToPage, ToData, ToFlags, PutsStored, PutsData, PutsChanged, PutsPcHigh, PutsPcLow, PutsFlags, TakenAway, Access, fetch, accesses, class_of}
 use Rattle.nj_isa.specs.Timing.{one_if, count_made, accesses_of, cycles_of, penalty_of}
 use Rattle.nj_isa.specs.declared.operations.Op.{Op}
 use Rattle.nj_isa.specs.declared.modes.Mode.{Mode}
@@ -15,7 +15,7 @@ use Rattle.nj_isa.specs.declared.table.OpRow.{OpRow}
 use Rattle.nj_cpu.specs.declared.state.Cpu.{Cpu}
 use Rattle.nj_cpu.specs.Effects.{is_taken}
 use Rattle.nj_cpu.specs.Walk.{Walk, address_of, is_made, read_at, transferred, moved, step, walk}
-use Rattle.nj_cpu.specs.Unit.{Unit, opened, rest_by, rest_of, noted, unit_of}
+use Rattle.nj_cpu.specs.Unit.{Unit, opened, rest_by, rest_of, unit_of}
 use Rattle.nj_cpu.specs.Laws.{Runs, CountsCycles, crosses_in, crosses, branches, leaves_page, published_cycles}
 use Rattle.nj_cpu.proofs.Lower.{held-moved, held-opened}
 use Rattle.nj_cpu.proofs.Runs.{opcode_read, unit-runs}
@@ -134,5 +134,5 @@ pub cycles : {Held : Type 0} (acts : Acts Held) (published : (opcode : ℕ) (cro
 unfolding published_cycles
 cycles acts published count cpu held opcode counts runs byte official =
     ap (λ (u : Unit _). count u.held) (unit-runs acts cpu held opcode runs)
-      ∙ count-rest acts count counts (row_of opcode) cpu held
-      ∙ ap (λ n. count held + n) (published opcode (crosses acts cpu held opcode) (branches cpu opcode) (branches cpu opcode && leaves_page acts cpu held) byte official)
+    ∙ count-rest acts count counts (row_of opcode) cpu held
+    ∙ ap (λ n. count held + n) (published opcode (crosses acts cpu held opcode) (branches cpu opcode) (branches cpu opcode && leaves_page acts cpu held) byte official)

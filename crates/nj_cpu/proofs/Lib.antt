@@ -3,3 +3,4 @@ pub mod Lower
 pub mod Runs
 pub mod Cycles
 pub mod Straight
+pub mod Stack

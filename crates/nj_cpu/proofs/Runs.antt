@@ -7,7 +7,7 @@ use Rattle.nj_cpu.specs.declared.state.Note.{Note}
 use Rattle.nj_cpu.specs.declared.state.Note.TheVariants.{None as NoNote, Late, Due}
 use Rattle.nj_cpu.specs.declared.state.UnitEnd.TheVariants.{Jammed}
 use Rattle.nj_cpu.specs.Walk.{Walk, begun, read_at}
-use Rattle.nj_cpu.specs.Unit.{Unit, no_rise, rest_of, instruction, on_note, on_page, active, noted, unit_of}
+use Rattle.nj_cpu.specs.Unit.{no_rise, rest_of, instruction, on_note, on_page, active, noted, unit_of}
 use Rattle.nj_cpu.specs.Laws.{Runs}
 
 -- behind the opcode's access
@@ -36,4 +36,4 @@ pub unit-runs : {Held : Type 0} (acts : Acts Held) (cpu : Cpu) (held : Held) (op
 unfolding unit_of active
 unit-runs acts cpu held opcode r =
     chosen cpu.jammed (record { cpu = cpu; held = held; end_ = Jammed }) (noted cpu.note (active acts cpu held)) r.not_jammed
-      ∙ ap (noted cpu.note) (without_copy acts cpu held (acts.page held) r.no_copy ∙ without_entry acts cpu held cpu.note r.no_entry ∙ by_opcode acts cpu held opcode r.at_pc)
+    ∙ ap (noted cpu.note) (without_copy acts cpu held (acts.page held) r.no_copy ∙ without_entry acts cpu held cpu.note r.no_entry ∙ by_opcode acts cpu held opcode r.at_pc)

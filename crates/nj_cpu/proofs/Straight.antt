@@ -1,17 +1,15 @@
 -- Where an instruction leaves PC, and whether it jams.
-use Rattle.std.proofs.Common.{◌≡◌, ◌≢◌, ℕ, ◌+◌, ◌%◌, ◌<◌, Bool, true, false, not, ◌&&◌, ◌||◌, ◌==◌, cond, List, [], ◌∷◌, map, refl, sym, ap, ◌∙◌, arith}
-use Rattle.std.specs.List.{range_with_len}
+use Rattle.std.proofs.Common.{◌≡◌, ℕ, ◌+◌, ◌%◌, ◌<◌, Bool, true, false, not, ◌&&◌, ◌||◌, ◌==◌, cond, List, [], ◌∷◌, refl, ap, ◌∙◌, arith}
 use Rattle.std.proofs.lemmas.Bool.Decides.{nat_tests}
-use Rattle.nj_alu.specs.declared.flags.Flags.{Flags}
 use Rattle.nj_isa.proofs.Published.{agree}
 use Rattle.nj_isa.specs.Bus.{Acts}
 use Rattle.nj_isa.specs.Table.{row_of}
-use Rattle.nj_isa.specs.Accesses.{Place, AtPc, AtBranchLow, Transfer, Ignores, ToLow, ToHigh, ToPointer, ToPage, ToData, ToFlags, PutsStored, PutsData, PutsChanged, PutsPcHigh, PutsPcLow, PutsFlags, Move, Stay, PcUp, StackUp, StackDown, Jump, JumpPast, PointerUp, Mask, When, Always, Carried, Taken, TakenAway, Access, only, fetch, accesses, class_of}
+use Rattle.nj_isa.specs.Accesses.{Place, AtPc, AtBranchLow, Transfer, Ignores, ToLow, ToHigh, ToPointer, ToPage, ToData, ToFlags, PutsStored, PutsData, PutsChanged, PutsPcHigh, PutsPcLow, PutsFlags, Move, Stay, PcUp, StackUp, StackDown, Jump, JumpPast, PointerUp, Mask, When, Always, Carried, Taken, TakenAway, Access, only, fetch, branch, accesses, class_of}
 use Rattle.nj_isa.specs.Timing.{accesses_of, is_jam, jams}
 use Rattle.nj_isa.specs.declared.operations.Op.{Op}
-use Rattle.nj_isa.specs.declared.operations.Op.TheVariants.{Ora, And, Eor, Adc, Sta, Lda, Cmp, Sbc, Ldx, Ldy, Stx, Sty, Cpx, Cpy, Bit, Inc, Dec, Asl, Rol, Lsr, Ror, Jmp, Jsr, Rts, Rti, Brk, Bpl, Bmi, Bvc, Bvs, Bcc, Bcs, Bne, Beq, Php, Plp, Pha, Pla, Clc, Sec, Cli, Sei, Clv, Cld, Sed, Dey, Iny, Inx, Dex, Txa, Tya, Txs, Tay, Tax, Tsx, Nop, Jam}
+use Rattle.nj_isa.specs.declared.operations.Op.TheVariants.{Asl, Rol, Lsr, Ror, Jmp, Jam}
 use Rattle.nj_isa.specs.declared.modes.Mode.{Mode}
-use Rattle.nj_isa.specs.declared.modes.Mode.TheVariants.{Implied, Accumulator, Immediate, Zp, ZpX, ZpY, Abs, AbsX, AbsY, IndX, IndY, Indirect, Relative}
+use Rattle.nj_isa.specs.declared.modes.Mode.TheVariants.{Accumulator, Indirect}
 use Rattle.nj_isa.specs.declared.modes.Kind.{Kind}
 use Rattle.nj_isa.specs.declared.modes.Kind.TheVariants.{Read, Write, Modify}
 use Rattle.nj_isa.specs.declared.classes.Class.{Class}
@@ -20,7 +18,7 @@ use Rattle.nj_isa.specs.declared.table.OpRow.{OpRow}
 use Rattle.nj_cpu.specs.declared.state.Cpu.{Cpu}
 use Rattle.nj_cpu.specs.Effects.{is_taken, shifted, done}
 use Rattle.nj_cpu.specs.Walk.{Walk, address_of, is_made, read_at, transferred, moved, step, walk}
-use Rattle.nj_cpu.specs.Unit.{Unit, opened, finished, branched, settled, rest_by, rest_of, noted, unit_of, end_of}
+use Rattle.nj_cpu.specs.Unit.{Unit, opened, finished, branched, settled, rest_by, rest_of, unit_of, end_of}
 use Rattle.nj_cpu.specs.Laws.{Runs, branches, goes_on_in, goes_on, bytes_of}
 use Rattle.nj_cpu.proofs.Runs.{opcode_read, unit-runs}
 
@@ -136,7 +134,7 @@ unfolding rest_of rest_by
 rest-jammed acts row w e =
     let class : Class = class_of row.op row.mode in
     settled-jammed class row (walk acts row.op (accesses class row.mode row.kind) (opened class w)) (walk-jammed acts row.op (accesses class row.mode row.kind) (opened class w) ∙ opened-jammed class w ∙ e)
-      ∙ class-jams row.op row.mode
+    ∙ class-jams row.op row.mode
 
 -- a unit ends as jammed where its opcode jams
 pub unit-jams : {Held : Type 0} (acts : Acts Held) (cpu : Cpu) (held : Held) (opcode : ℕ) → Runs acts cpu held opcode → (unit_of acts cpu held).end_ ≡ end_of (jams opcode)
@@ -220,27 +218,88 @@ pub all_fit : (opcode : ℕ) → opcode < 256 → fits_length opcode ≡ true
 unfolding goes_on row_of class_of accesses_of bytes_of
 all_fit opcode h = agree fits_length (λ _. true) refl opcode h
 
--- a branch that is not taken reads its operand alone
-not_taken : {Held : Type 0} (acts : Acts Held) (op : Op) (w : Walk Held) (b c : Bool) → b ≡ false → c ≡ false → cond c (moved Stay (transferred acts op Ignores (address_of AtBranchLow (cond b (moved Stay (transferred acts op Ignores (address_of AtPc w) w)) w)) (cond b (moved Stay (transferred acts op Ignores (address_of AtPc w) w)) w))) (cond b (moved Stay (transferred acts op Ignores (address_of AtPc w) w)) w) ≡ w
-not_taken acts op w false false e d = refl
-not_taken acts op w true c e d = cc
-not_taken acts op w false true e d = cc
+-- the two further cycles of a branch leave the flags
+chosen-flags : {Held : Type 0} (b : Bool) (v w : Walk Held) → v.cpu.flags ≡ w.cpu.flags → (cond b v w).cpu.flags ≡ w.cpu.flags
+chosen-flags true v w e = e
+chosen-flags false v w e = refl
 
-settled-pc : {Held : Type 0} (class : Class) (row : OpRow) (w : Walk Held) → goes_on_in class ≡ true → is_taken row.op w.cpu.flags ≡ false → (settled class row w).pc ≡ w.cpu.pc
-settled-pc ByMode row w g t = (finished-stays row.kind row.op row.mode w.data_ w.cpu).pc
-settled-pc Branches row w g t = not_branched (is_taken row.op w.cpu.flags) w.data_ w.cpu t
-  where
-    not_branched : (b : Bool) (offset : ℕ) (cpu : Cpu) → b ≡ false → (branched b offset cpu).pc ≡ cpu.pc
-    not_branched false offset cpu e = refl
-    not_branched true offset cpu e = cc
-settled-pc Jams row w g t = cc
-settled-pc Jumps row w g t = cc
-settled-pc JumpsIndirect row w g t = cc
-settled-pc Calls row w g t = cc
-settled-pc Returns row w g t = cc
-settled-pc ReturnsFromInterrupt row w g t = cc
-settled-pc Breaks row w g t = cc
-settled-pc PushesA row w g t = refl
-settled-pc PushesFlags row w g t = refl
-settled-pc PullsA row w g t = refl
-settled-pc PullsFlags row w g t = refl
+branch-flags : {Held : Type 0} (acts : Acts Held) (op : Op) (w : Walk Held) → (walk acts op branch w).cpu.flags ≡ w.cpu.flags
+branch-flags acts op w =
+    let u : Walk _ = step acts op (fetch ToData) w in
+    let v : Walk _ = step acts op (only Taken AtPc Ignores Stay) u in
+    chosen-flags (is_made TakenAway op v) (read_at acts (address_of AtBranchLow v) v) v refl
+    ∙ chosen-flags (is_made Taken op u) (read_at acts (address_of AtPc u) u) u refl
+
+not_branched : (b : Bool) (offset : ℕ) (cpu : Cpu) → b ≡ false → (branched b offset cpu).pc ≡ cpu.pc
+not_branched false offset cpu e = refl
+not_branched true offset cpu e = cc
+
+-- what is left to do leaves PC
+settled-pc : {Held : Type 0} (acts : Acts Held) (class : Class) (row : OpRow) (w : Walk Held) → goes_on_in class ≡ true → is_taken row.op w.cpu.flags ≡ false → (settled class row (walk acts row.op (accesses class row.mode row.kind) (opened class w))).pc ≡ (walk acts row.op (accesses class row.mode row.kind) (opened class w)).cpu.pc
+settled-pc acts ByMode row w g t =
+    let v : Walk _ = walk acts row.op (accesses ByMode row.mode row.kind) (opened ByMode w) in
+    (finished-stays row.kind row.op row.mode v.data_ v.cpu).pc
+settled-pc acts Branches row w g t =
+    let v : Walk _ = walk acts row.op branch (opened Branches w) in
+    not_branched (is_taken row.op v.cpu.flags) v.data_ v.cpu (ap (is_taken row.op) (branch-flags acts row.op (opened Branches w)) ∙ t)
+settled-pc acts Jumps row w g t = cc
+settled-pc acts JumpsIndirect row w g t = cc
+settled-pc acts Calls row w g t = cc
+settled-pc acts Returns row w g t = cc
+settled-pc acts ReturnsFromInterrupt row w g t = cc
+settled-pc acts Breaks row w g t = cc
+settled-pc acts Jams row w g t = cc
+settled-pc acts PushesA row w g t = refl
+settled-pc acts PushesFlags row w g t = refl
+settled-pc acts PullsA row w g t = refl
+settled-pc acts PullsFlags row w g t = refl
+
+opened-pc : {Held : Type 0} (class : Class) (w : Walk Held) → goes_on_in class ≡ true → (opened class w).cpu.pc ≡ (w.cpu.pc + 1) % 65536
+opened-pc ByMode w g = refl
+opened-pc Branches w g = refl
+opened-pc Jumps w g = refl
+opened-pc JumpsIndirect w g = refl
+opened-pc Calls w g = refl
+opened-pc Returns w g = refl
+opened-pc ReturnsFromInterrupt w g = refl
+opened-pc Breaks w g = refl
+opened-pc PushesA w g = refl
+opened-pc PushesFlags w g = refl
+opened-pc PullsA w g = refl
+opened-pc PullsFlags w g = refl
+opened-pc Jams w g = cc
+
+rest-pc : {Held : Type 0} (acts : Acts Held) (row : OpRow) (cpu : Cpu) (held : Held) → goes_on_in (class_of row.op row.mode) ≡ true → is_taken row.op cpu.flags ≡ false → is_straight (accesses_of row) ≡ true → (rest_of acts row (opcode_read acts cpu held)).cpu.pc ≡ (cpu.pc + (1 + ups_in (accesses_of row))) % 65536
+unfolding rest_of rest_by accesses_of
+rest-pc acts row cpu held g t s =
+    let class : Class = class_of row.op row.mode in
+    let xs : List Access = accesses class row.mode row.kind in
+    let w : Walk _ = opened class (opcode_read acts cpu held) in
+    let start : w.cpu.pc ≡ (cpu.pc + 1) % 65536 = opened-pc class (opcode_read acts cpu held) g in
+    let within : w.cpu.pc < 65536 = omega arith in
+    let walked : (walk acts row.op xs w).cpu.pc ≡ (w.cpu.pc + ups_in xs) % 65536 = walk-pc acts row.op xs w s within in
+    let last : (settled class row (walk acts row.op xs w)).pc ≡ (walk acts row.op xs w).cpu.pc = settled-pc acts class row (opcode_read acts cpu held) g t in
+    let sum : ((cpu.pc + 1) % 65536 + ups_in xs) % 65536 ≡ (cpu.pc + (1 + ups_in xs)) % 65536 = omega arith in
+    last ∙ walked ∙ ap (λ n. (n + ups_in xs) % 65536) start ∙ sum
+
+tests_met : (g s e : Bool) → (not g || (s && e)) ≡ true → g ≡ true → (s ≡ true) × (e ≡ true)
+tests_met true true true h g = (refl, refl)
+tests_met true true false h g = cc
+tests_met true false e h g = cc
+tests_met false s e h g = cc
+
+equal_lengths : (a b : ℕ) → (a == b) ≡ true → a ≡ b
+equal_lengths a b h = grind (arith, nat_tests)
+
+class_goes : (opcode : ℕ) → goes_on opcode ≡ true → goes_on_in (class_of (row_of opcode).op (row_of opcode).mode) ≡ true
+unfolding goes_on
+class_goes opcode h = h
+
+-- an instruction that goes on behind itself moves PC by its length
+pub unit-pc : {Held : Type 0} (acts : Acts Held) (cpu : Cpu) (held : Held) (opcode : ℕ) → Runs acts cpu held opcode → opcode < 256 → goes_on opcode ≡ true → branches cpu opcode ≡ false → (unit_of acts cpu held).cpu.pc ≡ (cpu.pc + bytes_of opcode) % 65536
+unit-pc acts cpu held opcode runs byte on not_taken =
+    let row : OpRow = row_of opcode in
+    let met : (is_straight (accesses_of row) ≡ true) × (((1 + ups_in (accesses_of row)) == bytes_of opcode) ≡ true) = tests_met (goes_on opcode) (is_straight (accesses_of row)) ((1 + ups_in (accesses_of row)) == bytes_of opcode) (all_fit opcode byte) on in
+    ap (λ (u : Unit _). u.cpu.pc) (unit-runs acts cpu held opcode runs)
+    ∙ rest-pc acts row cpu held (class_goes opcode on) not_taken met.0
+    ∙ ap (λ n. (cpu.pc + n) % 65536) (equal_lengths (1 + ups_in (accesses_of row)) (bytes_of opcode) met.1)

@@ -1,23 +1,18 @@
 -- Laws of whole instructions, in the words of the published manuals.
-use Rattle.std.specs.Prelude.{◌≡◌, ◌≢◌, ℕ, ◌+◌, ◌*◌, ◌/◌, ◌%◌, ◌<◌, ◌≤◌, Bool, true, false, not, ◌&&◌, ◌==◌, nat_le, None, Option}
-use Rattle.nj_alu.specs.declared.flags.Flags.{Flags}
+use Rattle.std.specs.Prelude.{◌≡◌, ◌≢◌, ℕ, ◌+◌, ◌/◌, ◌%◌, ◌<◌, ◌≤◌, Bool, true, false, not, ◌&&◌, ◌==◌, nat_le, None}
 use Rattle.nj_isa.specs.Bus.{Acts}
 use Rattle.nj_isa.specs.Table.{row_of}
 use Rattle.nj_isa.specs.Names.{length_of}
 use Rattle.nj_isa.specs.Accesses.{class_of}
-use Rattle.nj_isa.specs.Timing.{cycles_of, penalty_of, jams}
-use Rattle.nj_isa.specs.declared.operations.Op.{Op}
+use Rattle.nj_isa.specs.Timing.{cycles_of, penalty_of}
 use Rattle.nj_isa.specs.declared.modes.Mode.{Mode}
 use Rattle.nj_isa.specs.declared.modes.Mode.TheVariants.{AbsX, AbsY, IndY}
 use Rattle.nj_isa.specs.declared.classes.Class.{Class}
 use Rattle.nj_isa.specs.declared.classes.Class.TheVariants.{ByMode, Branches, Jumps, JumpsIndirect, Calls, Returns, ReturnsFromInterrupt, Breaks, PushesA, PushesFlags, PullsA, PullsFlags, Jams}
-use Rattle.nj_isa.specs.declared.table.OpRow.{OpRow}
 use Rattle.nj_cpu.specs.declared.state.Cpu.{Cpu}
-use Rattle.nj_cpu.specs.declared.state.Note.{Note}
-use Rattle.nj_cpu.specs.declared.state.Note.TheVariants.{None as NoNote, Late, Due}
+use Rattle.nj_cpu.specs.declared.state.Note.TheVariants.{Due}
 use Rattle.nj_cpu.specs.Effects.{is_taken, with_result}
 use Rattle.nj_cpu.specs.Walk.{target_of, word}
-use Rattle.nj_cpu.specs.Unit.{Unit, unit_of, end_of}
 
 -- the next unit is the instruction of this opcode: the processor runs, and neither a sprite copy nor an NMI comes first
 pub record Runs {Held : Type 0} (acts : Acts Held) (cpu : Cpu) (held : Held) (opcode : ℕ) : Type 0 where
@@ -51,6 +46,7 @@ crosses_in AbsY acts cpu held = nat_le 256 (operand acts cpu held + cpu.y)
 crosses_in IndY acts cpu held = nat_le 256 (pointed acts cpu held + cpu.y)
 crosses_in _ acts cpu held = false
 
+-- whether an instruction of this opcode crosses a page
 abbrev pub crosses : {Held : Type 0} → Acts Held → Cpu → Held → ℕ → Bool
 crosses acts cpu held opcode = crosses_in (row_of opcode).mode acts cpu held
 
@@ -85,6 +81,7 @@ goes_on_in ReturnsFromInterrupt = false
 goes_on_in Breaks = false
 goes_on_in Jams = false
 
+-- whether the instruction of this opcode does
 unfoldable pub goes_on : ℕ → Bool
 goes_on opcode = goes_on_in (class_of (row_of opcode).op (row_of opcode).mode)
 

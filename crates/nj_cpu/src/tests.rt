@@ -170,3 +170,12 @@ fn a_jam_stays_at_its_opcode(rt: HostRuntime) {
     assert_eq!(rt; cpu.pc, 0x8000);
     assert_eq!(rt; bus.cycles, 1);
 }
+
+#[test]
+fn the_laws_are_of_any_bus() {
+    cycles_are_published::<ListBus>();
+    instructions_go_on_behind_themselves::<ListBus>();
+    jams_are_those_of_the_table::<ListBus>();
+    pulled_a_is_pushed_a::<ListBus>();
+    returns_come_back_behind_calls::<ListBus>();
+}
