@@ -1,0 +1,5 @@
+pub mod Decimal
+pub mod Fnv
+pub mod Memory
+pub mod Rise
+pub mod Told
