@@ -1,4 +1,6 @@
 ghost use Rattle.std.specs.Prelude.{◌≡◌, ◌↔◌, IsSome};
+ghost use Rattle.std.specs.Char.{is_ascii_digit};
+ghost use Rattle.std.specs.List.{list_all};
 ghost use Rattle.nj_outside.specs.Decimal.{IsDecimal, decimal_of};
 
 /// The most digits of a number. The greatest `u64` has as many.
@@ -9,16 +11,39 @@ pub fn read_decimal(text: &str) -> Option<u64>
     ensures value { result ≡ decimal_of text.now }
     ensures exactly { IsSome result ↔ IsDecimal text.now }
 {
-    let digits = text.as_bytes();
-    if digits.is_empty() || digits.len() > MOST_DIGITS {
+    if text.len() > MOST_DIGITS {
         return None;
     }
-    let mut value = 0u128;
-    for digit in digits {
-        if !digit.is_ascii_digit() {
-            return None;
-        }
-        value = value * 10 + u128::from(*digit - b'0');
+    if !has_digits_alone(text) {
+        return None;
     }
-    u64::try_from(value).ok()
+    text.parse().ok()
+}
+
+fn has_digits_alone(text: &str) -> bool
+    ensures { result ≡ list_all is_ascii_digit text.now }
+{
+    text.bytes().all(|byte| byte.is_ascii_digit())
+}
+
+#[cfg(test)]
+mod tests {
+    use super::*;
+
+    #[test]
+    fn numbers_and_no_numbers(rt: HostRuntime) {
+        for (text, want) in [
+            ("0", Some(0)),
+            ("18446744073709551615", Some(u64::MAX)),
+            ("00000000000000000042", Some(42)),
+            ("000000000000000000042", None),
+            ("18446744073709551616", None),
+            ("", None),
+            ("+5", None),
+            ("-1", None),
+            ("5 ", None),
+        ] {
+            assert_eq!(rt; read_decimal(text), want, "of {text:?}");
+        }
+    }
 }

@@ -7,15 +7,23 @@
 #![tactic(auto)]
 
 mod decimals;
+mod file_shelf;
 mod hashing;
+mod memory_shelf;
+mod memory_sink;
 mod reading;
 mod shelves;
 mod sinks;
+mod stream_sink;
 mod writing;
 
 pub use decimals::read_decimal;
+pub use file_shelf::FileShelf;
 pub use hashing::{fnv, fnv_on};
+pub use memory_shelf::MemShelf;
+pub use memory_sink::MemSink;
 pub use reading::{ReadRefused, read_all};
 pub use shelves::{Failed, Shelf};
 pub use sinks::Sink;
+pub use stream_sink::StreamSink;
 pub use writing::{WriteFault, put_all, write_all};

@@ -21,7 +21,8 @@ pub fn write_all<O: Sink>(sink: &mut O, bytes: &[u8]) -> Result<(), WriteFault>
 {
     let mut taken = 0;
     while taken < bytes.len() {
-        match sink.write(&bytes[taken..]) {
+        let (_, left) = bytes.split_at(taken);
+        match sink.write(left) {
             Ok(count) => taken += count,
             Err(_) => return Err(WriteFault),
         }
@@ -47,7 +48,8 @@ pub fn put_all<S: Shelf>(shelf: &mut S, name: &str, bytes: &[u8]) -> Result<(), 
         Err(_) => return Err(WriteFault),
     };
     while taken < bytes.len() {
-        match shelf.put_at(name, taken as u64, &bytes[taken..]) {
+        let (_, left) = bytes.split_at(taken);
+        match shelf.put_at(name, taken as u64, left) {
             Ok(count) => taken += count,
             Err(_) => return Err(WriteFault),
         }
