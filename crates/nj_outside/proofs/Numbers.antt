@@ -1,5 +1,5 @@
 -- What reading a number from text rests on.
-use Rattle.std.proofs.Common.{◌≡◌, ◌↔◌, ℕ, ◌<◌, ◌≤◌, ◌⊎◌, ◌^◌, Bool, true, false, not, List, length, Option, Some, None, IsSome, is_some, if◌then◌else◌, Result, Ok, Err, refl, sym, ◌∙◌, ap, arith, rules, inl, inr}
+use Rattle.std.proofs.Common.{◌≡◌, ◌↔◌, ℕ, ◌<◌, ◌≤◌, ◌^◌, Bool, true, false, List, length, Option, Some, None, IsSome, is_some, if◌then◌else◌, Result, Ok, Err, refl, sym, ◌∙◌, ap, arith, rules}
 use Rattle.std.specs.Bool.{Decides}
 use Rattle.std.specs.Char.{is_ascii_digit}
 use Rattle.std.specs.List.{list_all}

@@ -1,13 +1,12 @@
 -- Where the pairs of a memory shelf have a file, and what a changed or a further pair does to the files.
-use Rattle.std.proofs.Common.{◌≡◌, ◌≢◌, ℕ, ◌<◌, ◌+◌, suc, zero, Bool, true, false, List, [], ◌∷◌, ◌++◌, length, get_or, set, take, map, Option, Some, None, Vec, refl, sym, ◌∙◌, ap, arith, if◌then◌else◌, string_bytes, bytes_eq}
+use Rattle.std.proofs.Common.{◌≡◌, ℕ, ◌<◌, suc, zero, Bool, true, false, List, [], ◌∷◌, ◌++◌, length, get_or, set, take, Option, Some, None, refl, sym, ◌∙◌, ap, arith, if◌then◌else◌, string_bytes, bytes_eq}
 use Rattle.std.proofs.Math.Path.{fun_ext}
 use Rattle.std.proofs.lemmas.Slice.Eq.{bytes_eq-Decides}
-use Rattle.std.specs.Global.{Global}
 use Rattle.std.specs.Prelude.{unwrap_or}
 use Rattle.std.proofs.Math.Seq.{map-set_same}
 use Rattle.std.proofs.lemmas.List.{take_all}
-use Rattle.nj_outside.specs.Told.{Files, with_file, bytes_at}
-use Rattle.nj_outside.specs.Memory.{File, Pair, file_of, named, files_of, IsOther, NoneBefore, IsFirst}
+use Rattle.nj_outside.specs.Told.{with_file, bytes_at}
+use Rattle.nj_outside.specs.Memory.{Pair, file_of, named, files_of, NoneBefore, IsFirst}
 
 -- where no pair has the name there is no such file
 pub none_found : (pairs : List Pair) (name : List ℕ) → NoneBefore pairs name (length pairs) → files_of (named pairs) name ≡ None

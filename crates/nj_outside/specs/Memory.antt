@@ -1,5 +1,5 @@
 -- The shelf and the sink over memory, as contracts see them. Ours.
-use Rattle.std.specs.Prelude.{◌≡◌, ℕ, ◌<◌, Bool, true, false, List, [], ◌∷◌, length, map, slice_index_or, Option, Some, None, String, Vec, string_bytes, bytes_eq, if◌then◌else◌}
+use Rattle.std.specs.Prelude.{◌≡◌, ℕ, ◌<◌, true, false, List, [], ◌∷◌, length, map, slice_index_or, Some, None, String, Vec, string_bytes, bytes_eq, if◌then◌else◌}
 use Rattle.std.specs.Global.{Global}
 use Rattle.nj_outside.specs.Told.{Files}
 

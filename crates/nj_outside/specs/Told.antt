@@ -1,5 +1,5 @@
 -- What a shelf or a sink tells of the bytes that it has. Ours.
-use Rattle.std.specs.Prelude.{◌≡◌, ◌≢◌, ℕ, List, [], ◌∷◌, ◌++◌, take, Option, Some, None, unwrap_or, if◌then◌else◌, bytes_eq, refl}
+use Rattle.std.specs.Prelude.{◌≡◌, ◌≢◌, ℕ, List, [], ◌++◌, take, Option, Some, None, unwrap_or, if◌then◌else◌, bytes_eq, refl}
 use Rattle.std.proofs.Common.{ap, append_assoc, Bool, true, false, sym}
 use Rattle.std.proofs.Math.Path.{fun_ext}
 use Rattle.std.proofs.lemmas.List.{append-nil}
@@ -18,14 +18,14 @@ abbrev pub bytes_at : Files → List ℕ → List ℕ
 bytes_at files name = unwrap_or (files name) []
 
 -- the same change of files that may be told or not: what is not told stays so
-abbrev pub put : Option Files → List ℕ → List ℕ → Option Files
-put None name bytes = None
-put (Some files) name bytes = Some (with_file files name bytes)
+abbrev pub put_file : Option Files → List ℕ → List ℕ → Option Files
+put_file None name bytes = None
+put_file (Some files) name bytes = Some (with_file files name bytes)
 
 -- the file's bytes before the place, and then these
-abbrev pub put_from : Option Files → List ℕ → ℕ → List ℕ → Option Files
-put_from None name at bytes = None
-put_from (Some files) name at bytes = Some (with_file files name (take at (bytes_at files name) ++ bytes))
+abbrev pub put_file_from : Option Files → List ℕ → ℕ → List ℕ → Option Files
+put_file_from None name at bytes = None
+put_file_from (Some files) name at bytes = Some (with_file files name (take at (bytes_at files name) ++ bytes))
 
 -- the bytes that were told, and then these; what is not told stays so
 abbrev pub appended : Option (List ℕ) → List ℕ → Option (List ℕ)

@@ -1,7 +1,7 @@
-ghost use Rattle.std.specs.Prelude.{◌≡◌, ◌≤◌, ◌<◌, None, length, IfOk};
+ghost use Rattle.std.specs.Prelude.{◌≡◌, ◌≤◌, ◌<◌, None, length, IfOk, OnErr, is_err, if◌then◌else◌};
 ghost use Rattle.nj_outside.specs.Fnv.{fnv_of};
 ghost use Rattle.nj_outside.specs.Real.{RealShelf};
-ghost use Rattle.nj_outside.specs.Rise.{one_more};
+ghost use Rattle.nj_outside.specs.Rise.{Rose, one_more};
 
 use crate::hashing::fnv;
 use crate::shelves::{Failed, Shelf};
@@ -87,15 +87,32 @@ impl<R: Files + Drop> Shelf for FileShelf<R> {
 
     ghost failed_put = { λ s. s.failed_put };
 
-    fn read_at(&mut self, name: &str, at: u64, into: &mut [u8]) -> Result<usize, Failed> {
+    fn read_at(&mut self, name: &str, at: u64, into: &mut [u8]) -> Result<usize, Failed>
+        ensures within { IfOk result (λ n. n ≤ length into.new) }
+        ensures failed { OnErr result (Rose self.old.read_faults self.new.read_faults) }
+        ensures never_falls { self.old.read_faults ≤ self.new.read_faults }
+        ensures counted { self.new ≡ record self.old {
+          read_faults = if is_err result then one_more self.old.read_faults else self.old.read_faults;
+          failed_read = if is_err result then fnv_of name.now else self.old.failed_read;
+        } }
+    {
         match read_file(&self.rt, name, at, into) {
             Ok(count) => Ok(count),
             Err(_) => Err(self.fail_read(name)),
         }
     }
 
-    fn put_at(&mut self, name: &str, at: u64, bytes: &[u8]) -> Result<usize, Failed> {
-        match put_file(&self.rt, name, at, bytes) {
+    fn put_at(&mut self, name: &str, at: u64, bytes: &[u8]) -> Result<usize, Failed>
+        ensures within { IfOk result (λ n. n ≤ length bytes.now) }
+        ensures some { IfOk result (λ n. 0 < length bytes.now → 0 < n) }
+        ensures failed { OnErr result (Rose self.old.put_faults self.new.put_faults) }
+        ensures never_falls { self.old.put_faults ≤ self.new.put_faults }
+        ensures counted { self.new ≡ record self.old {
+          put_faults = if is_err result then one_more self.old.put_faults else self.old.put_faults;
+          failed_put = if is_err result then fnv_of name.now else self.old.failed_put;
+        } }
+    {
+        match write_file(&self.rt, name, at, bytes) {
             Ok(count) => Ok(count),
             Err(_) => Err(self.fail_put(name)),
         }
@@ -123,14 +140,17 @@ fn read_some<F: Read>(file: &mut F, into: &mut [u8]) -> io::Result<usize>
     Err(io::Error::from(ErrorKind::Interrupted))
 }
 
-fn put_file<R: Files>(rt: &R, name: &str, at: u64, bytes: &[u8]) -> io::Result<usize>
+/// The bytes are written first and the file is cut behind them after, so that a write that fails leaves
+/// what the file held.
+fn write_file<R: Files>(rt: &R, name: &str, at: u64, bytes: &[u8]) -> io::Result<usize>
     ensures within { IfOk result (λ n. n ≤ length bytes.now) }
     ensures some { IfOk result (λ n. 0 < length bytes.now → 0 < n) }
 {
     let mut file = OpenOptions::new().write(true).create(true).open(rt, name)?;
-    file.set_len(at)?;
     file.seek(SeekFrom::Start(at))?;
-    write_some(&mut file, bytes)
+    let count = write_some(&mut file, bytes)?;
+    file.set_len(at.saturating_add(count as u64))?;
+    Ok(count)
 }
 
 /// One write, begun anew where a signal came between. Of a nonempty piece it takes at least one byte.

@@ -15,6 +15,8 @@ mod reading;
 mod shelves;
 mod sinks;
 mod stream_sink;
+#[cfg(test)]
+mod tests;
 mod writing;
 
 pub use decimals::read_decimal;

@@ -2,7 +2,7 @@ ghost use Rattle.std.specs.Prelude.{◌≡◌, ◌↔◌, ℕ, ◌+◌, ◌-◌,
 ghost use Rattle.nj_outside.specs.Fnv.{fnv_of};
 ghost use Rattle.nj_outside.specs.Memory.{MemoryShelf, files_of, named, IsFirst, NoneBefore};
 ghost use Rattle.nj_outside.specs.Rise.{Rose, one_more};
-ghost use Rattle.nj_outside.specs.Told.{Files, bytes_at, put_from, with_file};
+ghost use Rattle.nj_outside.specs.Told.{Files, bytes_at, put_file_from, with_file};
 
 use crate::hashing::fnv;
 use crate::memory_sink::fails_next;
@@ -187,7 +187,7 @@ impl Shelf for MemShelf {
         requires { (files : Files) → Some (files_of self.old.files) ≡ Some files → (at ≡ 0) ⊎ (at ≡ length (bytes_at files name.now)) }
         ensures within { IfOk result (λ n. n ≤ length bytes.now) }
         ensures some { IfOk result (λ n. 0 < length bytes.now → 0 < n) }
-        ensures put { IfOk result (λ n. Some (files_of self.new.files) ≡ put_from (Some (files_of self.old.files)) name.now at (take n bytes.now)) }
+        ensures put { IfOk result (λ n. Some (files_of self.new.files) ≡ put_file_from (Some (files_of self.old.files)) name.now at (take n bytes.now)) }
         ensures unchanged { OnErr result (Some (files_of self.new.files) ≡ Some (files_of self.old.files)) }
         ensures failed { OnErr result (Rose self.old.put_faults self.new.put_faults) }
         ensures failed_name { OnErr result (self.new.failed_put ≡ fnv_of name.now) }

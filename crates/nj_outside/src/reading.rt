@@ -1,4 +1,4 @@
-ghost use Rattle.std.specs.Prelude.{◌≡◌, ℕ, ◌<◌, ◌≤◌, ◌⊎◌, List, Some, length, vec_len, IfOk, OnOk, OnErr, IsErrOf};
+ghost use Rattle.std.specs.Prelude.{◌≡◌, ℕ, ◌<◌, ◌≤◌, ◌⊎◌, List, Some, length, vec_len, IfOk, OnOk, OnErr, IsErrOf, IsOkUnless};
 ghost use Rattle.nj_outside.specs.Fnv.{fnv_of};
 ghost use Rattle.nj_outside.specs.Rise.{Rose};
 ghost use Rattle.nj_outside.specs.Told.{Files};
@@ -43,6 +43,13 @@ pub fn read_all<S: Shelf>(
     ensures too_long_limit { (n : ℕ) → IsErrOf result (ReadRefused.TooLong n) → n ≡ limit }
     ensures fault { IsErrOf result ReadRefused.ReadFault → Rose (S.read_faults shelf.old) (S.read_faults shelf.new) }
     ensures fault_name { IsErrOf result ReadRefused.ReadFault → S.failed_read shelf.new ≡ fnv_of name.now }
+
+    // Where no read failed, memory aside, a file that fits is read and a longer one is refused as such.
+    ensures fits { (files : Files) → S.content shelf.old ≡ Some files → (file : List ℕ) → files name.now ≡ Some file → length file ≤ limit
+        → (Rose (S.read_faults shelf.old) (S.read_faults shelf.new) → ⊥) → IsOkUnless result ReadRefused.NoMemory }
+    ensures long { (files : Files) → S.content shelf.old ≡ Some files → (file : List ℕ) → files name.now ≡ Some file → limit < length file
+        → (Rose (S.read_faults shelf.old) (S.read_faults shelf.new) → ⊥)
+        → IsErrOf result (ReadRefused.TooLong limit) ⊎ IsErrOf result ReadRefused.NoMemory }
 
     ensures content { S.content shelf.new ≡ S.content shelf.old }
     ensures never_falls { S.read_faults shelf.old ≤ S.read_faults shelf.new }

@@ -1,7 +1,7 @@
 ghost use Rattle.std.specs.Prelude.{◌≡◌, ℕ, ◌+◌, ◌-◌, ◌<◌, ◌≤◌, ◌⊎◌, List, Option, Some, None, length, take, drop, IfOk, OnOk, OnErr, IsErr};
 ghost use Rattle.nj_outside.specs.Fnv.{fnv_of};
 ghost use Rattle.nj_outside.specs.Rise.{Rose};
-ghost use Rattle.nj_outside.specs.Told.{Files, bytes_at, put_from};
+ghost use Rattle.nj_outside.specs.Told.{Files, bytes_at, put_file_from};
 
 /// A call of the outside that failed.
 #[derive(Clone, Copy, Debug, PartialEq, Eq)]
@@ -48,7 +48,7 @@ pub trait Shelf {
         requires { (files : Files) → content self.old ≡ Some files → (at ≡ 0) ⊎ (at ≡ length (bytes_at files name.now)) }
         ensures within { IfOk result (λ n. n ≤ length bytes.now) }
         ensures some { IfOk result (λ n. 0 < length bytes.now → 0 < n) }
-        ensures put { IfOk result (λ n. content self.new ≡ put_from (content self.old) name.now at (take n bytes.now)) }
+        ensures put { IfOk result (λ n. content self.new ≡ put_file_from (content self.old) name.now at (take n bytes.now)) }
         ensures unchanged { OnErr result (content self.new ≡ content self.old) }
         ensures failed { OnErr result (Rose (put_faults self.old) (put_faults self.new)) }
         ensures failed_name { OnErr result (failed_put self.new ≡ fnv_of name.now) }

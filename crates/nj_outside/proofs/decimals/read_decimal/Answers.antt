@@ -1,9 +1,7 @@
 -- Where the text is short and all digits, the parse of std gives its value.
-use Rattle.std.proofs.Common.{◌≡◌, ◌≤◌, true, length, arith, ◌∙◌, sym}
+use Rattle.std.proofs.Common.{◌≡◌, true, arith, ◌∙◌}
 use Rattle.std.specs.Char.{is_ascii_digit}
 use Rattle.std.specs.List.{list_all}
-use Rattle.std.specs.Result.{result_ok}
-use Rattle.nj_outside.specs.Decimal.{IsDecimal, decimal_of}
 use Rattle.nj_outside.proofs.Numbers.{no_decimal, decimal_exactly, parsed}
 use Rattle.nj_outside.proofs.decimals.read_decimal.Goals as goal
 

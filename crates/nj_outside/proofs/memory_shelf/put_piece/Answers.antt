@@ -1,5 +1,5 @@
 -- The first pair of the name, or a new last one, has the file's bytes.
-use Rattle.std.proofs.Common.{◌≡◌, sym, ap, ◌∙◌, length, take, ◌++◌, refl, inl, inr, arith, ◌⊎◌}
+use Rattle.std.proofs.Common.{◌≡◌, ap, ◌∙◌, length, take, ◌++◌, refl, inl, inr}
 use Rattle.std.proofs.lemmas.Result.{on_ok_weaker, on_err_weaker}
 use Rattle.nj_outside.specs.Told.{bytes_at}
 use Rattle.nj_outside.specs.Memory.{Pair, named, files_of, IsFirst}

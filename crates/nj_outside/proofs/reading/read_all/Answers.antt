@@ -1,6 +1,6 @@
 -- A read that gave some bytes makes a longer beginning, one that gave none shows that it was the whole file.
-use Rattle.std.proofs.Common.{◌≡◌, ◌≢◌, ◌≤◌, ◌<◌, ◌+◌, ◌-◌, ℕ, List, ◌++◌, Some, None, length, ap, sym, ◌∙◌, arith, rules, take, drop, vec_len}
-use Rattle.nj_outside.proofs.Beginnings.{IsBegun, begun_more, begun_whole, begun_past}
+use Rattle.std.proofs.Common.{◌≡◌, ◌<◌, Some, length, ap, ◌∙◌, arith, vec_len}
+use Rattle.nj_outside.proofs.Beginnings.{begun_more, begun_whole, begun_past}
 use Rattle.nj_outside.proofs.reading.read_all.Goals as goal
 
 pub returns-then-count-eq0-clause-whole : goal.returns-then-count-eq0-clause-whole
@@ -31,3 +31,12 @@ pub returns-clause-too_long : goal.returns-clause-too_long
 returns-clause-too_long g c files told n _ =
     let place : vec_len c.loop-piece.bytes ≡ length c.loop-piece.bytes.items = c.loop-piece.bytes.ok.0 in
     begun_past _ _ _ (c.loop-piece.invariant.begun files told) (omega arith)
+
+pub returns-clause-fits : goal.returns-clause-fits
+returns-clause-fits g c files told file is fits _ =
+    let place : vec_len c.loop-piece.bytes ≡ length c.loop-piece.bytes.items = c.loop-piece.bytes.ok.0 in
+    let past = begun_past (files c.args.name.now) c.loop-piece.bytes.items c.args.limit (c.loop-piece.invariant.begun files told) (omega arith) in
+    let same : past.0 ≡ file = cc (past.1, is) in
+    let long : length past.0 ≡ length file = ap length same in
+    let over : c.args.limit < length past.0 = past.2 in
+    absurd (omega arith)

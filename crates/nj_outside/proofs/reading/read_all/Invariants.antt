@@ -1,5 +1,5 @@
 -- After some turns the bytes are the beginning of the file.
-use Rattle.std.proofs.Common.{length, ◌+◌, ◌-◌, ◌≡◌, ◌≤◌, Some, vec_len}
+use Rattle.std.proofs.Common.{◌+◌, ◌-◌, ◌≡◌, ◌≤◌, Some, vec_len}
 use Rattle.nj_outside.specs.Told.{Files}
 use Rattle.nj_outside.proofs.Beginnings.{IsBegun}
 use Rattle.nj_outside.proofs.reading.read_all.Given as goal

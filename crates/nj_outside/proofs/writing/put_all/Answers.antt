@@ -1,6 +1,6 @@
 -- A put that took some bytes brings the invariant to the bytes taken by then.
-use Rattle.std.proofs.Common.{length, drop, arith, ◌≡◌, ◌≤◌, ◌+◌, ap, ◌∙◌, take, inr}
-use Rattle.nj_outside.specs.Told.{put_from}
+use Rattle.std.proofs.Common.{length, arith, ◌≡◌, ◌≤◌, ◌+◌, ap, ◌∙◌, take, inr}
+use Rattle.nj_outside.specs.Told.{put_file_from}
 use Rattle.nj_outside.proofs.Pieces.{put_more, put_place}
 use Rattle.nj_outside.proofs.writing.put_all.Goals as goal
 
@@ -15,7 +15,7 @@ loop-taken-preserved g c =
     record {
       within = omega arith;
       content = put_more _ _ _ _ _ _ _ c.loop-taken.invariant.within c.loop-taken.invariant.content
-          (c.in-Ok-put_at.ensures.put ∙ ap (λ t. put_from (g.S.Shelf.content c.loop-taken.shelf) c.args.name.now c.loop-taken.taken (take c.in-Ok-put_at.count t)) c.split_at.ensures.back);
+          (c.in-Ok-put_at.ensures.put ∙ ap (λ t. put_file_from (g.S.Shelf.content c.loop-taken.shelf) c.args.name.now c.loop-taken.taken (take c.in-Ok-put_at.count t)) c.split_at.ensures.back);
       counted = omega (arith, c.in-Ok-put_at.ensures.never_falls);
       failed_put = c.in-Ok-put_at.ensures.not_failed ∙ c.loop-taken.invariant.failed_put;
       read_faults = c.in-Ok-put_at.ensures.read_faults ∙ c.loop-taken.invariant.read_faults;

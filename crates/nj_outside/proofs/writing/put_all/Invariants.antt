@@ -1,12 +1,12 @@
 -- After some turns the file is the first `taken` bytes.
 use Rattle.std.proofs.Common.{length, ◌-◌, ◌≡◌, ◌≤◌, take}
-use Rattle.nj_outside.specs.Told.{put}
+use Rattle.nj_outside.specs.Told.{put_file}
 use Rattle.nj_outside.proofs.writing.put_all.Given as goal
 
 abbrev pub invariant-loop-taken : goal.invariant-loop-taken
 invariant-loop-taken g l = record {
   within : l.taken ≤ length l.bytes;
-  content : g.S.Shelf.content l.shelf ≡ put (g.S.Shelf.content l.fn.shelf) l.name (take l.taken l.bytes);
+  content : g.S.Shelf.content l.shelf ≡ put_file (g.S.Shelf.content l.fn.shelf) l.name (take l.taken l.bytes);
   counted : g.S.Shelf.put_faults l.fn.shelf ≤ g.S.Shelf.put_faults l.shelf;
   failed_put : g.S.Shelf.failed_put l.shelf ≡ g.S.Shelf.failed_put l.fn.shelf;
   read_faults : g.S.Shelf.read_faults l.shelf ≡ g.S.Shelf.read_faults l.fn.shelf;

@@ -1,5 +1,5 @@
 -- A write that took some bytes brings the invariant to the bytes taken by then.
-use Rattle.std.proofs.Common.{length, drop, arith, ◌≡◌, ◌≤◌, ◌+◌, ap, ◌∙◌, take}
+use Rattle.std.proofs.Common.{length, arith, ◌≡◌, ◌≤◌, ◌+◌, ap, ◌∙◌, take}
 use Rattle.nj_outside.specs.Told.{appended}
 use Rattle.nj_outside.proofs.Pieces.{appended_more}
 use Rattle.nj_outside.proofs.writing.write_all.Goals as goal
