@@ -1,0 +1,4 @@
+pub mod Ranges
+pub mod Stays
+pub mod Kept
+pub mod Accesses
