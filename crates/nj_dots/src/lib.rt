@@ -3,6 +3,7 @@
 #![tactic(auto)]
 
 mod dot;
+mod image;
 mod picture;
 mod position;
 mod registers;

@@ -105,8 +105,10 @@ impl Screen {
 
     /// Tells whether dot (241,1) was run since the last such call, and takes the mark away.
     pub fn take_end(&mut self) -> bool
+        requires { IsScreen self.old }
         ensures told { result ≡ self.old.ended }
         ensures taken { self.new ≡ record self.old { ended = false } }
+        ensures fits { IsScreen self.new }
     {
         let ended = self.ended;
         self.ended = false;
