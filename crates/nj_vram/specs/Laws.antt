@@ -1,7 +1,7 @@
 -- What the homes of addresses mean, in the words of the NESdev Wiki ("Mirroring", "PPU memory map").
-use Rattle.std.specs.Prelude.{◌≡◌, ◌≢◌, ℕ, ◌+◌, ◌*◌, ◌%◌, ◌<◌, ◌≤◌, Bool, true, false, length}
+use Rattle.std.specs.Prelude.{◌≡◌, ◌≢◌, ℕ, ◌+◌, ◌<◌, ◌≤◌, Bool, length}
 use Rattle.nj_vram.specs.declared.Vram.{Vram}
-use Rattle.nj_vram.specs.Home.{home, got, written}
+use Rattle.nj_vram.specs.Home.{home}
 
 -- two addresses name one byte
 abbrev pub IsMirror : Bool → ℕ → ℕ → Type 0
