@@ -154,12 +154,13 @@ before_move p s h =
 pub power_on-fits : (vertical : Bool) → IsScreen (power_on vertical)
 unfolding power_on blank
 power_on-fits vertical = record {
-    placed = record { line = lit< tt; dot = lit< tt };
-    scroll = record { v = lit< tt; t = lit< tt; x = lit< tt };
-    oam = length-replicate {A = ℕ} 256 0;
-    vram = record { cells = length-replicate {A = ℕ} 2048 0; palette = length-replicate {A = ℕ} 32 0 }
+  placed = record { line = lit< tt; dot = lit< tt };
+  scroll = record { v = lit< tt; t = lit< tt; x = lit< tt };
+  oam = length-replicate {A = ℕ} 256 0;
+  vram = record { cells = length-replicate {A = ℕ} 2048 0; palette = length-replicate {A = ℕ} 32 0 };
 }
 
 -- what the check is to know of a dot, and of power-on
 pub ruleset dot_facts = (before_draw, before_move, dot_of-fits)
+
 pub ruleset screen_facts = (power_on-fits)

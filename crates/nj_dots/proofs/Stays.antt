@@ -11,11 +11,11 @@ use Rattle.nj_dots.specs.Dots.{pixel, tile_fetched, line_ended, tile_ended, latc
 -- the first picture with what a line's work may change, taken from the second
 abbrev pub with_drawn : Screen → Screen → Screen
 with_drawn s e = record s {
-    near = e.near;
-    scroll = (let c = s.scroll in record c { v = e.scroll.v });
-    oam_address = e.oam_address;
-    shift = e.shift;
-    sprite_row = e.sprite_row
+  near = e.near;
+  scroll = (let c = s.scroll in record c { v = e.scroll.v });
+  oam_address = e.oam_address;
+  shift = e.shift;
+  sprite_row = e.sprite_row;
 }
 
 -- the second picture is the first but for that

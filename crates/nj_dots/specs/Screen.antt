@@ -11,24 +11,24 @@ use Rattle.nj_dots.specs.Scroll.{IsScroll}
 -- the picture at power-on: all 0, the next dot is (0,0) (this project's own choice)
 unfoldable pub power_on : Bool → Screen
 power_on vertical = record {
-    position = record { line = 0; dot = 0 };
-    odd_frame = false;
-    control = 0;
-    mask = 0;
-    vertical_blank = false;
-    sprite_zero_hit = false;
-    sprite_overflow = false;
-    hold = false;
-    near = false;
-    scroll = record { v = 0; t = 0; x = 0; w = false };
-    buffer = 0;
-    latch = 0;
-    oam_address = 0;
-    shift = 0;
-    sprite_row = None;
-    ended = false;
-    oam = replicate 256 0;
-    vram = blank vertical
+  position = record { line = 0; dot = 0 };
+  odd_frame = false;
+  control = 0;
+  mask = 0;
+  vertical_blank = false;
+  sprite_zero_hit = false;
+  sprite_overflow = false;
+  hold = false;
+  near = false;
+  scroll = record { v = 0; t = 0; x = 0; w = false };
+  buffer = 0;
+  latch = 0;
+  oam_address = 0;
+  shift = 0;
+  sprite_row = None;
+  ended = false;
+  oam = replicate 256 0;
+  vram = blank vertical;
 }
 
 -- the position is one of a frame: 262 lines of 341 dots
