@@ -1,14 +1,11 @@
 -- Register accesses keep the ranges of the picture's state.
-use Rattle.std.proofs.Common.{◌≡◌, ℕ, ◌+◌, ◌-◌, ◌*◌, ◌/◌, ◌%◌, ◌<◌, ◌≤◌, Bool, true, false, if◌then◌else◌, List, length, refl, ap, sym, ◌∙◌, arith, slice_set}
+use Rattle.std.proofs.Common.{ℕ, ◌%◌, ◌<◌, Bool, true, false, if◌then◌else◌, List, ◌∙◌, arith}
 use Rattle.std.proofs.Math.ListN.{length-set}
-use Rattle.std.proofs.lemmas.Bool.Decides.{nat_tests}
 use Rattle.nj_vram.specs.declared.Vram.{Vram}
 use Rattle.nj_vram.specs.Home.{Home, Cell, Colour, home, written, written_at}
 use Rattle.nj_vram.specs.Laws.{IsSized}
-use Rattle.nj_dots.specs.declared.scroll.Scroll.{Scroll}
 use Rattle.nj_dots.specs.declared.screen.Screen.{Screen}
-use Rattle.nj_dots.specs.Scroll.{IsScroll}
-use Rattle.nj_dots.specs.Screen.{IsPlaced, IsScreen}
+use Rattle.nj_dots.specs.Screen.{IsScreen}
 use Rattle.nj_dots.specs.Registers.{after_status, after_oam_read, data_address, next_address, after_data_read, after_read, put_control, put_mask, put_nothing, put_oam_address, oam_kept, put_oam, put_scroll, put_address, put_data, after_write}
 use Rattle.nj_dots.proofs.Ranges.{scrolled-fits, addressed-fits}
 use Rattle.nj_dots.proofs.Kept.{screen-if}

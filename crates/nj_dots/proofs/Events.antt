@@ -1,13 +1,12 @@
 -- The dots up to the next change of the vertical blank flag.
-use Rattle.std.proofs.Common.{◌≡◌, ◌≢◌, ℕ, zero, suc, ◌+◌, ◌-◌, ◌*◌, ◌<◌, ◌≤◌, Bool, true, false, ◌&&◌, if◌then◌else◌, List, refl, ap, sym, ◌∙◌, subst, arith, nat_le, inl, inr, ◌⊎◌}
+use Rattle.std.proofs.Common.{◌≡◌, ◌≢◌, ℕ, zero, suc, ◌+◌, ◌-◌, ◌<◌, Bool, true, false, ◌&&◌, if◌then◌else◌, List, refl, ap, sym, ◌∙◌, arith, nat_le, inl, inr, ◌⊎◌}
 use Rattle.std.proofs.lemmas.Bool.{cases_Bool, true≢false, cases_lt, cases_eq}
 use Rattle.std.proofs.lemmas.Bool.Decides.{nat_tests}
-use Rattle.nj_dots.specs.declared.position.Position.{Position}
 use Rattle.nj_dots.specs.declared.screen.Screen.{Screen}
 use Rattle.nj_dots.specs.Screen.{IsPlaced, IsScreen, is_rendering}
-use Rattle.nj_dots.specs.Dots.{is_last_dot, after_position, dot_of, after_dots, to_event}
-use Rattle.nj_dots.specs.Laws.{IsNext, IsStart, IsEvent}
-use Rattle.nj_dots.proofs.Kept.{dot_of-fits, after_dots-fits}
+use Rattle.nj_dots.specs.Dots.{is_last_dot, dot_of, after_dots, to_event}
+use Rattle.nj_dots.specs.Laws.{IsEvent}
+use Rattle.nj_dots.proofs.Kept.{after_dots-fits}
 use Rattle.nj_dots.proofs.Moving.{place_of, place_of-after, IsLastPlace, last-place, is-last, is-last-odd, GoesOn, goes-on, Restarts, restarts}
 
 -- the count by place alone, where the frame leaves its last dot out and where not

@@ -1,15 +1,14 @@
 -- Which dots and accesses change the vertical blank flag, the hit flag and `near`.
-use Rattle.std.proofs.Common.{◌≡◌, ℕ, zero, suc, ◌+◌, ◌-◌, ◌*◌, ◌%◌, ◌<◌, ◌≤◌, Bool, true, false, not, ◌||◌, ◌&&◌, ◌==◌, if◌then◌else◌, List, refl, ap, sym, ◌∙◌, arith, nat_le, nat_lt, inl, inr}
-use Rattle.std.proofs.lemmas.Bool.{cases_Bool, true≢false, false≢true, eqb-true}
+use Rattle.std.proofs.Common.{◌≡◌, ℕ, ◌≤◌, Bool, true, false, not, ◌||◌, ◌&&◌, ◌==◌, if◌then◌else◌, List, refl, ap, sym, ◌∙◌, arith, nat_le, inl, inr}
+use Rattle.std.proofs.lemmas.Bool.{cases_Bool, true≢false, eqb-true}
 use Rattle.std.proofs.lemmas.Bool.Decides.{nat_tests}
-use Rattle.nj_dots.specs.declared.position.Position.{Position}
 use Rattle.nj_dots.specs.declared.screen.Screen.{Screen}
-use Rattle.nj_dots.specs.Screen.{is_next, is_rendering, shows_left_columns}
+use Rattle.nj_dots.specs.Screen.{is_next, shows_left_columns}
 use Rattle.nj_dots.specs.Dots.{raised, blank_begun, blank_ended, flagged, is_hit_pixel, is_shown_column, pixel, tile_fetched, line_ended, tile_ended, latched, sprites_fetched, prefetched, shown, emptied, hidden, drawn, moved, dot_of}
 use Rattle.nj_dots.specs.Registers.{after_status, after_oam_read, after_data_read, after_read, put_control, put_mask, put_nothing, put_oam_address, put_oam, put_scroll, put_address, put_data, after_write}
 use Rattle.nj_dots.specs.Laws.{IsNext, IsHitPlace}
-use Rattle.nj_dots.proofs.Stays.{Stays, stays-drawn, stays-tile_ended}
-use Rattle.nj_dots.proofs.Timing.{before_move, dot_of-moved, Moves, moves-moved, Flags, flags-flagged_raised, flags-flagged}
+use Rattle.nj_dots.proofs.Stays.{Stays, stays-drawn}
+use Rattle.nj_dots.proofs.Timing.{before_move, dot_of-moved, Moves, moves-moved, Flags, flags-flagged_raised}
 use Rattle.nj_dots.proofs.Moving.{if-true, if-false, next-is, is-next}
 
 -- the flags after a dot are those that its flag step left

@@ -1,11 +1,10 @@
 -- A frame's dots, counted from its first one.
-use Rattle.std.proofs.Common.{◌≡◌, ℕ, zero, suc, ◌+◌, ◌-◌, ◌*◌, ◌<◌, ◌≤◌, Bool, true, false, not, ◌&&◌, if◌then◌else◌, List, refl, ap, sym, ◌∙◌, subst, arith, inl, inr}
+use Rattle.std.proofs.Common.{◌≡◌, ℕ, zero, suc, ◌-◌, ◌<◌, Bool, true, false, not, ◌&&◌, List, refl, ap, ◌∙◌, subst, arith, inl, inr}
 use Rattle.std.proofs.lemmas.Bool.{cases_Bool}
-use Rattle.nj_dots.specs.declared.position.Position.{Position}
 use Rattle.nj_dots.specs.declared.screen.Screen.{Screen}
 use Rattle.nj_dots.specs.Screen.{IsScreen, is_rendering}
-use Rattle.nj_dots.specs.Dots.{is_last_dot, after_position, dot_of, after_dots}
-use Rattle.nj_dots.specs.Laws.{IsNext, IsStart, frame_length}
+use Rattle.nj_dots.specs.Dots.{is_last_dot, dot_of, after_dots}
+use Rattle.nj_dots.specs.Laws.{IsStart, frame_length}
 use Rattle.nj_dots.proofs.Kept.{dot_of-fits}
 use Rattle.nj_dots.proofs.Moving.{if-true, if-false, place_of, place_of-after, not-last, not-last-whole, is-last, is-last-odd, GoesOn, goes-on, Restarts, restarts}
 

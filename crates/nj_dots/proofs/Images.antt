@@ -1,12 +1,10 @@
 -- A picture and its bytes determine each other.
-use Rattle.std.proofs.Common.{◌≡◌, ℕ, ◌+◌, ◌-◌, ◌<◌, ◌≤◌, Bool, false, List, ◌++◌, length, take, drop, replicate, refl, ap, sym, ◌∙◌, arith, length-append, length-drop, append_assoc}
+use Rattle.std.proofs.Common.{◌≡◌, ℕ, ◌+◌, ◌≤◌, false, List, ◌++◌, length, take, drop, replicate, refl, ap, sym, ◌∙◌, arith, length-append, length-drop}
 use Rattle.std.proofs.Math.ListN.{length-replicate}
-use Rattle.std.proofs.Math.Seq.{take-length}
 use Rattle.std.proofs.lemmas.List.{take_at, drop_at, drop-drop, length-take}
-use Rattle.nj_vram.specs.declared.Vram.{Vram}
 use Rattle.nj_dots.specs.declared.screen.Screen.{Screen}
 use Rattle.nj_dots.specs.Screen.{IsScreen}
-use Rattle.nj_dots.specs.Image.{register_bytes, with_registers, picture_bytes, with_picture, picture_part, Holds}
+use Rattle.nj_dots.specs.Image.{register_bytes, picture_bytes, with_picture, picture_part, Holds}
 use Rattle.nj_dots.proofs.Stored.{length-register_bytes, get_is}
 
 -- there are 2,400 picture bytes

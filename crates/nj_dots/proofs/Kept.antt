@@ -1,17 +1,12 @@
 -- Dots keep the ranges of the picture's state.
-use Rattle.std.proofs.Common.{◌≡◌, ℕ, zero, suc, ◌+◌, ◌-◌, ◌*◌, ◌%◌, ◌<◌, ◌≤◌, Bool, true, false, not, ◌||◌, if◌then◌else◌, List, length, refl, ap, sym, subst, ◌∙◌, arith, lit<}
+use Rattle.std.proofs.Common.{◌≡◌, ℕ, zero, suc, ◌<◌, Bool, true, false, if◌then◌else◌, List, refl, sym, subst, arith, lit<}
 use Rattle.std.proofs.lemmas.Bool.Decides.{nat_tests}
 use Rattle.std.proofs.Math.ListN.{length-replicate}
-use Rattle.nj_vram.specs.declared.Vram.{Vram}
-use Rattle.nj_vram.specs.Laws.{IsSized}
-use Rattle.nj_dots.specs.declared.position.Position.{Position}
-use Rattle.nj_dots.specs.declared.scroll.Scroll.{Scroll}
 use Rattle.nj_dots.specs.declared.screen.Screen.{Screen}
-use Rattle.nj_dots.specs.Scroll.{IsScroll, next_column, next_row, with_horizontal, with_vertical}
 use Rattle.nj_vram.specs.Home.{blank}
 use Rattle.nj_dots.specs.Screen.{IsPlaced, IsScreen, is_next, power_on}
 use Rattle.nj_dots.specs.Dots.{raised, blank_begun, blank_ended, flagged, pixel, tile_fetched, line_ended, tile_ended, latched, vertical_copied, sprites_fetched, prefetched, shown, emptied, hidden, drawn, is_last_dot, after_position, frame_begun, advanced, moved, dot_of, after_dots}
-use Rattle.nj_dots.proofs.Ranges.{lt-if, scroll-if, next_column-lt, next_row-lt, with_horizontal-lt, with_vertical-lt}
+use Rattle.nj_dots.proofs.Ranges.{next_column-lt, next_row-lt, with_horizontal-lt, with_vertical-lt}
 use Rattle.nj_dots.proofs.Stays.{Stays, with_drawn, stays-drawn}
 
 -- a choice of two states

@@ -1,15 +1,15 @@
 -- Each dot comes closer to the end of the frame, until it is marked; so a machine's frame ends.
-use Rattle.std.proofs.Common.{◌≡◌, ℕ, zero, suc, ◌+◌, ◌-◌, ◌*◌, ◌<◌, ◌≤◌, Bool, true, false, ◌||◌, if◌then◌else◌, List, refl, ap, sym, ◌∙◌, arith, nat_le, inl, inr, ◌≢◌}
+use Rattle.std.proofs.Common.{◌≡◌, ℕ, zero, suc, ◌+◌, ◌-◌, ◌<◌, ◌≤◌, Bool, true, false, ◌||◌, if◌then◌else◌, List, refl, ap, sym, ◌∙◌, arith, inl, inr, ◌≢◌}
 use Rattle.std.proofs.lemmas.Bool.{cases_Bool, or_parts, true≢false}
 use Rattle.std.proofs.lemmas.Bool.Decides.{nat_tests}
 use Rattle.nj_dots.specs.declared.position.Position.{Position}
 use Rattle.nj_dots.specs.declared.screen.Screen.{Screen}
 use Rattle.nj_dots.specs.Screen.{IsPlaced, IsScreen, is_next}
-use Rattle.nj_dots.specs.Dots.{raised, blank_begun, blank_ended, flagged, drawn, is_last_dot, after_position, moved, dot_of, after_dots}
+use Rattle.nj_dots.specs.Dots.{raised, blank_begun, blank_ended, flagged, is_last_dot, after_position, moved, dot_of, after_dots}
 use Rattle.nj_dots.specs.Registers.{after_status, after_oam_read, after_data_read, after_read, put_control, put_mask, put_nothing, put_oam_address, put_oam, put_scroll, put_address, put_data, after_write}
 use Rattle.nj_dots.specs.Frame.{left_at, dots_left}
-use Rattle.nj_dots.specs.Laws.{IsNext, IsStart}
-use Rattle.nj_dots.proofs.Kept.{dot_of-fits, after_dots-fits}
+use Rattle.nj_dots.specs.Laws.{IsNext}
+use Rattle.nj_dots.proofs.Kept.{after_dots-fits}
 use Rattle.nj_dots.proofs.Stays.{Stays, stays-drawn}
 use Rattle.nj_dots.proofs.Timing.{before_move, dot_of-moved, Moves, moves-moved}
 use Rattle.nj_dots.proofs.Moving.{if-true, if-false, is-next, place_of, place_of-after, IsLastPlace, last-place, GoesOn, goes-on, Restarts, restarts}

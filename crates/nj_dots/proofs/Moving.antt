@@ -1,13 +1,12 @@
 -- Where a dot leads, by its place in the frame.
-use Rattle.std.proofs.Common.{◌≡◌, ℕ, zero, suc, ◌+◌, ◌-◌, ◌*◌, ◌<◌, ◌≤◌, Bool, true, false, not, ◌||◌, ◌&&◌, ◌==◌, if◌then◌else◌, List, refl, ap, sym, ◌∙◌, subst, arith, nat_le, inl, inr, ◌⊎◌}
+use Rattle.std.proofs.Common.{◌≡◌, ℕ, ◌+◌, ◌*◌, ◌<◌, ◌≤◌, Bool, true, false, not, ◌||◌, ◌&&◌, ◌==◌, if◌then◌else◌, List, refl, ap, sym, ◌∙◌, arith, inl, inr}
 use Rattle.std.proofs.lemmas.Bool.{cases_Bool, true≢false}
 use Rattle.std.proofs.lemmas.Bool.Decides.{nat_tests}
 use Rattle.nj_dots.specs.declared.position.Position.{Position}
 use Rattle.nj_dots.specs.declared.screen.Screen.{Screen}
-use Rattle.nj_dots.specs.Screen.{IsPlaced, IsScreen, is_next, is_rendering}
+use Rattle.nj_dots.specs.Screen.{IsPlaced, is_next, is_rendering}
 use Rattle.nj_dots.specs.Dots.{is_last_dot, after_position, frame_begun, advanced, moved, dot_of}
 use Rattle.nj_dots.specs.Laws.{IsNext, IsStart}
-use Rattle.nj_dots.proofs.Kept.{dot_of-fits}
 use Rattle.nj_dots.proofs.Timing.{before_move, dot_of-moved, Stands, before_move-stands}
 
 -- a choice, told which way it goes

@@ -1,8 +1,6 @@
 -- What the work of a dot on its line leaves as it is: all but `near`, v, the OAM address, the shift register and the
 -- sprite row.
-use Rattle.std.proofs.Common.{◌≡◌, ℕ, ◌+◌, ◌-◌, ◌*◌, ◌%◌, Bool, true, false, if◌then◌else◌, List, refl, ap, ◌∙◌, ◌==◌, ◌&&◌, nat_le}
-use Rattle.nj_vram.specs.declared.Vram.{Vram}
-use Rattle.nj_dots.specs.declared.position.Position.{Position}
+use Rattle.std.proofs.Common.{◌≡◌, ℕ, Bool, true, false, if◌then◌else◌, List, refl, ap, ◌∙◌, ◌==◌, ◌&&◌, nat_le}
 use Rattle.nj_dots.specs.declared.scroll.Scroll.{Scroll}
 use Rattle.nj_dots.specs.declared.screen.Screen.{Screen}
 use Rattle.nj_dots.specs.Scroll.{with_vertical}

@@ -1,13 +1,11 @@
 -- A picture's bytes in an image, and the picture that they give again.
-use Rattle.std.proofs.Common.{◌≡◌, ℕ, ◌+◌, ◌*◌, ◌/◌, ◌%◌, ◌≤◌, ◌==◌, Bool, true, false, not, List, ◌++◌, length, take, drop, replicate, slice_index, refl, ap, sym, ◌∙◌, arith, subst, if◌then◌else◌, Option, Some, None}
+use Rattle.std.proofs.Common.{◌≡◌, ℕ, ◌+◌, ◌*◌, ◌/◌, ◌%◌, ◌≤◌, ◌==◌, Bool, true, false, not, List, length, take, drop, replicate, refl, ap, sym, ◌∙◌, arith, if◌then◌else◌, Option, Some, None}
 use Rattle.std.proofs.Math.ListN.{length-replicate}
 use Rattle.nj_vram.specs.declared.Vram.{Vram}
 use Rattle.nj_sprite0.specs.declared.row.SpriteRow.{SpriteRow}
-use Rattle.nj_dots.specs.declared.position.Position.{Position}
-use Rattle.nj_dots.specs.declared.scroll.Scroll.{Scroll}
 use Rattle.nj_dots.specs.declared.screen.Screen.{Screen}
 use Rattle.nj_dots.specs.Screen.{IsScreen}
-use Rattle.nj_dots.specs.Image.{flag_byte, row_flag, row_left, row_pixels, register_bytes, word_at, flag_at, row_at, with_registers, picture_bytes, overwritten, with_picture, picture_part, Holds}
+use Rattle.nj_dots.specs.Image.{flag_byte, row_flag, row_left, row_pixels, register_bytes, with_registers, picture_bytes, overwritten, with_picture, picture_part, Holds}
 use Rattle.nj_dots.proofs.Parts.{overwritten-five, Pieces, take-pieces}
 
 -- there are 26 register bytes

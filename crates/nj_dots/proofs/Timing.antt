@@ -1,10 +1,9 @@
 -- What raising, flags and moving on leave as it is, and so what stands before a dot's move.
-use Rattle.std.proofs.Common.{◌≡◌, ℕ, Bool, true, false, not, ◌||◌, ◌&&◌, if◌then◌else◌, List, refl, ap, sym, ◌∙◌}
+use Rattle.std.proofs.Common.{◌≡◌, ℕ, Bool, true, false, if◌then◌else◌, List, refl, ap, sym, ◌∙◌}
 use Rattle.std.proofs.lemmas.Bool.{true≢false}
-use Rattle.nj_dots.specs.declared.position.Position.{Position}
 use Rattle.nj_dots.specs.declared.screen.Screen.{Screen}
-use Rattle.nj_dots.specs.Screen.{is_next, is_rendering}
-use Rattle.nj_dots.specs.Dots.{raised, blank_begun, blank_ended, flagged, shown, emptied, hidden, is_drawn_line, drawn, is_last_dot, after_position, frame_begun, advanced, moved, dot_of}
+use Rattle.nj_dots.specs.Screen.{is_rendering}
+use Rattle.nj_dots.specs.Dots.{raised, blank_begun, blank_ended, flagged, shown, emptied, hidden, drawn, frame_begun, advanced, moved, dot_of}
 use Rattle.nj_dots.specs.Laws.{with_timing, ChangesTimingAlone}
 use Rattle.nj_dots.proofs.Stays.{Stays, stays-drawn}
 

@@ -1,10 +1,7 @@
 -- The picture's part of a machine's image (the layout is this project's own): nametables from byte 2,048, OAM from
 -- 4,096, palette from 4,352, and 64 bytes of registers from 4,384. The mirroring and the end mark are no part of it.
 use Rattle.std.specs.Prelude.{◌≡◌, ℕ, ◌+◌, ◌*◌, ◌/◌, ◌%◌, ◌==◌, Bool, true, false, not, List, [], ◌∷◌, ◌++◌, length, take, drop, replicate, slice_index, Option, Some, None, if◌then◌else◌}
-use Rattle.nj_vram.specs.declared.Vram.{Vram}
 use Rattle.nj_sprite0.specs.declared.row.SpriteRow.{SpriteRow}
-use Rattle.nj_dots.specs.declared.position.Position.{Position}
-use Rattle.nj_dots.specs.declared.scroll.Scroll.{Scroll}
 use Rattle.nj_dots.specs.declared.screen.Screen.{Screen}
 use Rattle.nj_dots.specs.Screen.{IsScreen}
 

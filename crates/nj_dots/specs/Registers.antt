@@ -3,7 +3,6 @@
 use Rattle.std.specs.Prelude.{ℕ, ◌+◌, ◌-◌, ◌*◌, ◌/◌, ◌%◌, Bool, true, false, ◌||◌, ◌==◌, nat_lt, if◌then◌else◌, List, slice_index, slice_set, Option, Some, None}
 use Rattle.nj_vram.specs.Home.{got, written}
 use Rattle.nj_sprite0.specs.Sprite.{has_bit}
-use Rattle.nj_dots.specs.declared.scroll.Scroll.{Scroll}
 use Rattle.nj_dots.specs.declared.screen.Screen.{Screen}
 use Rattle.nj_dots.specs.Scroll.{scrolled, addressed}
 use Rattle.nj_dots.specs.Screen.{is_next}

@@ -1,10 +1,9 @@
 -- The state of the picture, and what of it other definitions read (NESdev Wiki, "PPU registers").
-use Rattle.std.specs.Prelude.{◌≡◌, ℕ, ◌+◌, ◌*◌, ◌<◌, Bool, true, false, ◌||◌, ◌&&◌, ◌==◌, List, [], ◌∷◌, length, replicate, slice_index, None}
+use Rattle.std.specs.Prelude.{◌≡◌, ℕ, ◌<◌, Bool, false, ◌||◌, ◌&&◌, ◌==◌, List, [], ◌∷◌, length, replicate, slice_index, None}
 use Rattle.nj_vram.specs.Home.{blank}
 use Rattle.nj_vram.specs.Laws.{IsSized}
 use Rattle.nj_sprite0.specs.Sprite.{has_bit}
 use Rattle.nj_dots.specs.declared.position.Position.{Position}
-use Rattle.nj_dots.specs.declared.scroll.Scroll.{Scroll}
 use Rattle.nj_dots.specs.declared.screen.Screen.{Screen}
 use Rattle.nj_dots.specs.Scroll.{IsScroll}
 

@@ -3,7 +3,14 @@ use super::*;
 const START_OF_BLANK: u32 = 241 * 341 + 1;
 
 // A picture that shows both layers and has sprite zero at a place, with the left columns hidden or not.
-fn with_sprite(y: u8, tile: u8, attributes: u8, x: u8, left: bool, pattern: &[u8; 8192]) -> DotPicture {
+fn with_sprite(
+    y: u8,
+    tile: u8,
+    attributes: u8,
+    x: u8,
+    left: bool,
+    pattern: &[u8; 8192],
+) -> DotPicture {
     let mut picture = DotPicture::new(false);
     picture.write(1, if left { 0x1E } else { 0x18 }, pattern);
     picture.write(3, 0, pattern);

@@ -1,4 +1,4 @@
-use Rattle.std.proofs.Common.{◌≡◌, ◌+◌, ◌-◌, ◌<◌, arith}
+use Rattle.std.proofs.Common.{◌-◌, ◌<◌, arith}
 use Rattle.nj_dots.specs.Screen.{IsScreen}
 use Rattle.nj_dots.specs.Dots.{after_dots, to_event}
 use Rattle.nj_dots.proofs.Kept.{after_dots-fits}

@@ -1,7 +1,6 @@
-use Rattle.std.proofs.Common.{◌≡◌, ap, ◌∙◌, ◌&&◌, false}
 use Rattle.std.proofs.lemmas.Bool.{and_from, and_left, and_right}
 use Rattle.nj_dots.specs.Screen.{is_rendering}
-use Rattle.nj_dots.proofs.Frames.{Follows, frame-follows, no-start, frame_length-odd, frame_length-whole}
+use Rattle.nj_dots.proofs.Frames.{frame-follows, no-start, frame_length-odd, frame_length-whole}
 use Rattle.nj_dots.proofs.laws.frames_have_their_dots.Goals as goal
 
 pub returns-clause-ends : goal.returns-clause-ends

@@ -22,6 +22,8 @@ stored_further s t e p image n reg fits unmarked written ran was_read =
     (s, (subst P (sym written) holds, sym (access ∙ dots)))
 
 pub get-requires-clause-stored : goal.get-requires-clause-stored
-get-requires-clause-stored g c =
-    ([], stored_further c.take_end.new.self.screen c.run-2.new.self.screen c.read-status.new.self.screen _ c.put.new.image 70000 2
-        c.take_end.new.self.fits (ap (λ (s : Screen). s.ended) (c.take_end.ensures.taken [])) (c.put.ensures []) c.run-2.ensures (c.read-status.ensures.after []))
+get-requires-clause-stored g c = (
+  [],
+  stored_further c.take_end.new.self.screen c.run-2.new.self.screen c.read-status.new.self.screen _ c.put.new.image 70000 2
+      c.take_end.new.self.fits (ap (λ (s : Screen). s.ended) (c.take_end.ensures.taken [])) (c.put.ensures []) c.run-2.ensures (c.read-status.ensures.after []),
+)
