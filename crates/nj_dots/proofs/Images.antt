@@ -18,7 +18,7 @@ length-picture_bytes s fits =
     omega (arith, a, b, c, d, fits.vram.cells, fits.oam, fits.vram.palette, length-register_bytes s, length-replicate {A = ℕ} 38 0)
 
 -- a list behind which 2,400 bytes stand from byte 2,048 on has them as its picture's part
-part-of : (head bytes tail : List ℕ) → length head ≡ 2048 → length bytes ≡ 2400 → picture_part (head ++ (bytes ++ tail)) ≡ bytes
+pub part-of : (head bytes tail : List ℕ) → length head ≡ 2048 → length bytes ≡ 2400 → picture_part (head ++ (bytes ++ tail)) ≡ bytes
 unfolding picture_part
 part-of head bytes tail front size =
     ap (take 2400) (drop_at head (bytes ++ tail) 2048 front) ∙ take_at bytes tail 2400 size

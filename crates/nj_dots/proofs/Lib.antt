@@ -14,3 +14,4 @@ pub mod Steps
 pub mod Images
 pub mod Address
 pub mod Mirroring
+pub mod Bits

@@ -5,7 +5,6 @@ use Rattle.nj_vram.specs.Laws.{IsSized}
 use Rattle.nj_sprite0.specs.Sprite.{has_bit}
 use Rattle.nj_dots.specs.declared.position.Position.{Position}
 use Rattle.nj_dots.specs.declared.screen.Screen.{Screen}
-use Rattle.nj_dots.specs.Scroll.{IsScroll}
 
 -- the picture at power-on: all 0, the next dot is (0,0) (this project's own choice)
 unfoldable pub power_on : Bool → Screen
@@ -35,10 +34,10 @@ pub record IsPlaced (p : Position) : Type 0 where
   pub line : p.line < 262
   pub dot : p.dot < 341
 
--- position and scroll registers are in their ranges, the memories have their sizes
+-- position and fine X are in their ranges, the memories have their sizes
 pub record IsScreen (s : Screen) : Type 0 where
   pub placed : IsPlaced s.position
-  pub scroll : IsScroll s.scroll
+  pub fine_x : s.scroll.x < 8
   pub oam : length s.oam ≡ 256
   pub vram : IsSized s.vram
 

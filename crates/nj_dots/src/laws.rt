@@ -2,7 +2,7 @@
 
 ghost use Rattle.std.specs.Prelude.{◌≡◌, ℕ, ◌+◌, ◌-◌, ◌*◌, ◌/◌, ◌%◌, ◌<◌, ◌≤◌, Bool, true, false, not, List, length, take, drop};
 ghost use Rattle.nj_dots.specs.declared.screen.Screen.{Screen};
-ghost use Rattle.nj_dots.specs.Scroll.{next_column, next_row};
+ghost use Rattle.nj_dots.specs.Scroll.{IsScroll, next_column, next_row};
 ghost use Rattle.nj_dots.specs.Screen.{IsScreen, is_rendering};
 ghost use Rattle.nj_dots.specs.Dots.{after_dots, dot_of, to_event};
 ghost use Rattle.nj_dots.specs.Registers.{after_read, after_write};
@@ -53,6 +53,20 @@ pub fn address_takes_two_writes()
 pub fn steps_come_round()
     ensures across { (v : ℕ) → repeated 32 next_column v ≡ other_across v }
     ensures down { (v : ℕ) → v < 32768 → v / 32 % 32 ≤ 29 → repeated 240 next_row v ≡ other_down v }
+{}
+
+/// Dots and accesses keep the bits of the scroll registers, v and t 15, fine X three.
+pub fn scroll_registers_keep_their_bits()
+    ensures dot { (p : List ℕ) (s : Screen) → IsScroll s.scroll → IsScroll (dot_of p s).scroll }
+    ensures read { (reg : ℕ) (p : List ℕ) (s : Screen) → IsScroll s.scroll → IsScroll (after_read reg p s).scroll }
+    ensures write { (reg value : ℕ) (s : Screen) → value < 256 → IsScroll s.scroll → IsScroll (after_write reg value s).scroll }
+{}
+
+/// No dot and no access changes the mirroring.
+pub fn mirroring_stays()
+    ensures dots { (n : ℕ) (p : List ℕ) (s : Screen) → (after_dots n p s).vram.vertical ≡ s.vram.vertical }
+    ensures read { (reg : ℕ) (p : List ℕ) (s : Screen) → (after_read reg p s).vram.vertical ≡ s.vram.vertical }
+    ensures write { (reg value : ℕ) (s : Screen) → (after_write reg value s).vram.vertical ≡ s.vram.vertical }
 {}
 
 /// The hit flag rises only by the dot after a hit pixel, which is never pixel 255 nor one of hidden left columns
