@@ -2,8 +2,9 @@
 use Rattle.std.proofs.Common.{ℕ, ◌%◌, ◌<◌, Bool, true, false, if◌then◌else◌, List, ◌∙◌, arith}
 use Rattle.std.proofs.Math.ListN.{length-set}
 use Rattle.nj_vram.specs.declared.Vram.{Vram}
-use Rattle.nj_vram.specs.Home.{Home, Cell, Colour, home, written, written_at}
+use Rattle.nj_vram.specs.Home.{home, written}
 use Rattle.nj_vram.specs.Laws.{IsSized}
+use Rattle.nj_vram.proofs.Homes.{written_at-sized}
 use Rattle.nj_dots.specs.declared.scroll.Scroll.{Scroll}
 use Rattle.nj_dots.specs.declared.screen.Screen.{Screen}
 use Rattle.nj_dots.specs.Scroll.{scrolled, addressed}
@@ -98,11 +99,7 @@ put_address-fits : (value : ℕ) (s : Screen) → IsScreen s → IsScreen (put_a
 unfolding put_address
 put_address-fits value s h = record { placed = h.placed; fine_x = addressed-x value s.scroll h.fine_x; oam = h.oam; vram = h.vram }
 
--- a write keeps the sizes of this memory
-written_at-sized : (h : Home) (value : ℕ) (m : Vram) → IsSized m → IsSized (written_at h value m)
-written_at-sized (Cell n) value m sized = record { cells = length-set m.cells n value ∙ sized.cells; palette = sized.palette }
-written_at-sized (Colour n) value m sized = record { cells = sized.cells; palette = length-set m.palette n (value % 64) ∙ sized.palette }
-
+-- a write keeps the sizes of the picture's memory
 vram-if : (b : Bool) (at value : ℕ) (m : Vram) → IsSized m → IsSized (if b then m else written m at value)
 unfolding written
 vram-if true at value m h = h

@@ -1,7 +1,8 @@
 -- No dot and no access changes the mirroring.
 use Rattle.std.proofs.Common.{◌≡◌, ℕ, zero, suc, Bool, true, false, if◌then◌else◌, List, refl, ap, ◌∙◌}
 use Rattle.nj_vram.specs.declared.Vram.{Vram}
-use Rattle.nj_vram.specs.Home.{Home, Cell, Colour, home, written, written_at}
+use Rattle.nj_vram.specs.Home.{home, written}
+use Rattle.nj_vram.proofs.Homes.{written_at-vertical}
 use Rattle.nj_dots.specs.declared.screen.Screen.{Screen}
 use Rattle.nj_dots.specs.Dots.{moved, dot_of, after_dots}
 use Rattle.nj_dots.specs.Registers.{after_status, after_oam_read, data_address, after_data_read, after_read, put_control, put_mask, put_nothing, put_oam_address, put_oam, put_scroll, put_address, put_data, after_write}
@@ -75,14 +76,10 @@ same-put_address : (value : ℕ) (s : Screen) → SameMirroring s (put_address v
 unfolding put_address
 same-put_address value s = record { vertical = refl }
 
-written-vertical : (h : Home) (value : ℕ) (m : Vram) → (written_at h value m).vertical ≡ m.vertical
-written-vertical (Cell n) value m = refl
-written-vertical (Colour n) value m = refl
-
 put-vertical : (b : Bool) (at value : ℕ) (m : Vram) → (if b then m else written m at value).vertical ≡ m.vertical
 unfolding written
 put-vertical true at value m = refl
-put-vertical false at value m = written-vertical (home m.vertical at) value m
+put-vertical false at value m = written_at-vertical (home m.vertical at) value m
 
 same-put_data : (value : ℕ) (s : Screen) → SameMirroring s (put_data value s)
 unfolding put_data

@@ -16,11 +16,6 @@ abbrev pub IsOtherTable : Bool → ℕ → ℕ → Type 0
 IsOtherTable vertical a b =
     (n m : ℕ) → n < 1024 → m < 1024 → home vertical (a + n) ≢ home vertical (b + m)
 
--- the address is one of this memory
-pub record IsInVram (at : ℕ) : Type 0 where
-  pub from : 0x2000 ≤ at
-  pub below : at < 0x4000
-
 -- the two arrays have their sizes
 pub record IsSized (m : Vram) : Type 0 where
   pub cells : length m.cells ≡ 2048

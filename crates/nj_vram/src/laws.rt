@@ -2,7 +2,7 @@
 
 ghost use Rattle.std.specs.Prelude.{◌≡◌, ◌≢◌, ℕ, ◌+◌, ◌*◌, ◌%◌, ◌<◌, ◌≤◌, Bool, true, false};
 ghost use Rattle.nj_vram.specs.Home.{home, got, written};
-ghost use Rattle.nj_vram.specs.Laws.{IsMirror, IsSameTable, IsOtherTable, IsInVram, IsSized};
+ghost use Rattle.nj_vram.specs.Laws.{IsMirror, IsSameTable, IsOtherTable, IsSized};
 ghost use Rattle.nj_vram.specs.declared.Vram.{Vram};
 
 /// Which addresses name the same byte, under either mirroring.
