@@ -5,3 +5,5 @@ pub mod Lexes
 pub mod Settles
 pub mod Binds
 pub mod Walks
+pub mod Loose
+pub mod Adds

@@ -82,7 +82,7 @@ simple_and_free form fits =
     let early : (n : ℕ) → list_any (is_early_multiple n) (uses 1 form.names form.options) ≡ false = λ n. no_uses (is_early_multiple n) (λ long index id. early_false (is_some index) _) 1 form.names form.options in
     ap (λ (b : App). is_buildable (parser_app form) && (is_ready b.top && list_all is_ready_leaf b.subs) && is_free_app b) is ∙ rw (raw, simple, early, free) refl
 
-same_either : {X : Type 0} (b : Bool) (x : X) → cond b x x ≡ x
+pub same_either : {X : Type 0} (b : Bool) (x : X) → cond b x x ≡ x
 same_either true x = refl
 same_either false x = refl
 

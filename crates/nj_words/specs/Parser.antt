@@ -1,10 +1,13 @@
 -- The parser's command that stands for a form, and what the parser makes of the words.
-use Rattle.std.specs.Prelude.{ℕ, List, [], ◌∷◌, ◌++◌, Some, true, codes, map}
-use Rattle.clap.specs.Walk.{Row, Rule}
+use Rattle.std.specs.Prelude.{◌&&◌, ◌||◌, ℕ, Bool, List, [], ◌∷◌, ◌++◌, Option, Some, None, true}
+use Rattle.std.specs.Prelude.{codes, false, if◌then◌else◌, map, nat_eq, not, option_map}
+use Rattle.std.specs.List.{list_any, starts_with}
+use Rattle.std.specs.Str.{bytes_eq}
+use Rattle.clap.specs.Walk.{Row, Rule, first_of}
 use Rattle.clap.specs.Simple.{App, Shape, matches_of, new_rule, new_shape}
 use Rattle.clap.specs.Kinds.{Kinds}
 use Rattle.clap.specs.Faults.{fault_of}
-use Rattle.nj_words.specs.Words.{Form, Word}
+use Rattle.nj_words.specs.Words.{Form, Taken, Word, is_equals_sign, is_nonempty}
 
 abbrev pub option_rule : Word → Rule
 option_rule label = record (new_rule label) { long = Some label }
@@ -26,3 +29,27 @@ parser_fault form words = fault_of (parser_app form) words
 -- what the parser finds in the words where it takes them
 unfoldable pub parser_rows : Form → List Word → List Row
 parser_rows form words = matches_of (parser_app form) words
+
+-- the word is an option that has no value of its own
+abbrev pub is_open_option : Word → Bool
+is_open_option word = starts_with nat_eq word (codes "--") && not (list_any is_equals_sign word)
+
+-- a lone `-` stands where an option waits for its value, before the mark after which all are names
+unfoldable pub has_lone_value : Bool → List Word → Bool
+has_lone_value waits [] = false
+has_lone_value waits (word ∷ words) = if bytes_eq word (codes "--") then false
+    else (waits && bytes_eq word (codes "-")) || has_lone_value (is_open_option word) words
+
+-- the words, where each is there and none is empty
+unfoldable pub given : List (Option Word) → Option (List Word)
+given [] = Some []
+given (None ∷ rest) = None
+given (Some word ∷ rest) =
+    if is_nonempty word then option_map (λ words. word ∷ words) (given rest) else None
+
+-- what the form makes of the parser's rows
+abbrev pub taken_rows : Form → List Row → Option Taken
+taken_rows form rows = option_map (λ names. record {
+  names = names;
+  values = map (λ label. first_of label rows) form.options;
+}) (given (map (λ id. first_of id rows) form.names))
