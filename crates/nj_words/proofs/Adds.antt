@@ -80,7 +80,7 @@ name_is_new labels rows id value label apart = ap (λ b. is_among label labels &
 same_either_way : (word other : Word) → bytes_eq word other ≡ bytes_eq other word
 same_either_way word other = same_from_decides _ _ (bytes_eq-Decides word other) (Decides-like _ (λ e. sym e) (λ e. sym e) (bytes_eq-Decides other word))
 
-same_tests : {X : Type 0} (p q : X → Bool) (xs : List X) → ((x : X) → p x ≡ q x) → list_all p xs ≡ list_all q xs
+pub same_tests : {X : Type 0} (p q : X → Bool) (xs : List X) → ((x : X) → p x ≡ q x) → list_all p xs ≡ list_all q xs
 same_tests p q [] e = refl
 same_tests p q (x ∷ xs) e = ap₂ (λ a b. a && b) (e x) (same_tests p q xs e)
 
@@ -121,7 +121,7 @@ unused_option label labels ids rows value known apart unused word among =
     still_unused word label rows value (unused word among)
     (λ same. true≢false (sym known ∙ ap (λ w. is_among w labels) same ∙ apart word among))
 
-abbrev Closes : List Word → List Word → List Row → List Piece → Type 0
+abbrev pub Closes : List Word → List Word → List Row → List Piece → Type 0
 Closes labels ids rows ps = added labels ids rows ps ≡ cond (can_add labels ids rows ps) (Some (rows ++ piece_rows ids ps)) None
 
 option_closes : (labels ids : List Word) (rows : List Row) (label word : Word) (ps : List Piece)
@@ -145,7 +145,7 @@ name_closes labels id ids rows word ps unused apart later =
     (append_assoc rows (use_row id word ∷ []) (piece_rows ids ps)))
 
 -- the rows that the pieces add up to, and when they do
-closes : (labels ids : List Word) (rows : List Row) (ps : List Piece) → is_distinct ids ≡ true → AreApart ids labels → AreUnused ids rows → Closes labels ids rows ps
+pub closes : (labels ids : List Word) (rows : List Row) (ps : List Piece) → is_distinct ids ≡ true → AreApart ids labels → AreUnused ids rows → Closes labels ids rows ps
 closes labels ids rows [] distinct apart unused = ap Some (sym (append-nil rows))
 closes labels [] rows (name word ∷ ps) distinct apart unused = refl
 closes labels (id ∷ ids) rows (name word ∷ ps) distinct apart unused =

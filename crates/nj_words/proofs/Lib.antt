@@ -1,4 +1,5 @@
 pub mod Rules
+pub mod Commands
 pub mod Outcome
 pub mod Lookups
 pub mod Lexes
@@ -7,3 +8,4 @@ pub mod Binds
 pub mod Walks
 pub mod Loose
 pub mod Adds
+pub mod Readings

@@ -57,11 +57,11 @@ level_outcome form words =
 
 -- what the whole parse finds
 pub parse_outcome : (form : Form) (words : List Word) → 1 + length form.names ≤ usize_max
-    → unless (parser_fault form words) (Some (parser_rows form words)) ≡ outcome (built_shape form) (walk_from nothing_held) (drop 1 words)
+    → unless (parser_fault form words) (Some (parser_rows form words)) ≡ outcome (built_shape form) (walk_from nothing_held) words
 unfolding parser_fault parser_rows
 parse_outcome form words fits =
-    let stop = (walk (built_shape form).rules [] nothing_held (drop 1 words)).stopped in
-    ap (λ (app : App). unless (built_fault app nothing_held (drop 1 words)) (Some (rows_after app.top.rules (names_of app) (drop 1 words)))) (built_is form fits)
-    ∙ ap₂ (λ (o : Option _) k. unless (level_fault (built_shape form) [] nothing_held (drop 1 words) (is_some o) k) (Some (rows_after (built_shape form).rules [] (drop 1 words))))
+    let stop = (walk (built_shape form).rules [] nothing_held words).stopped in
+    ap (λ (app : App). unless (built_fault app nothing_held words) (Some (rows_after app.top.rules (names_of app) words))) (built_is form fits)
+    ∙ ap₂ (λ (o : Option _) k. unless (level_fault (built_shape form) [] nothing_held words (is_some o) k) (Some (rows_after (built_shape form).rules [] words)))
     (no_subcommand (built_shape form) stop) (no_subcommand_fault (built_shape form) stop)
-    ∙ level_outcome form (drop 1 words)
+    ∙ level_outcome form words

@@ -391,7 +391,7 @@ finds form fits [] utf8 k (Some label) = λ rows known. settles_none (rules_of f
 finds form fits (word ∷ words) utf8 k None = idle_word form fits k word words utf8.0 (finds form fits words utf8.1)
 finds form fits (word ∷ words) utf8 k (Some label) = waiting_word form fits k label word words utf8.0 (finds form fits words utf8.1)
 
--- the parser finds in the words after the program's name what their pieces add up to
-pub parse_is : (form : Form) (words : List Word) → 1 + length form.names ≤ usize_max → AreUtf8 (drop 1 words)
-    → unless (parser_fault form words) (Some (parser_rows form words)) ≡ option_and_then (added form.options form.names []) (loose None (drop 1 words))
-parse_is form words fits utf8 = parse_outcome form words fits ∙ finds form fits (drop 1 words) utf8 0 None [] None
+-- the parser finds in the words what their pieces add up to
+pub parse_is : (form : Form) (words : List Word) → 1 + length form.names ≤ usize_max → AreUtf8 words
+    → unless (parser_fault form words) (Some (parser_rows form words)) ≡ option_and_then (added form.options form.names []) (loose None words)
+parse_is form words fits utf8 = parse_outcome form words fits ∙ finds form fits words utf8 0 None [] None

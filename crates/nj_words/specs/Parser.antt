@@ -1,19 +1,28 @@
 -- The parser's command that stands for a form, and what the parser makes of the words.
 use Rattle.std.specs.Prelude.{◌&&◌, ◌||◌, ℕ, Bool, List, [], ◌∷◌, ◌++◌, Option, Some, None, true}
-use Rattle.std.specs.Prelude.{codes, false, if◌then◌else◌, map, nat_eq, not, option_map}
+use Rattle.std.specs.Prelude.{◌≡◌, Result, Ok, Err, codes, false, if◌then◌else◌, map, nat_eq, not, option_map}
 use Rattle.std.specs.List.{list_any, starts_with}
 use Rattle.std.specs.Str.{bytes_eq}
-use Rattle.clap.specs.Walk.{Row, Rule, first_of}
+use Rattle.std.specs.Borrow.{Bor}
+use Rattle.clap.specs.Matches.{found_of}
+use Rattle.clap.specs.Walk.{Row, Rule, first_of, rows_of, texts}
+use Rattle.clap.specs.declared.parser.matches.ArgMatches.{ArgMatches}
 use Rattle.clap.specs.Simple.{App, Shape, matches_of, new_rule, new_shape}
 use Rattle.clap.specs.Kinds.{Kinds}
 use Rattle.clap.specs.Faults.{fault_of}
+use Rattle.nj_words.specs.declared.refused.WordsRefused.{WordsRefused}
+use Rattle.nj_words.specs.declared.refused.WordsRefused.TheVariants.{NoMemory, Usage}
 use Rattle.nj_words.specs.Words.{Form, Taken, Word, is_equals_sign, is_nonempty}
 
 abbrev pub option_rule : Word → Rule
 option_rule label = record (new_rule label) { long = Some label }
 
 abbrev pub parser_shape : List Rule → Shape
-parser_shape rules = record (new_shape (codes "nj")) { rules = rules; disable_help_flag = true }
+parser_shape rules = record (new_shape (codes "nj")) {
+  rules = rules;
+  no_binary_name = true;
+  disable_help_flag = true;
+}
 
 -- the form's names as positionals, then its options
 abbrev pub parser_rules : Form → List Rule
@@ -22,7 +31,7 @@ parser_rules form = map new_rule form.names ++ map option_rule form.options
 abbrev pub parser_app : Form → App
 parser_app form = record { top = parser_shape (parser_rules form); subs = [] }
 
--- the kinds of the parser's refusal of the words, of which the first is the program's name
+-- the kinds of the parser's refusal of the words after the command
 unfoldable pub parser_fault : Form → List Word → Kinds
 parser_fault form words = fault_of (parser_app form) words
 
@@ -53,3 +62,17 @@ taken_rows form rows = option_map (λ names. record {
   names = names;
   values = map (λ label. first_of label rows) form.options;
 }) (given (map (λ id. first_of id rows) form.names))
+
+-- the form of these names and options
+abbrev pub form_of : List (Bor Word) → List (Bor Word) → Form
+form_of names options = record { names = texts names; options = texts options }
+
+-- the parser's command with these rules alone
+abbrev pub app_with : List Rule → App
+app_with rules = record { top = parser_shape rules; subs = [] }
+
+-- what stands behind the getters where the parser takes the words, and which refusals it has
+abbrev pub Parses : Form → List Word → Result ArgMatches WordsRefused → Type 0
+Parses form words (Ok found) = (parser_fault form words ≡ []) × (rows_of (found_of found) ≡ parser_rows form words)
+Parses form words (Err Usage) = parser_fault form words ≡ [] → ⊥
+Parses form words (Err NoMemory) = Unit {0}

@@ -1,5 +1,13 @@
 //! The words of the command line, read through `clap` into a command.
+//!
+//! The rule on the words stands in `specs/Words.antt`, and the table of commands in
+//! `specs/Commands.antt`.
 #![tactic(auto)]
+
+mod parser;
+mod refused;
+
+pub use refused::WordsRefused;
 
 use nj_seq::Text;
 
