@@ -1,5 +1,6 @@
 pub mod Rules
 pub mod Commands
+pub mod Parsed
 pub mod Outcome
 pub mod Lookups
 pub mod Lexes

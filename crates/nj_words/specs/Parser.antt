@@ -1,5 +1,6 @@
 -- The parser's command that stands for a form, and what the parser makes of the words.
 use Rattle.std.specs.Prelude.{◌&&◌, ◌||◌, ℕ, Bool, List, [], ◌∷◌, ◌++◌, Option, Some, None, true}
+use Rattle.std.specs.Prelude.{String, string_bytes}
 use Rattle.std.specs.Prelude.{◌≡◌, Result, Ok, Err, codes, false, if◌then◌else◌, map, nat_eq, not, option_map}
 use Rattle.std.specs.List.{list_any, starts_with}
 use Rattle.std.specs.Str.{bytes_eq}
@@ -76,3 +77,12 @@ abbrev pub Parses : Form → List Word → Result ArgMatches WordsRefused → Ty
 Parses form words (Ok found) = (parser_fault form words ≡ []) × (rows_of (found_of found) ≡ parser_rows form words)
 Parses form words (Err Usage) = parser_fault form words ≡ [] → ⊥
 Parses form words (Err NoMemory) = Unit {0}
+
+-- what the getters read of a name or an option
+unfoldable pub word_read : ArgMatches → Word → Option Word
+word_read found id = first_of id (rows_of (found_of found))
+
+module _ {Z : Type 0} where
+  -- the words, as their bytes
+  abbrev pub words_of : List (String Z) → List Word
+  words_of words = map string_bytes words

@@ -1,9 +1,16 @@
 //! The parser's command that stands for a form, and its run over the words.
-ghost use Rattle.std.specs.Prelude.{◌≡◌, [], IfOk};
+ghost use Rattle.std.specs.Prelude.{◌≡◌, ◌<◌, ◌^◌, [], ◌∷◌, List, None, Some, IfErr, IfOk, false, length, map, option_map, true};
 ghost use Rattle.clap.specs.Words.{app_of, new_rule, with_rule};
 ghost use Rattle.nj_words.specs.Parser.{app_with, form_of, option_rule, parser_app};
+ghost use Rattle.clap.specs.Walk.{texts};
+ghost use Rattle.nj_words.specs.Parser.{Parses, given, has_lone_value, is_open_option, word_read, words_of};
+ghost use Rattle.nj_words.specs.Words.{Word, is_nonempty};
+ghost use Rattle.nj_words.specs.declared.refused.WordsRefused.TheVariants.{Usage};
 
-use clap::{Arg, Command};
+use crate::refused::WordsRefused;
+
+use clap::error::ErrorKind;
+use clap::{Arg, ArgMatches, Command};
 use std::alloc::{AllocError, Global};
 
 // A command with no names and no options, not even one for help.
@@ -52,4 +59,102 @@ fn command_of<'a>(
         command = with_option(alloc, command, label)?;
     }
     Ok(command)
+}
+
+/// What the parser finds in the words after the command.
+pub(crate) fn parsed<'a>(
+    alloc: Global,
+    names: &'a [&'a str],
+    options: &'a [&'a str],
+    words: &'a [String],
+) -> Result<ArgMatches<'a>, WordsRefused>
+    requires { length names.now < 2 ^ 32 }
+    ensures { Parses (form_of names.entry.now options.entry.now) (words_of words.entry.now) result }
+{
+    let command = command_of(alloc, names, options)?;
+    match command.try_get_matches_from(words) {
+        Ok(matches) => Ok(matches),
+        Err(error) => match error.kind() {
+            ErrorKind::OutOfMemory => Err(WordsRefused::NoMemory),
+            _ => Err(WordsRefused::Usage),
+        },
+    }
+}
+
+fn is_open_option(word: &str) -> bool
+    ensures { result ≡ is_open_option word.now }
+{
+    word.starts_with("--") && !word.as_bytes().contains(&b'=')
+}
+
+/// Whether a lone `-` stands where an option waits for its value, which the parser would take.
+pub(crate) fn has_lone_value(words: &[String]) -> bool
+    ensures { result ≡ has_lone_value false (words_of words.now) }
+{
+    let mut waits = false;
+    for word in words {
+        let word = word.as_str();
+        if word == "--" {
+            return false;
+        }
+        if waits && word == "-" {
+            return true;
+        }
+        waits = is_open_option(word);
+    }
+    false
+}
+
+fn word_read<'a>(matches: &ArgMatches<'a>, id: &str) -> Option<&'a str>
+    ensures { option_map (λ s. s.now) result ≡ word_read matches.now id.now }
+{
+    matches.get_str(id)
+}
+
+// The word of a name, where it is there and not empty.
+#[tactic(auto, using(crate::proofs::Parsed::given_none, crate::proofs::Parsed::given_empty))]
+fn name_read<'a>(matches: &ArgMatches<'a>, id: &str) -> Result<&'a str, WordsRefused>
+    ensures read { IfOk result (λ word. word_read matches.now id.now ≡ Some word.now) }
+    ensures full { IfOk result (λ word. is_nonempty word.now ≡ true) }
+    ensures usage { IfErr result (λ _. (rest : List _) → given (word_read matches.now id.now ∷ rest) ≡ None) }
+{
+    let Some(word) = word_read(matches, id) else {
+        return Err(WordsRefused::Usage);
+    };
+    if word.is_empty() {
+        return Err(WordsRefused::Usage);
+    }
+    Ok(word)
+}
+
+/// The words of the names, where each is there and none is empty.
+pub(crate) fn names_read<'a>(
+    alloc: Global,
+    matches: &ArgMatches<'a>,
+    names: &[&str],
+) -> Result<Vec<&'a str>, WordsRefused>
+    ensures read { IfOk result (λ words. given (map (word_read matches.now) (texts names.now)) ≡ Some (texts words.items)) }
+    ensures usage { result ≡ Err Usage → given (map (word_read matches.now) (texts names.now)) ≡ None }
+{
+    let mut words = Vec::new(alloc);
+    for name in names {
+        let word = name_read(matches, name)?;
+        words.push(word)?;
+    }
+    Ok(words)
+}
+
+/// The values of the options, where they are there.
+pub(crate) fn values_read<'a>(
+    alloc: Global,
+    matches: &ArgMatches<'a>,
+    options: &[&str],
+) -> Result<Vec<Option<&'a str>>, AllocError>
+    ensures { IfOk result (λ values. map (option_map (λ s. s.now)) values.items ≡ map (word_read matches.now) (texts options.now)) }
+{
+    let mut values = Vec::new(alloc);
+    for label in options {
+        values.push(word_read(matches, label))?;
+    }
+    Ok(values)
 }

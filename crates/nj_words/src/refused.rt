@@ -1,7 +1,7 @@
 ghost use Rattle.std.specs.Prelude.{◌≡◌};
 ghost use Rattle.nj_words.specs.declared.refused.WordsRefused.TheVariants.{NoMemory};
 
-use std::alloc::AllocError;
+use std::alloc::{AllocError, AllocFailed};
 
 /// Why no command was read.
 #[derive(Clone, Copy, Debug, PartialEq, Eq)]
@@ -16,6 +16,14 @@ impl From<AllocError> for WordsRefused {
     ghost from_gives = { λ _ refused. refused ≡ NoMemory };
 
     fn from(_: AllocError) -> WordsRefused {
+        WordsRefused::NoMemory
+    }
+}
+
+impl<T: Drop> From<AllocFailed<T>> for WordsRefused {
+    ghost from_gives = { λ _ refused. refused ≡ NoMemory };
+
+    fn from(_: AllocFailed<T>) -> WordsRefused {
         WordsRefused::NoMemory
     }
 }
