@@ -8,5 +8,6 @@ pub mod Settles
 pub mod Binds
 pub mod Walks
 pub mod Loose
+pub mod Lone
 pub mod Adds
 pub mod Readings

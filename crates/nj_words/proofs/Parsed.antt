@@ -1,9 +1,9 @@
 -- What the parser's own clauses say of a form's command.
-use Rattle.std.proofs.Common.{◌≡◌, ◌∙◌, ◌<◌, ◌≤◌, ◌+◌, ◌^◌, ◌⊎◌, ℕ, Bool, cond, true, false, suc, zero, refl, sym, ap, ap₂, subst, arith, lit≤, List, [], ◌∷◌, ◌++◌, map, length, take, drop, Option, Some, None, Result, Ok, Err, ⊎_elim, true≢false, append_assoc, slice_index_or}
+use Rattle.std.proofs.Common.{◌≡◌, ◌∙◌, ◌<◌, ◌≤◌, ◌+◌, ◌^◌, ◌⊎◌, ℕ, Bool, cond, true, false, suc, zero, refl, sym, ap, ap₂, subst, arith, lit≤, List, [], ◌∷◌, ◌++◌, map, length, take, drop, Option, Some, None, Result, Ok, Err, ⊎_elim, true≢false, append-nil, append_assoc, slice_index_or}
 use Rattle.std.specs.Option.{option_map}
 use Rattle.std.specs.Borrow.{Bor}
 use Rattle.std.proofs.lemmas.Bool.{and_parts}
-use Rattle.std.proofs.lemmas.List.{at_drop_more, length-map, map-append, take_more}
+use Rattle.std.proofs.lemmas.List.{at_drop_all, at_drop_more, length-map, map-append, take_more}
 use Rattle.clap.specs.Lexer.{usize_max}
 use Rattle.clap.specs.Walk.{texts}
 use Rattle.clap.specs.Simple.{App, HasMatchesOf, is_simple}
@@ -55,13 +55,13 @@ given_word found word rest e full = ap (λ o. given (o ∷ rest)) e ∙ ap (λ b
 abbrev pub given_after : List Word → Option (List Word) → Option (List Word)
 given_after words = option_map (λ more. words ++ more)
 
-pub given_step : (read : Word → Option Word) (names : List (Bor Word)) (i : ℕ) (d : Bor Word) (words : List (Bor Word)) (word : Bor Word) (whole : Option (List Word)) → i < length names
-    → read (slice_index_or names i d).now ≡ Some word.now → is_nonempty word.now ≡ true
-    → whole ≡ given_after (texts words) (given (map read (texts (drop i names)))) → whole ≡ given_after (texts (words ++ word ∷ [])) (given (map read (texts (drop (i + 1) names))))
-given_step read names i d words word whole lt is full so_far =
+pub given_step : (read : Word → Option Word) (names : List (Bor Word)) (i : ℕ) (d : Bor Word) (words after : List (Bor Word)) (word : Bor Word) (whole : Option (List Word)) → i < length names
+    → after ≡ words ++ word ∷ [] → read (slice_index_or names i d).now ≡ Some word.now → is_nonempty word.now ≡ true
+    → whole ≡ given_after (texts words) (given (map read (texts (drop i names)))) → whole ≡ given_after (texts after) (given (map read (texts (drop (i + 1) names))))
+given_step read names i d words after word whole lt pushed is full so_far =
     so_far ∙ ap (given_after (texts words)) (at_drop_more (λ ns. given (map read (texts ns))) names i d lt ∙ given_word _ word.now _ is full)
     ∙ joins (given (map read (texts (drop (i + 1) names))))
-    ∙ ap (λ ws. given_after ws (given (map read (texts (drop (i + 1) names))))) (sym (map-append (λ s. s.now) words (word ∷ [])))
+    ∙ ap (λ ws. given_after ws (given (map read (texts (drop (i + 1) names))))) (sym (ap texts pushed ∙ map-append (λ s. s.now) words (word ∷ [])))
   where
     joins : (found : Option (List Word)) → given_after (texts words) (option_map (λ ws. word.now ∷ ws) found) ≡ given_after (texts words ++ word.now ∷ []) found
     joins None = refl
@@ -72,3 +72,9 @@ pub given_fails : (read : Word → Option Word) (names : List (Bor Word)) (i : �
     → whole ≡ given_after (texts words) (given (map read (texts (drop i names)))) → whole ≡ None
 given_fails read names i d words whole lt fails so_far =
     so_far ∙ ap (given_after (texts words)) (at_drop_more (λ ns. given (map read (texts ns))) names i d lt ∙ fails _)
+
+pub given_ends : (read : Word → Option Word) (names : List (Bor Word)) (i : ℕ) (words : List (Bor Word)) (whole : Option (List Word)) → length names ≤ i
+    → whole ≡ given_after (texts words) (given (map read (texts (drop i names)))) → whole ≡ Some (texts words)
+unfolding given
+given_ends read names i words whole past so_far =
+    so_far ∙ ap (given_after (texts words)) (at_drop_all (λ ns. given (map read (texts ns))) names i past) ∙ ap Some (append-nil (texts words))
