@@ -11,3 +11,4 @@ pub mod Loose
 pub mod Lone
 pub mod Adds
 pub mod Readings
+pub mod Taking

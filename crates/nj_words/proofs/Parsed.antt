@@ -14,7 +14,7 @@ use Rattle.clap.specs.declared.error.Error.{Error}
 use Rattle.clap.specs.declared.error.kind.ErrorKind.TheVariants.{OutOfMemory}
 use Rattle.clap.specs.declared.parser.matches.ArgMatches.{ArgMatches}
 use Rattle.nj_words.specs.Words.{Form, Word, is_nonempty}
-use Rattle.nj_words.specs.Parser.{Parses, form_of, given, parser_app, parser_fault, parser_rows, word_read}
+use Rattle.nj_words.specs.Parser.{IsParse, form_of, given, parser_app, parser_fault, parser_rows, word_read}
 use Rattle.nj_words.proofs.Rules.{simple_and_free}
 
 -- a form of few names is one of which the parser says all
@@ -25,7 +25,7 @@ free_app : (form : Form) (app : App) → app ≡ parser_app form → 1 + length 
 free_app form app is few = ap is_simple_and_free is ∙ simple_and_free form few
 
 pub parsed_ok : (form : Form) (app : App) (words : List Word) (found : ArgMatches) → app ≡ parser_app form → 1 + length form.names ≤ usize_max
-    → (is_simple_and_free app ≡ true → fault_of app words ≡ []) → HasMatchesOf app words found → Parses form words (Ok found)
+    → (is_simple_and_free app ≡ true → fault_of app words ≡ []) → HasMatchesOf app words found → IsParse form words found
 unfolding parser_fault parser_rows
 parsed_ok form app words found is few passes matches =
     let free = free_app form app is few in

@@ -1,7 +1,7 @@
 -- The parser's command that stands for a form, and what the parser makes of the words.
 use Rattle.std.specs.Prelude.{◌&&◌, ◌||◌, ℕ, Bool, List, [], ◌∷◌, ◌++◌, Option, Some, None, true}
 use Rattle.std.specs.Prelude.{String, string_bytes}
-use Rattle.std.specs.Prelude.{◌≡◌, Result, Ok, Err, codes, false, if◌then◌else◌, map, nat_eq, not, option_map}
+use Rattle.std.specs.Prelude.{◌≡◌, codes, false, if◌then◌else◌, map, nat_eq, not, option_map}
 use Rattle.std.specs.List.{list_any, starts_with}
 use Rattle.std.specs.Str.{bytes_eq}
 use Rattle.std.specs.Borrow.{Bor}
@@ -11,8 +11,7 @@ use Rattle.clap.specs.declared.parser.matches.ArgMatches.{ArgMatches}
 use Rattle.clap.specs.Simple.{App, Shape, matches_of, new_rule, new_shape}
 use Rattle.clap.specs.Kinds.{Kinds}
 use Rattle.clap.specs.Faults.{fault_of}
-use Rattle.nj_words.specs.declared.refused.WordsRefused.{WordsRefused}
-use Rattle.nj_words.specs.declared.refused.WordsRefused.TheVariants.{NoMemory, Usage}
+use Rattle.nj_words.specs.declared.parser.given.Given.{Given}
 use Rattle.nj_words.specs.Words.{Form, Taken, Word, is_equals_sign, is_nonempty}
 
 abbrev pub option_rule : Word → Rule
@@ -72,11 +71,10 @@ form_of names options = record { names = texts names; options = texts options }
 abbrev pub app_with : List Rule → App
 app_with rules = record { top = parser_shape rules; subs = [] }
 
--- what stands behind the getters where the parser takes the words, and which refusals it has
-abbrev pub Parses : Form → List Word → Result ArgMatches WordsRefused → Type 0
-Parses form words (Ok found) = (parser_fault form words ≡ []) × (rows_of (found_of found) ≡ parser_rows form words)
-Parses form words (Err Usage) = parser_fault form words ≡ [] → ⊥
-Parses form words (Err NoMemory) = Unit {0}
+-- the parser takes the words, and found has its rows
+abbrev pub IsParse : Form → List Word → ArgMatches → Type 0
+IsParse form words found =
+    (parser_fault form words ≡ []) × (rows_of (found_of found) ≡ parser_rows form words)
 
 -- what the getters read of a name or an option
 unfoldable pub word_read : ArgMatches → Word → Option Word
@@ -86,3 +84,10 @@ module _ {Z : Type 0} where
   -- the words, as their bytes
   abbrev pub words_of : List (String Z) → List Word
   words_of words = map string_bytes words
+
+-- what a command was given, as the rule has it
+abbrev pub taken_of : Given → Taken
+taken_of given = record {
+  names = texts given.names.items;
+  values = map (option_map (λ value. value.now)) given.values.items;
+}

@@ -1,11 +1,15 @@
 //! The parser's command that stands for a form, and its run over the words.
-ghost use Rattle.std.specs.Prelude.{◌≡◌, ◌<◌, ◌^◌, [], ◌∷◌, List, None, Some, IfErr, IfOk, false, length, map, option_map, true};
+ghost use Rattle.std.specs.Prelude.{◌≡◌, ◌<◌, ◌^◌, [], ◌∷◌, Err, List, None, Some, IfErr, IfOk, false, length, map, option_map, true};
 ghost use Rattle.clap.specs.Words.{app_of, new_rule, with_rule};
 ghost use Rattle.nj_words.specs.Parser.{app_with, form_of, option_rule, parser_app};
 ghost use Rattle.clap.specs.Walk.{texts};
-ghost use Rattle.nj_words.specs.Parser.{Parses, given, has_lone_value, is_open_option, word_read, words_of};
+ghost use Rattle.nj_words.specs.Parser.{IsParse, parser_fault, given, has_lone_value, is_open_option, word_read, words_of};
 ghost use Rattle.nj_words.specs.Words.{Word, is_nonempty};
 ghost use Rattle.nj_words.specs.declared.refused.WordsRefused.TheVariants.{Usage};
+
+mod given;
+
+pub(crate) use given::{Given, take};
 
 use crate::refused::WordsRefused;
 
@@ -61,15 +65,16 @@ fn command_of<'a>(
     Ok(command)
 }
 
-/// What the parser finds in the words after the command.
-pub(crate) fn parsed<'a>(
+// What the parser finds in the words after the command.
+fn parsed<'a>(
     alloc: Global,
     names: &'a [&'a str],
     options: &'a [&'a str],
     words: &'a [String],
 ) -> Result<ArgMatches<'a>, WordsRefused>
     requires { length names.now < 2 ^ 32 }
-    ensures { Parses (form_of names.entry.now options.entry.now) (words_of words.entry.now) result }
+    ensures found { IfOk result (IsParse (form_of names.entry.now options.entry.now) (words_of words.entry.now)) }
+    ensures usage { result ≡ Err Usage → parser_fault (form_of names.entry.now options.entry.now) (words_of words.entry.now) ≡ [] → ⊥ }
 {
     let command = command_of(alloc, names, options)?;
     match command.try_get_matches_from(words) {
@@ -87,8 +92,8 @@ fn is_open_option(word: &str) -> bool
     word.starts_with("--") && !word.as_bytes().contains(&b'=')
 }
 
-/// Whether a lone `-` stands where an option waits for its value, which the parser would take.
-pub(crate) fn has_lone_value(words: &[String]) -> bool
+// Whether a lone `-` stands where an option waits for its value, which the parser would take.
+fn has_lone_value(words: &[String]) -> bool
     ensures { result ≡ has_lone_value false (words_of words.now) }
 {
     let mut waits = false;
@@ -127,13 +132,14 @@ fn name_read<'a>(matches: &ArgMatches<'a>, id: &str) -> Result<&'a str, WordsRef
     Ok(word)
 }
 
-/// The words of the names, where each is there and none is empty.
-pub(crate) fn names_read<'a>(
+// The words of the names, where each is there and none is empty.
+fn names_read<'a>(
     alloc: Global,
     matches: &ArgMatches<'a>,
     names: &[&str],
 ) -> Result<Vec<&'a str>, WordsRefused>
     ensures read { IfOk result (λ words. given (map (word_read matches.now) (texts names.now)) ≡ Some (texts words.items)) }
+    ensures count { IfOk result (λ words. length words.items ≡ length names.now) }
     ensures usage { result ≡ Err Usage → given (map (word_read matches.now) (texts names.now)) ≡ None }
 {
     let mut words = Vec::new(alloc);
@@ -144,8 +150,8 @@ pub(crate) fn names_read<'a>(
     Ok(words)
 }
 
-/// The values of the options, where they are there.
-pub(crate) fn values_read<'a>(
+// The values of the options, where they are there.
+fn values_read<'a>(
     alloc: Global,
     matches: &ArgMatches<'a>,
     options: &[&str],
