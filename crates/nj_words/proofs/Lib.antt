@@ -1,5 +1,5 @@
 pub mod Rules
-pub mod Commands
+pub mod Filling
 pub mod Parsed
 pub mod Outcome
 pub mod Lookups
@@ -12,3 +12,4 @@ pub mod Lone
 pub mod Adds
 pub mod Readings
 pub mod Taking
+pub mod Making

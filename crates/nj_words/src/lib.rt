@@ -4,12 +4,19 @@
 //! `specs/Commands.antt`.
 #![tactic(auto)]
 
+ghost use Rattle.std.specs.Prelude.{◌≡◌, Err, IfOk, None, Some, map, string_bytes};
+ghost use Rattle.nj_words.specs.Commands.{reading};
+ghost use Rattle.nj_words.specs.declared.refused.WordsRefused.TheVariants.{Usage};
+
+mod commands;
 mod parser;
 mod refused;
 
 pub use refused::WordsRefused;
 
+use commands::{play, replay};
 use nj_seq::Text;
+use std::alloc::Global;
 
 /// A command of the program, with the names and options that it was given.
 #[derive(Clone, Debug, Drop)]
@@ -23,4 +30,20 @@ pub enum Command {
         start: Text,
         movie: Text,
     },
+}
+
+/// Reads the words that follow the program's name. Names are as they were given, so a lone `-` is
+/// a name of one byte.
+pub fn read_words(alloc: Global, words: &[String]) -> Result<Command, WordsRefused>
+    ensures read { IfOk result (λ command. reading (map string_bytes words.now) ≡ Some command) }
+    ensures usage { result ≡ Err Usage → reading (map string_bytes words.now) ≡ None }
+{
+    let Some((command, rest)) = words.split_first() else {
+        return Err(WordsRefused::Usage);
+    };
+    match command.as_str() {
+        "play" => play(alloc, rest),
+        "replay" => replay(alloc, rest),
+        _ => Err(WordsRefused::Usage),
+    }
 }

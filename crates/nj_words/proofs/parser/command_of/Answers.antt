@@ -1,7 +1,7 @@
 use Rattle.std.proofs.Common.{arith, map}
 use Rattle.clap.specs.Walk.{texts}
 use Rattle.clap.specs.Words.{new_rule}
-use Rattle.nj_words.proofs.Commands.{name_step, option_step}
+use Rattle.nj_words.proofs.Filling.{name_step, option_step}
 use Rattle.nj_words.proofs.parser.command_of.Goals as goal
 
 pub loop-name-preserved : goal.loop-name-preserved
