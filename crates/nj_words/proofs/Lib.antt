@@ -11,5 +11,6 @@ pub mod Loose
 pub mod Lone
 pub mod Adds
 pub mod Readings
+pub mod Values
 pub mod Taking
 pub mod Making

@@ -156,7 +156,8 @@ fn values_read<'a>(
     matches: &ArgMatches<'a>,
     options: &[&str],
 ) -> Result<Vec<Option<&'a str>>, AllocError>
-    ensures { IfOk result (λ values. map (option_map (λ s. s.now)) values.items ≡ map (word_read matches.now) (texts options.now)) }
+    ensures read { IfOk result (λ values. map (option_map (λ s. s.now)) values.items ≡ map (word_read matches.now) (texts options.now)) }
+    ensures count { IfOk result (λ values. length values.items ≡ length options.now) }
 {
     let mut values = Vec::new(alloc);
     for label in options {

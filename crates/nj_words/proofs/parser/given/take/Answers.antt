@@ -20,4 +20,4 @@ returns-in_err-names-clause-usage c = λ usage.
 pub returns-clause-given : goal.returns-clause-given
 returns-clause-given c =
     take_all c.args.names.now c.args.options.now c.args.words.now c.requires.few c.requires.distinct c.in_ok-matches.matches (texts c.in_ok-names.names.items) _
-    (sym c.has_lone_value.ensures ∙ c.if-has_lone_value.false) c.in_ok-matches.ensures.found c.in_ok-names.ensures.read c.in_ok-values.ensures
+    (sym c.has_lone_value.ensures ∙ c.if-has_lone_value.false) c.in_ok-matches.ensures.found c.in_ok-names.ensures.read c.in_ok-values.ensures.read
