@@ -12,7 +12,7 @@ use Rattle.clap.specs.Simple.{App, Shape, matches_of, new_rule, new_shape}
 use Rattle.clap.specs.Kinds.{Kinds}
 use Rattle.clap.specs.Faults.{fault_of}
 use Rattle.nj_words.specs.declared.parser.given.Given.{Given}
-use Rattle.nj_words.specs.Words.{Form, Taken, Word, is_equals_sign, is_nonempty}
+use Rattle.nj_words.specs.Words.{Form, Taken, Word, is_equals_sign, is_nonempty, taken}
 
 abbrev pub option_rule : Word → Rule
 option_rule label = record (new_rule label) { long = Some label }
@@ -84,6 +84,22 @@ module _ {Z : Type 0} where
   -- the words, as their bytes
   abbrev pub words_of : List (String Z) → List Word
   words_of words = map string_bytes words
+
+  -- the parser's refusal of the words, by a form of these names and options
+  abbrev pub fault_of_words : List (Bor Word) → List (Bor Word) → List (String Z) → Kinds
+  fault_of_words names options words = parser_fault (form_of names options) (words_of words)
+
+  -- the parser takes the words, by a form of these names and options, and found has its rows
+  abbrev pub Finds : List (Bor Word) → List (Bor Word) → List (String Z) → ArgMatches → Type 0
+  Finds names options words = IsParse (form_of names options) (words_of words)
+
+  -- what a form of these names and options takes from the words
+  abbrev pub taken_by : List (Bor Word) → List (Bor Word) → List (String Z) → Option Taken
+  taken_by names options words = taken (form_of names options) (words_of words)
+
+-- the words that are read of the names, where each is there and none is empty
+abbrev pub given_of : ArgMatches → List (Bor Word) → Option (List Word)
+given_of found names = given (map (word_read found) (texts names))
 
 -- what a command was given, as the rule has it
 abbrev pub taken_of : Given → Taken

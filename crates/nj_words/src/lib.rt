@@ -12,17 +12,19 @@ mod commands;
 mod parser;
 mod refused;
 
-pub use refused::WordsRefused;
-
 use commands::{play, replay};
-use nj_seq::Text;
+pub use nj_seq::Text;
+pub use refused::WordsRefused;
 use std::alloc::Global;
 
 /// A command of the program, with the names and options that it was given.
 #[derive(Clone, Debug, Drop)]
 pub enum Command {
     /// Plays a movie on a cartridge.
-    Play { cart: Text, movie: Text },
+    Play {
+        cart: Text,
+        movie: Text,
+    },
     /// Plays a movie and judges it by a script, as a search from the start movie would.
     Replay {
         cart: Text,
@@ -47,3 +49,6 @@ pub fn read_words(alloc: Global, words: &[String]) -> Result<Command, WordsRefus
         _ => Err(WordsRefused::Usage),
     }
 }
+
+#[cfg(test)]
+mod tests;

@@ -1,20 +1,20 @@
 //! The parser's command that stands for a form, and its run over the words.
-ghost use Rattle.std.specs.Prelude.{◌≡◌, ◌<◌, ◌^◌, [], ◌∷◌, Err, List, None, Some, IfErr, IfOk, false, length, map, option_map, true};
+ghost use Rattle.std.specs.Prelude.{◌≡◌, ◌<◌, ◌^◌, [], ◌∷◌, Err, List, None, Some, IfErr, IfOk, false};
+ghost use Rattle.std.specs.Prelude.{length, map, option_map, true};
 ghost use Rattle.clap.specs.Words.{app_of, new_rule, with_rule};
 ghost use Rattle.nj_words.specs.Parser.{app_with, form_of, option_rule, parser_app};
 ghost use Rattle.clap.specs.Walk.{texts};
-ghost use Rattle.nj_words.specs.Parser.{IsParse, parser_fault, given, has_lone_value, is_open_option, word_read, words_of};
+ghost use Rattle.nj_words.specs.Parser.{Finds, fault_of_words, given, given_of};
+ghost use Rattle.nj_words.specs.Parser.{has_lone_value, is_open_option, word_read, words_of};
 ghost use Rattle.nj_words.specs.Words.{Word, is_nonempty};
 ghost use Rattle.nj_words.specs.declared.refused.WordsRefused.TheVariants.{Usage};
 
 mod given;
 
-pub(crate) use given::{Given, take};
-
 use crate::refused::WordsRefused;
-
 use clap::error::ErrorKind;
 use clap::{Arg, ArgMatches, Command};
+pub(crate) use given::{Given, take};
 use std::alloc::{AllocError, Global};
 
 // A command with no names and no options, not even one for help.
@@ -31,7 +31,8 @@ fn with_name<'a>(
     command: Command<'a>,
     name: &'a str,
 ) -> Result<Command<'a>, AllocError>
-    ensures { IfOk result (λ more. app_of more ≡ with_rule (app_of command.entry) (new_rule name.entry.now)) }
+    ensures { IfOk result (λ more.
+        app_of more ≡ with_rule (app_of command.entry) (new_rule name.entry.now)) }
 {
     command.arg(Arg::new(alloc, name))
 }
@@ -41,7 +42,8 @@ fn with_option<'a>(
     command: Command<'a>,
     label: &'a str,
 ) -> Result<Command<'a>, AllocError>
-    ensures { IfOk result (λ more. app_of more ≡ with_rule (app_of command.entry) (option_rule label.entry.now)) }
+    ensures { IfOk result (λ more.
+        app_of more ≡ with_rule (app_of command.entry) (option_rule label.entry.now)) }
 {
     let arg = Arg::new(alloc, label).long(label);
     command.arg(arg)
@@ -53,7 +55,8 @@ fn command_of<'a>(
     names: &'a [&'a str],
     options: &'a [&'a str],
 ) -> Result<Command<'a>, AllocError>
-    ensures { IfOk result (λ whole. app_of whole ≡ parser_app (form_of names.entry.now options.entry.now)) }
+    ensures { IfOk result (λ whole.
+        app_of whole ≡ parser_app (form_of names.now options.now)) }
 {
     let mut command = empty_command(alloc);
     for name in names {
@@ -73,8 +76,8 @@ fn parsed<'a>(
     words: &'a [String],
 ) -> Result<ArgMatches<'a>, WordsRefused>
     requires { length names.now < 2 ^ 32 }
-    ensures found { IfOk result (IsParse (form_of names.entry.now options.entry.now) (words_of words.entry.now)) }
-    ensures usage { result ≡ Err Usage → parser_fault (form_of names.entry.now options.entry.now) (words_of words.entry.now) ≡ [] → ⊥ }
+    ensures found { IfOk result (Finds names.now options.now words.now) }
+    ensures usage { result ≡ Err Usage → fault_of_words names.now options.now words.now ≡ [] → ⊥ }
 {
     let command = command_of(alloc, names, options)?;
     match command.try_get_matches_from(words) {
@@ -121,7 +124,8 @@ fn word_read<'a>(matches: &ArgMatches<'a>, id: &str) -> Option<&'a str>
 fn name_read<'a>(matches: &ArgMatches<'a>, id: &str) -> Result<&'a str, WordsRefused>
     ensures read { IfOk result (λ word. word_read matches.now id.now ≡ Some word.now) }
     ensures full { IfOk result (λ word. is_nonempty word.now ≡ true) }
-    ensures usage { IfErr result (λ _. (rest : List _) → given (word_read matches.now id.now ∷ rest) ≡ None) }
+    ensures usage { IfErr result (λ _. (rest : List _)
+        → given (word_read matches.now id.now ∷ rest) ≡ None) }
 {
     let Some(word) = word_read(matches, id) else {
         return Err(WordsRefused::Usage);
@@ -138,9 +142,10 @@ fn names_read<'a>(
     matches: &ArgMatches<'a>,
     names: &[&str],
 ) -> Result<Vec<&'a str>, WordsRefused>
-    ensures read { IfOk result (λ words. given (map (word_read matches.now) (texts names.now)) ≡ Some (texts words.items)) }
+    ensures read { IfOk result (λ words.
+        given_of matches.now names.now ≡ Some (texts words.items)) }
     ensures count { IfOk result (λ words. length words.items ≡ length names.now) }
-    ensures usage { result ≡ Err Usage → given (map (word_read matches.now) (texts names.now)) ≡ None }
+    ensures usage { result ≡ Err Usage → given_of matches.now names.now ≡ None }
 {
     let mut words = Vec::new(alloc);
     for name in names {
@@ -156,7 +161,8 @@ fn values_read<'a>(
     matches: &ArgMatches<'a>,
     options: &[&str],
 ) -> Result<Vec<Option<&'a str>>, AllocError>
-    ensures read { IfOk result (λ values. map (option_map (λ s. s.now)) values.items ≡ map (word_read matches.now) (texts options.now)) }
+    ensures read { IfOk result (λ values. map (option_map (λ s. s.now)) values.items
+        ≡ map (word_read matches.now) (texts options.now)) }
     ensures count { IfOk result (λ values. length values.items ≡ length options.now) }
 {
     let mut values = Vec::new(alloc);

@@ -1,9 +1,10 @@
-ghost use Rattle.std.specs.Prelude.{◌≡◌, ◌<◌, ◌≤◌, ◌^◌, ◌++◌, Err, IfOk, IfSome, None, Some, length, option_map, true};
+ghost use Rattle.std.specs.Prelude.{◌≡◌, ◌<◌, ◌≤◌, ◌^◌, ◌++◌, Err, IfOk, IfSome, None, Some, length};
+ghost use Rattle.std.specs.Prelude.{option_map, true};
 ghost use Rattle.clap.specs.Walk.{texts};
-ghost use Rattle.nj_words.specs.Words.{is_distinct, taken};
+ghost use Rattle.nj_words.specs.Words.{is_distinct};
 ghost use Rattle.nj_words.specs.Commands.{name_at};
 ghost use Rattle.nj_words.specs.Options.{in_range, name_or_none, number_in, number_or, value_at};
-ghost use Rattle.nj_words.specs.Parser.{form_of, taken_of, words_of};
+ghost use Rattle.nj_words.specs.Parser.{taken_by, taken_of};
 ghost use Rattle.nj_words.specs.declared.refused.WordsRefused.TheVariants.{Usage};
 
 use super::{has_lone_value, names_read, parsed, values_read};
@@ -54,7 +55,8 @@ impl<'a> Given<'a> {
     /// A copy of the name that the option at this place gives, where the option stands.
     pub(crate) fn text(&self, alloc: Global, place: usize) -> Result<Option<Text>, WordsRefused>
         requires { place < length self.now.values.items }
-        ensures read { IfOk result (λ text. name_or_none (value_at (taken_of self.now) place) ≡ Some text) }
+        ensures read { IfOk result (λ text.
+            name_or_none (value_at (taken_of self.now) place) ≡ Some text) }
         ensures usage { result ≡ Err Usage → name_or_none (value_at (taken_of self.now) place) ≡ None }
     {
         let Some(word) = self.value(place) else {
@@ -98,10 +100,11 @@ pub(crate) fn take<'a>(
 ) -> Result<Given<'a>, WordsRefused>
     requires few { length names.now < 2 ^ 32 }
     requires distinct { is_distinct (texts names.now ++ texts options.now) ≡ true }
-    ensures given { IfOk result (λ given. taken (form_of names.entry.now options.entry.now) (words_of words.entry.now) ≡ Some (taken_of given)) }
-    ensures names_count { IfOk result (λ given. length given.names.items ≡ length names.entry.now) }
-    ensures values_count { IfOk result (λ given. length given.values.items ≡ length options.entry.now) }
-    ensures usage { result ≡ Err Usage → taken (form_of names.entry.now options.entry.now) (words_of words.entry.now) ≡ None }
+    ensures given { IfOk result (λ given.
+        taken_by names.now options.now words.now ≡ Some (taken_of given)) }
+    ensures names_count { IfOk result (λ given. length given.names.items ≡ length names.now) }
+    ensures values_count { IfOk result (λ given. length given.values.items ≡ length options.now) }
+    ensures usage { result ≡ Err Usage → taken_by names.now options.now words.now ≡ None }
 {
     if has_lone_value(words) {
         return Err(WordsRefused::Usage);

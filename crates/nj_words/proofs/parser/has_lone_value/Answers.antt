@@ -19,8 +19,8 @@ loop-word-preserved c =
     let next = lone_next c.args.words.now c.loop-word.word-index c.word-item.result c.as_str-word.result.now c.loop-word.waits _ (omega arith) c.word-item.is c.as_str-word.ensures.value
     c.loop-word.invariant c.is_open_option-waits.result (search rules) in
     elim c.else-waits.branch [
-      else-waits-via-then-waits+else-eq-2 w ↦ next (ap₂ (λ a b. a && b) w.if-waits.true (sym w.if-eq-2.ensures)) c.is_open_option-waits.ensures
-    | else-waits-via-else-waits w ↦ next (ap (λ a. a && bytes_eq c.as_str-word.result.now (codes "-")) w.if-waits.false) c.is_open_option-waits.ensures
+      | else-waits-via-then-waits+else-eq-2 w ↦ next (ap₂ (λ a b. a && b) w.if-waits.true (sym w.if-eq-2.ensures)) c.is_open_option-waits.ensures
+      | else-waits-via-else-waits w ↦ next (ap (λ a. a && bytes_eq c.as_str-word.result.now (codes "-")) w.if-waits.false) c.is_open_option-waits.ensures
     ]
 
 pub returns : goal.returns
