@@ -1,18 +1,15 @@
 -- What the pieces add up to is what the form takes from them.
-use Rattle.std.proofs.Common.{◌≡◌, ◌∙◌, ◌≤◌, ◌<◌, ◌+◌, ◌-◌, ◌&&◌, ◌||◌, ◌==◌, ℕ, Bool, cond, true, false, not, zero, suc, refl, sym, ap, ap₂, subst, arith, List, [], ◌∷◌, ◌++◌, map, length, drop, Option, Some, None, is_some, codes, true≢false, eq-eqb, ne_eqb, eqb-true, append-nil, append_assoc}
-use Rattle.std.specs.Prelude.{option_and_then}
-use Rattle.std.specs.Option.{option_map}
+use Rattle.std.proofs.Common.{◌≡◌, ◌∙◌, ◌&&◌, ◌||◌, Bool, cond, true, false, not, refl, sym, ap, ap₂, List, [], ◌∷◌, ◌++◌, Some, None, true≢false, append-nil, append_assoc}
 use Rattle.std.specs.Str.{bytes_eq}
-use Rattle.std.specs.List.{list_all, list_any}
+use Rattle.std.specs.List.{list_all}
 use Rattle.std.proofs.lemmas.Bool.{and_parts, not-true, or_right as or_second}
 use Rattle.std.proofs.lemmas.Bool.Decides.{Decides-like, same_from_decides}
 use Rattle.std.proofs.lemmas.Slice.Eq.{bytes_eq-Decides}
-use Rattle.clap.specs.Walk.{Row, first_of, has_row}
-use Rattle.nj_words.specs.Words.{Form, Piece, Taken, Word, fits, is_among, is_distinct, is_nonempty, labels_in, name, names_in, option, taken_from, value_in}
-use Rattle.nj_words.specs.Parser.{given, taken_rows}
+use Rattle.clap.specs.Walk.{Row, has_row}
+use Rattle.nj_words.specs.Words.{Piece, Word, is_among, is_distinct, labels_in, name, names_in, option}
 use Rattle.nj_words.proofs.Rules.{and_false}
 use Rattle.nj_words.proofs.Lookups.{equals_itself, same_word}
-use Rattle.nj_words.proofs.Settles.{adds, use_row}
+use Rattle.nj_words.proofs.Settles.{use_row}
 use Rattle.nj_words.proofs.Walks.{added}
 
 -- there are enough ids for the names

@@ -1,5 +1,5 @@
 -- Steps of the loops that fill the parser's command.
-use Rattle.std.proofs.Common.{◌≡◌, ◌∙◌, ◌<◌, ◌+◌, ℕ, suc, zero, refl, sym, ap, List, [], ◌∷◌, ◌++◌, map, length, take, slice_index_or, append_assoc}
+use Rattle.std.proofs.Common.{◌≡◌, ◌∙◌, ◌<◌, ◌+◌, ℕ, sym, ap, List, [], ◌∷◌, ◌++◌, map, length, take, slice_index_or, append_assoc}
 use Rattle.std.specs.Borrow.{Bor}
 use Rattle.std.proofs.lemmas.List.{map-append, take_more}
 use Rattle.clap.specs.Walk.{Rule, texts}

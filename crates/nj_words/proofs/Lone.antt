@@ -1,5 +1,5 @@
 -- Steps of the search for a lone hyphen that stands for a value.
-use Rattle.std.proofs.Common.{◌≡◌, ◌∙◌, ◌<◌, ◌≤◌, ◌+◌, ◌&&◌, ◌||◌, ℕ, Bool, cond, true, false, suc, zero, refl, sym, ap, ap₂, List, [], ◌∷◌, map, length, drop, get_or, codes, String, string_bytes}
+use Rattle.std.proofs.Common.{◌≡◌, ◌∙◌, ◌<◌, ◌≤◌, ◌+◌, ◌&&◌, ◌||◌, ℕ, Bool, cond, true, false, sym, ap, List, ◌∷◌, length, drop, get_or, codes, String, string_bytes}
 use Rattle.std.specs.Str.{bytes_eq}
 use Rattle.std.proofs.lemmas.List.{at_drop_all, at_drop_more}
 use Rattle.nj_words.specs.Words.{Word}

@@ -1,12 +1,11 @@
 -- What the parser finds among the rules of a form.
-use Rattle.std.proofs.Common.{◌≡◌, ◌∙◌, ◌≤◌, ◌<◌, ◌+◌, ◌-◌, ◌&&◌, ◌||◌, ◌==◌, ℕ, Bool, cond, true, false, not, zero, suc, refl, sym, ap, ap₂, subst, arith, List, [], ◌∷◌, ◌++◌, map, length, drop, Option, Some, None, is_some, codes, true≢false, eq-eqb, ne_eqb}
-use Rattle.std.specs.List.{find, fold, list_all, list_any}
-use Rattle.std.specs.Option.{option_map, option_map_or}
+use Rattle.std.proofs.Common.{◌≡◌, ◌∙◌, ◌+◌, ◌==◌, ℕ, Bool, cond, true, false, zero, suc, refl, sym, ap, arith, List, [], ◌∷◌, Option, Some, None, true≢false, eq-eqb, ne_eqb}
+use Rattle.std.specs.Option.{option_map}
 use Rattle.std.specs.Prelude.{slice_get}
 use Rattle.std.specs.Str.{bytes_eq}
 use Rattle.std.proofs.lemmas.Slice.Eq.{bytes_eq-Decides}
 use Rattle.clap.specs.Walk.{Rule, arg_by_id, arg_by_index, arg_by_long, arg_by_short}
-use Rattle.nj_words.specs.Words.{Form, Word, is_among}
+use Rattle.nj_words.specs.Words.{Word, is_among}
 use Rattle.nj_words.proofs.Rules.{option_use, use_rule, uses}
 
 pub same_word : (word other : Word) → bytes_eq word other ≡ true → word ≡ other

@@ -1,10 +1,10 @@
 -- From what a form takes to a command, and from a command to the reading.
-use Rattle.std.proofs.Common.{◌≡◌, ◌∙◌, [], ◌∷◌, List, Option, Some, None, String, ap, arith, codes, cond, false, length, true, refl, string_bytes, sym}
+use Rattle.std.proofs.Common.{◌≡◌, ◌∙◌, [], ◌∷◌, List, Some, None, String, ap, arith, codes, false, length, refl, string_bytes, sym}
 use Rattle.std.proofs.lemmas.Bool.{false_from_ne_true}
-use Rattle.std.specs.Prelude.{find, option_and_then}
+use Rattle.std.specs.Prelude.{option_and_then}
 use Rattle.std.specs.Borrow.{Bor}
 use Rattle.std.specs.Str.{bytes_eq}
-use Rattle.nj_words.specs.Words.{Form, Taken, Word, taken}
+use Rattle.nj_words.specs.Words.{Taken, Word, taken}
 use Rattle.nj_words.specs.Commands.{Row, command_of, play, reading, replay}
 use Rattle.nj_words.specs.Parser.{form_of, words_of}
 use Rattle.nj_words.proofs.Lookups.{same_word}

@@ -1,14 +1,14 @@
 -- What the parser finds in the words, or that it refuses them, as one value.
-use Rattle.std.proofs.Common.{◌≡◌, ◌∙◌, ◌≤◌, ◌<◌, ◌+◌, ◌-◌, ◌&&◌, ◌||◌, ◌==◌, ℕ, Bool, cond, true, false, not, zero, suc, refl, sym, ap, ap₂, subst, arith, List, [], ◌∷◌, ◌++◌, map, length, drop, Option, Some, None, is_some, codes}
-use Rattle.std.specs.List.{find, fold, list_all, list_any}
+use Rattle.std.proofs.Common.{◌≡◌, ◌∙◌, ◌≤◌, ◌+◌, false, refl, ap, ap₂, List, [], ◌∷◌, length, Option, Some, None, is_some}
+use Rattle.std.specs.List.{fold}
 use Rattle.clap.specs.Lexer.{usize_max}
-use Rattle.clap.specs.Walk.{Held, Names, Row, Rule, Text, Walk, settled, settled_rows, finished, with_default, walk, walk_from, walked, nothing_held, rows_after}
-use Rattle.clap.specs.Simple.{App, Shape, built, entered, names_of}
+use Rattle.clap.specs.Walk.{Held, Row, Rule, Text, Walk, settled_rows, finished, walk, walk_from, walked, nothing_held, rows_after}
+use Rattle.clap.specs.Simple.{App, Shape, entered, names_of}
 use Rattle.clap.specs.Kinds.{Kinds, or_else}
 use Rattle.clap.specs.Faults.{built_fault, check_fault, defaults_fault, entered_fault, level_fault, settle_fault, turn_fault, walk_fault}
 use Rattle.nj_words.specs.Words.{Form, Word}
-use Rattle.nj_words.specs.Parser.{parser_app, parser_fault, parser_rows}
-use Rattle.nj_words.proofs.Rules.{built_is, built_shape, kept_all, no_check, no_defaults, uses}
+use Rattle.nj_words.specs.Parser.{parser_fault, parser_rows}
+use Rattle.nj_words.proofs.Rules.{built_is, built_shape, kept_all, no_check, no_defaults}
 
 -- nothing where there is a fault
 abbrev pub unless : {X : Type 0} → Kinds → Option X → Option X

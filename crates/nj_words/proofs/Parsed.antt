@@ -1,9 +1,9 @@
 -- What the parser's own clauses say of a form's command.
-use Rattle.std.proofs.Common.{◌≡◌, ◌∙◌, ◌<◌, ◌≤◌, ◌+◌, ◌^◌, ◌⊎◌, ℕ, Bool, cond, true, false, suc, zero, refl, sym, ap, ap₂, subst, arith, lit≤, List, [], ◌∷◌, ◌++◌, map, length, take, drop, Option, Some, None, Result, Ok, Err, ⊎_elim, true≢false, append-nil, append_assoc, slice_index_or}
+use Rattle.std.proofs.Common.{◌≡◌, ◌∙◌, ◌<◌, ◌≤◌, ◌+◌, ◌^◌, ℕ, cond, true, false, refl, sym, ap, subst, arith, List, [], ◌∷◌, ◌++◌, map, length, drop, Option, Some, None, ⊎_elim, append-nil, append_assoc, slice_index_or}
 use Rattle.std.specs.Option.{option_map}
 use Rattle.std.specs.Borrow.{Bor}
 use Rattle.std.proofs.lemmas.Bool.{and_parts}
-use Rattle.std.proofs.lemmas.List.{at_drop_all, at_drop_more, length-map, map-append, take_more}
+use Rattle.std.proofs.lemmas.List.{at_drop_all, at_drop_more, length-map, map-append}
 use Rattle.clap.specs.Lexer.{usize_max}
 use Rattle.clap.specs.Walk.{texts}
 use Rattle.clap.specs.Simple.{App, HasMatchesOf, is_simple}
@@ -14,7 +14,7 @@ use Rattle.clap.specs.declared.error.Error.{Error}
 use Rattle.clap.specs.declared.error.kind.ErrorKind.TheVariants.{OutOfMemory}
 use Rattle.clap.specs.declared.parser.matches.ArgMatches.{ArgMatches}
 use Rattle.nj_words.specs.Words.{Form, Word, is_nonempty}
-use Rattle.nj_words.specs.Parser.{IsParse, form_of, given, parser_app, parser_fault, parser_rows, word_read}
+use Rattle.nj_words.specs.Parser.{IsParse, given, parser_app, parser_fault, parser_rows}
 use Rattle.nj_words.proofs.Rules.{simple_and_free}
 
 -- a form of few names is one of which the parser says all

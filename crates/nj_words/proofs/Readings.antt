@@ -1,23 +1,23 @@
 -- What the getters read of the rows of the pieces, and the whole reading of a form.
-use Rattle.std.proofs.Common.{◌≡◌, ◌∙◌, ◌≤◌, ◌<◌, ◌+◌, ◌-◌, ◌&&◌, ◌||◌, ◌==◌, ℕ, Bool, cond, true, false, not, zero, suc, refl, sym, ap, ap₂, subst, arith, List, [], ◌∷◌, ◌++◌, map, length, drop, Option, Some, None, is_some, codes, true≢false, eq-eqb, ne_eqb, eqb-true, append-nil, append_assoc}
+use Rattle.std.proofs.Common.{◌≡◌, ◌∙◌, ◌≤◌, ◌+◌, ◌&&◌, ◌||◌, ◌==◌, ℕ, Bool, cond, true, false, suc, refl, sym, ap, ap₂, arith, List, [], ◌∷◌, ◌++◌, map, length, Option, Some, None, true≢false, ne_eqb}
 use Rattle.std.specs.Prelude.{option_and_then}
 use Rattle.std.specs.Option.{option_map}
 use Rattle.std.specs.Str.{bytes_eq}
-use Rattle.std.specs.List.{list_all, list_any}
+use Rattle.std.specs.List.{list_all}
 use Rattle.std.proofs.lemmas.Bool.{and_parts, and_from, false_from_ne_true, not_from_false, not-true, or_from, or_parts, or_right as or_second}
 use Rattle.std.proofs.lemmas.Bool.Decides.{Decides-eqb, Decides-like, same_from_decides}
 use Rattle.clap.specs.Lexer.{usize_max}
-use Rattle.clap.specs.Walk.{Row, first_of, has_row}
-use Rattle.nj_words.specs.Words.{Form, Piece, Taken, Word, fits, is_among, is_distinct, is_nonempty, labels_in, name, names_in, option, pieces, taken, taken_from, value_in}
+use Rattle.clap.specs.Walk.{Row, first_of}
+use Rattle.nj_words.specs.Words.{Form, Piece, Taken, Word, fits, is_among, is_distinct, is_nonempty, labels_in, name, names_in, option, taken, taken_from, value_in}
 use Rattle.nj_words.specs.Parser.{given, has_lone_value, parser_fault, parser_rows, taken_rows}
 use Rattle.nj_words.proofs.Binds.{then_then}
 use Rattle.nj_words.proofs.Outcome.{unless}
-use Rattle.nj_words.proofs.Rules.{and_false, same_either}
+use Rattle.nj_words.proofs.Rules.{and_false}
 use Rattle.nj_words.proofs.Lookups.{equals_itself, same_word}
 use Rattle.nj_words.proofs.Settles.{use_row}
 use Rattle.nj_words.proofs.Walks.{AreUtf8, added, loose, parse_is}
 use Rattle.nj_words.proofs.Loose.{splits}
-use Rattle.nj_words.proofs.Adds.{AreApart, can_add, closes, is_enough, is_new, piece_rows, same_tests}
+use Rattle.nj_words.proofs.Adds.{AreApart, closes, is_enough, is_new, piece_rows, same_tests}
 
 same_count : (m n : ℕ) → (suc m == suc n) ≡ (m == n)
 same_count m n = same_from_decides _ _ (Decides-eqb (suc m) (suc n)) (Decides-like _ (λ e. ap suc e) (λ e. omega arith) (Decides-eqb m n))

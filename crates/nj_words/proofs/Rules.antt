@@ -1,13 +1,11 @@
 -- What the parser reads of a form's command once it is built.
-use Rattle.std.proofs.Common.{◌≡◌, ◌∙◌, ◌≤◌, ◌<◌, ◌+◌, ◌-◌, ◌&&◌, ◌||◌, ◌==◌, ℕ, Bool, cond, true, false, not, zero, suc, refl, sym, ap, ap₂, subst, arith, List, [], ◌∷◌, ◌++◌, map, length, min, Option, Some, None, is_some, codes}
-use Rattle.std.specs.List.{find, fold, list_all, list_any}
-use Rattle.std.specs.Prelude.{slice_get}
+use Rattle.std.proofs.Common.{◌≡◌, ◌∙◌, ◌≤◌, ◌+◌, ◌&&◌, ◌||◌, ℕ, Bool, cond, true, false, not, refl, ap, arith, List, [], ◌∷◌, ◌++◌, map, length, min, Option, Some, None, is_some}
+use Rattle.std.specs.List.{fold, list_all, list_any}
 use Rattle.clap.specs.Lexer.{usize_max}
-use Rattle.clap.specs.Walk.{Held, Names, Row, Rule, settled, finished, has_row, with_default, walk, nothing_held, is_early_multiple}
-use Rattle.clap.specs.Simple.{App, Shape, built, entered, is_buildable, is_ready, is_ready_leaf, is_simple, new_rule, filled_from}
-use Rattle.clap.specs.Kinds.{Kinds, or_else}
+use Rattle.clap.specs.Walk.{Row, Rule, has_row, with_default, is_early_multiple}
+use Rattle.clap.specs.Simple.{App, Shape, built, is_buildable, is_ready, is_ready_leaf, new_rule, filled_from}
 use Rattle.clap.specs.Takes.{is_given}
-use Rattle.clap.specs.Faults.{check_fault, default_fault, defaults_fault, entered_fault, fault_of, is_free_app, is_simple_and_free, settle_fault, walk_fault}
+use Rattle.clap.specs.Faults.{check_fault, default_fault, defaults_fault, is_free_app, is_simple_and_free}
 use Rattle.clap.specs.declared.builder.action.ArgAction.TheVariants.{Set}
 use Rattle.clap.specs.declared.builder.value_parser.ValueParser.TheVariants as vp
 use Rattle.nj_words.specs.Words.{Form, Word}

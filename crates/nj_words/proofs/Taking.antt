@@ -1,14 +1,14 @@
 -- From the steps of the code to what the form takes.
-use Rattle.std.proofs.Common.{◌≡◌, ◌∙◌, ◌<◌, ◌≤◌, ◌+◌, ◌^◌, Bool, cond, true, false, refl, sym, ap, List, [], ◌∷◌, ◌++◌, map, length, Option, Some, None, String, string_bytes}
+use Rattle.std.proofs.Common.{◌≡◌, ◌∙◌, ◌<◌, ◌^◌, cond, true, false, refl, sym, ap, List, [], ◌∷◌, ◌++◌, map, length, Option, Some, None, String}
 use Rattle.std.specs.Option.{option_map}
 use Rattle.std.specs.Prelude.{option_and_then}
 use Rattle.std.specs.Borrow.{Bor}
 use Rattle.std.proofs.lemmas.Str.{IsUtf8-string_bytes}
-use Rattle.clap.specs.Walk.{Row, first_of, rows_of, texts}
+use Rattle.clap.specs.Walk.{first_of, rows_of, texts}
 use Rattle.clap.specs.Matches.{found_of}
 use Rattle.clap.specs.Kinds.{Kinds}
 use Rattle.clap.specs.declared.parser.matches.ArgMatches.{ArgMatches}
-use Rattle.nj_words.specs.Words.{Form, Taken, Word, is_distinct, taken}
+use Rattle.nj_words.specs.Words.{Word, is_distinct, taken}
 use Rattle.nj_words.specs.Parser.{IsParse, form_of, given, has_lone_value, parser_fault, parser_rows, taken_rows, word_read, words_of}
 use Rattle.nj_words.proofs.Outcome.{unless}
 use Rattle.nj_words.proofs.Parsed.{is_few}

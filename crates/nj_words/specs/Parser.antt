@@ -1,5 +1,5 @@
 -- The parser's command that stands for a form, and what the parser makes of the words.
-use Rattle.std.specs.Prelude.{◌&&◌, ◌||◌, ℕ, Bool, List, [], ◌∷◌, ◌++◌, Option, Some, None, true}
+use Rattle.std.specs.Prelude.{◌&&◌, ◌||◌, Bool, List, [], ◌∷◌, ◌++◌, Option, Some, None, true}
 use Rattle.std.specs.Prelude.{String, string_bytes}
 use Rattle.std.specs.Prelude.{◌≡◌, codes, false, if◌then◌else◌, map, nat_eq, not, option_map}
 use Rattle.std.specs.List.{list_any, starts_with}

@@ -1,8 +1,8 @@
 -- How the words of a command line are read: a rule on the whole list of words, each seen as its
--- bytes. The rule is our own, near the long options of GNU getopt_long, but for abbreviations, flags
--- and short options, of which there are none.
-use Rattle.std.specs.Prelude.{◌==◌, ◌&&◌, ◌||◌, ℕ, Bool, true, false, not, List, [], ◌∷◌, Option}
-use Rattle.std.specs.Prelude.{Some, None, codes, drop, find, if◌then◌else◌, length, map, nat_eq}
+-- bytes. The rule is our own, near the long options of GNU getopt_long, but for abbreviations,
+-- flags and short options, of which there are none.
+use Rattle.std.specs.Prelude.{◌==◌, ◌&&◌, ◌||◌, ℕ, Bool, true, not, List, [], ◌∷◌, Option}
+use Rattle.std.specs.Prelude.{Some, None, codes, drop, if◌then◌else◌, length, map, nat_eq}
 use Rattle.std.specs.Prelude.{option_and_then, option_map}
 use Rattle.std.specs.List.{after_first, before_first, list_all, list_any, starts_with}
 use Rattle.std.specs.Str.{bytes_eq}

@@ -1,6 +1,6 @@
 //! The parser's command that stands for a form, and its run over the words.
-ghost use Rattle.std.specs.Prelude.{◌≡◌, ◌<◌, ◌^◌, [], ◌∷◌, Err, List, None, Some, IfErr, IfOk, false};
-ghost use Rattle.std.specs.Prelude.{length, map, option_map, true};
+ghost use Rattle.std.specs.Prelude.{◌≡◌, ◌<◌, ◌^◌, [], ◌∷◌, Err, List, None, Some, IfErr};
+ghost use Rattle.std.specs.Prelude.{IfOk, false, length, map, option_map, true};
 ghost use Rattle.clap.specs.Words.{app_of, new_rule, with_rule};
 ghost use Rattle.nj_words.specs.Parser.{app_with, form_of, option_rule, parser_app};
 ghost use Rattle.clap.specs.Walk.{texts};

@@ -1,5 +1,5 @@
-ghost use Rattle.std.specs.Prelude.{◌≡◌, ◌<◌, ◌≤◌, ◌^◌, ◌++◌, Err, IfOk, IfSome, None, Some, length};
-ghost use Rattle.std.specs.Prelude.{option_map, true};
+ghost use Rattle.std.specs.Prelude.{◌≡◌, ◌<◌, ◌≤◌, ◌^◌, ◌++◌, Err, IfOk, IfSome, None, Some};
+ghost use Rattle.std.specs.Prelude.{length, option_map, true};
 ghost use Rattle.clap.specs.Walk.{texts};
 ghost use Rattle.nj_words.specs.Words.{is_distinct};
 ghost use Rattle.nj_words.specs.Commands.{name_at};
@@ -57,7 +57,8 @@ impl<'a> Given<'a> {
         requires { place < length self.now.values.items }
         ensures read { IfOk result (λ text.
             name_or_none (value_at (taken_of self.now) place) ≡ Some text) }
-        ensures usage { result ≡ Err Usage → name_or_none (value_at (taken_of self.now) place) ≡ None }
+        ensures usage { result ≡ Err Usage
+            → name_or_none (value_at (taken_of self.now) place) ≡ None }
     {
         let Some(word) = self.value(place) else {
             return Ok(None);

@@ -1,4 +1,4 @@
-use Rattle.std.proofs.Common.{◌∙◌, ◌&&◌, arith, false, rules, sym, ap, ap₂, codes}
+use Rattle.std.proofs.Common.{◌&&◌, arith, rules, sym, ap, ap₂, codes}
 use Rattle.std.specs.Str.{bytes_eq}
 use Rattle.nj_words.proofs.Lone.{lone_ends, lone_found, lone_mark, lone_next}
 use Rattle.nj_words.proofs.parser.has_lone_value.Goals as goal

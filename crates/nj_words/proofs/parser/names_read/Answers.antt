@@ -1,4 +1,4 @@
-use Rattle.std.proofs.Common.{◌∷◌, [], ap, arith, length, rules}
+use Rattle.std.proofs.Common.{◌∷◌, [], ap, arith, length}
 use Rattle.std.proofs.lemmas.List.{length-append}
 use Rattle.nj_words.specs.Parser.{word_read}
 use Rattle.nj_words.proofs.Parsed.{given_ends, given_step}
