@@ -17,25 +17,31 @@ pub record Row : Type 0 where
 abbrev pub name_at : Taken → ℕ → Word
 name_at taken place = unwrap_or (slice_get taken.names place) []
 
+-- `play CART MOVIE`; our own
 abbrev pub play_form : Form
 play_form = record { names = codes "CART" ∷ codes "MOVIE" ∷ []; options = [] }
 
+-- the names of `play`, by their places; our own
 abbrev pub play_of : Taken → Option Command
 play_of taken = Some (Play (name_at taken 0) (name_at taken 1))
 
+-- `replay CART SCRIPT START MOVIE`; our own
 abbrev pub replay_form : Form
 replay_form = record {
   names = codes "CART" ∷ codes "SCRIPT" ∷ codes "START" ∷ codes "MOVIE" ∷ [];
   options = [];
 }
 
+-- the names of `replay`, by their places; our own
 abbrev pub replay_of : Taken → Option Command
 replay_of taken =
     Some (Replay (name_at taken 0) (name_at taken 1) (name_at taken 2) (name_at taken 3))
 
+-- the command `play`; our own
 abbrev pub play : Row
 play = record { word = codes "play"; form = play_form; made = play_of }
 
+-- the command `replay`; our own
 abbrev pub replay : Row
 replay = record { word = codes "replay"; form = replay_form; made = replay_of }
 

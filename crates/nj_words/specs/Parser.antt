@@ -1,4 +1,5 @@
--- The parser's command that stands for a form, and what the parser makes of the words.
+-- The parser's command that stands for a form, and what the parser makes of the words. All of it
+-- is our own, over the definitions of the kit's `clap`.
 use Rattle.std.specs.Prelude.{◌&&◌, ◌||◌, Bool, List, [], ◌∷◌, ◌++◌, Option, Some, None, true}
 use Rattle.std.specs.Prelude.{String, string_bytes}
 use Rattle.std.specs.Prelude.{◌≡◌, codes, false, if◌then◌else◌, map, nat_eq, not, option_map}
@@ -14,9 +15,11 @@ use Rattle.clap.specs.Faults.{fault_of}
 use Rattle.nj_words.specs.declared.parser.given.Given.{Given}
 use Rattle.nj_words.specs.Words.{Form, Taken, Word, is_equals_sign, is_nonempty, taken}
 
+-- an option `--label` with one value
 abbrev pub option_rule : Word → Rule
 option_rule label = record (new_rule label) { long = Some label }
 
+-- a command of the parser with these rules, and no flag for help
 abbrev pub parser_shape : List Rule → Shape
 parser_shape rules = record (new_shape (codes "nj")) {
   rules = rules;
@@ -28,6 +31,7 @@ parser_shape rules = record (new_shape (codes "nj")) {
 abbrev pub parser_rules : Form → List Rule
 parser_rules form = map new_rule form.names ++ map option_rule form.options
 
+-- the parser's command of a form
 abbrev pub parser_app : Form → App
 parser_app form = record { top = parser_shape (parser_rules form); subs = [] }
 

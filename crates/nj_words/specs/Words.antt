@@ -27,9 +27,11 @@ pub data WordKind : Type 0 where
   plain : WordKind
   unreadable : WordKind
 
+-- the word begins with `-`; our own
 abbrev pub begins_with_hyphen : Word → Bool
 begins_with_hyphen word = starts_with nat_eq word (codes "-")
 
+-- the byte is `=`, by ASCII
 abbrev pub is_equals_sign : ℕ → Bool
 is_equals_sign byte = byte == 61
 
@@ -45,12 +47,12 @@ kind_of_word word = if bytes_eq word (codes "--") then names_follow
     else (if starts_with nat_eq word (codes "--") then option_kind (drop 2 word)
     else (if bytes_eq word (codes "-") || not (begins_with_hyphen word) then plain else unreadable))
 
--- a piece before the others, where those can be read
+-- a piece before the others, where those can be read; our own
 abbrev pub before_others : Piece → Option (List Piece) → Option (List Piece)
 before_others piece = option_map (λ pieces. piece ∷ pieces)
 
--- a word of this kind and the words after it, which `read` reads, given the option that waits for
--- its value
+-- the pieces of a word of this kind and of the words after it, which `read` reads, given the
+-- option that waits for its value; our own
 abbrev pub read_kind : WordKind → Word → List Word → (Option Word → Option (List Piece))
     → Option (List Piece)
 read_kind names_follow word words read = Some (map name words)
@@ -89,6 +91,7 @@ value_in (name word ∷ rest) label = value_in rest label
 value_in (option other value ∷ rest) label =
     if bytes_eq other label then Some value else value_in rest label
 
+-- the word is one of the words; our own
 abbrev pub is_among : Word → List Word → Bool
 is_among word words = list_any (λ other. bytes_eq other word) words
 
@@ -97,6 +100,7 @@ abbrev pub is_distinct : List Word → Bool
 is_distinct [] = true
 is_distinct (word ∷ words) = not (is_among word words) && is_distinct words
 
+-- the word has a byte; our own
 abbrev pub is_nonempty : Word → Bool
 is_nonempty word = not (length word == 0)
 
