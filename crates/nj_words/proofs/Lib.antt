@@ -14,3 +14,4 @@ pub mod Readings
 pub mod Values
 pub mod Taking
 pub mod Making
+pub mod Grammar

@@ -169,8 +169,8 @@ pieces_read form ps distinct =
         → option_and_then (taken_rows form) (cond (enough && (known && distinct)) (Some (piece_rows form.names ps)) None)
         ≡ cond (length (names_in ps) == length form.names && (list_all is_nonempty (names_in ps) && (known && distinct))) (Some (made (map (value_in ps) form.options) (names_in ps))) None
     go enough e false k distinct nd apart =
-        rw (and_false) (sym (none_left _ _ false distinct refl))
-    go enough e true k false nd apart = rw (and_false) (sym (none_left _ _ true false refl))
+        rw (and_false enough) (sym (none_left _ _ false distinct refl))
+    go enough e true k false nd apart = rw (and_false enough) (sym (none_left _ _ true false refl))
     go false e true k true nd apart = rw (not_enough form.names (names_in ps) e) refl
     go true e true k true nd apart =
         rw (names_read form.names ps nd (options_apart form.names form.options (labels_in ps) apart k) e)

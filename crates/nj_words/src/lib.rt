@@ -1,11 +1,13 @@
 //! The words of the command line, read through `clap` into a command.
 //!
-//! The rule on the words stands in `specs/Words.antt`, and the table of commands in
-//! `specs/Commands.antt`.
+//! The rule on the words stands in `specs/Words.antt`, once more as a grammar in
+//! `specs/Grammar.antt`, and the table of commands in `specs/Commands.antt`. A command more is a
+//! row of that table, a variant of [`Command`], and a function as those of `commands`.
 #![tactic(auto)]
 
 ghost use Rattle.std.specs.Prelude.{◌≡◌, Err, IfOk, None, Some, map, string_bytes};
 ghost use Rattle.nj_words.specs.Commands.{reading};
+ghost use Rattle.nj_words.specs.Grammar.{PiecesAreSaid};
 ghost use Rattle.nj_words.specs.declared.refused.WordsRefused.TheVariants.{Usage};
 
 mod commands;
@@ -49,6 +51,11 @@ pub fn read_words(alloc: Global, words: &[String]) -> Result<Command, WordsRefus
         _ => Err(WordsRefused::Usage),
     }
 }
+
+/// Words are split into names and options as their grammar has it: a law over definitions alone.
+pub fn pieces_are_said()
+    ensures { PiecesAreSaid }
+{}
 
 #[cfg(test)]
 mod tests;
