@@ -5,7 +5,7 @@ use Rattle.std.specs.Prelude.{option_and_then}
 use Rattle.std.specs.Borrow.{Bor}
 use Rattle.std.specs.Str.{bytes_eq}
 use Rattle.nj_words.specs.Words.{Taken, Word, taken}
-use Rattle.nj_words.specs.Commands.{Row, command_of, play, reading, replay}
+use Rattle.nj_words.specs.Commands.{Row, command_of, play_row, reading, replay_row}
 use Rattle.nj_words.specs.Parser.{form_of, words_of}
 use Rattle.nj_words.proofs.Lookups.{same_word}
 
@@ -32,11 +32,11 @@ unfolding reading
 nothing_read [] none = refl
 nothing_read (word ∷ words) none = absurd (omega arith)
 
-pub play_read : (words : List Word) → reading (codes "play" ∷ words) ≡ command_of play words
+pub play_read : (words : List Word) → reading (codes "play" ∷ words) ≡ command_of play_row words
 unfolding reading
 play_read words = refl
 
-pub replay_read : (words : List Word) → reading (codes "replay" ∷ words) ≡ command_of replay words
+pub replay_read : (words : List Word) → reading (codes "replay" ∷ words) ≡ command_of replay_row words
 unfolding reading
 replay_read words = refl
 

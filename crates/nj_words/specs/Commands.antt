@@ -38,16 +38,16 @@ replay_of taken =
     Some (Replay (name_at taken 0) (name_at taken 1) (name_at taken 2) (name_at taken 3))
 
 -- the command `play`; our own
-abbrev pub play : Row
-play = record { word = codes "play"; form = play_form; made = play_of }
+abbrev pub play_row : Row
+play_row = record { word = codes "play"; form = play_form; made = play_of }
 
 -- the command `replay`; our own
-abbrev pub replay : Row
-replay = record { word = codes "replay"; form = replay_form; made = replay_of }
+abbrev pub replay_row : Row
+replay_row = record { word = codes "replay"; form = replay_form; made = replay_of }
 
 -- the commands that there are; our own
 abbrev pub table : List Row
-table = play ∷ replay ∷ []
+table = play_row ∷ replay_row ∷ []
 
 -- what the words after the command's own make of it, or none; our own
 unfoldable pub command_of : Row → List Word → Option Command

@@ -1,6 +1,6 @@
 //! Each command, with its names.
 ghost use Rattle.std.specs.Prelude.{◌≡◌, Err, IfOk, None, Some};
-ghost use Rattle.nj_words.specs.Commands.{command_of, play, replay};
+ghost use Rattle.nj_words.specs.Commands.{command_of, play_row, replay_row};
 ghost use Rattle.nj_words.specs.Parser.{words_of};
 ghost use Rattle.nj_words.specs.declared.refused.WordsRefused.TheVariants.{Usage};
 
@@ -14,8 +14,9 @@ static NO_OPTIONS: [&str; 0] = [];
 static PLAY_NAMES: [&str; 2] = ["CART", "MOVIE"];
 
 pub(crate) fn play(alloc: Global, words: &[String]) -> Result<Command, WordsRefused>
-    ensures read { IfOk result (λ command. command_of play (words_of words.now) ≡ Some command) }
-    ensures usage { result ≡ Err Usage → command_of play (words_of words.now) ≡ None }
+    ensures read { IfOk result (λ command.
+        command_of play_row (words_of words.now) ≡ Some command) }
+    ensures usage { result ≡ Err Usage → command_of play_row (words_of words.now) ≡ None }
 {
     let given = take(alloc, PLAY_NAMES.as_slice(), NO_OPTIONS.as_slice(), words)?;
     Ok(Command::Play {
@@ -27,8 +28,9 @@ pub(crate) fn play(alloc: Global, words: &[String]) -> Result<Command, WordsRefu
 static REPLAY_NAMES: [&str; 4] = ["CART", "SCRIPT", "START", "MOVIE"];
 
 pub(crate) fn replay(alloc: Global, words: &[String]) -> Result<Command, WordsRefused>
-    ensures read { IfOk result (λ command. command_of replay (words_of words.now) ≡ Some command) }
-    ensures usage { result ≡ Err Usage → command_of replay (words_of words.now) ≡ None }
+    ensures read { IfOk result (λ command.
+        command_of replay_row (words_of words.now) ≡ Some command) }
+    ensures usage { result ≡ Err Usage → command_of replay_row (words_of words.now) ≡ None }
 {
     let given = take(alloc, REPLAY_NAMES.as_slice(), NO_OPTIONS.as_slice(), words)?;
     Ok(Command::Replay {
