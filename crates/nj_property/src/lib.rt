@@ -4,7 +4,7 @@
 //! memory map").
 #![tactic(auto)]
 
-ghost use Rattle.std.specs.Prelude.{◌≡◌, ◌+◌, ◌≤◌, ◌<◌, length, slice_range, All};
+ghost use Rattle.std.specs.Prelude.{◌≡◌, ◌+◌, ◌≤◌, ◌<◌, length, slice_range, All, pos, neg_ℤ, ◌≤ℤ◌};
 ghost use Rattle.nj_property.specs.Property.{IsPlaced, size_of, value_of, little_endian};
 ghost use Rattle.nj_property.specs.Condition.{IsPlacedCondition, IsPlacedSide, side_of, holds_in, all_hold_in};
 
@@ -44,7 +44,9 @@ impl Property {
     pub fn value(&self, ram: &[u8]) -> i32
         requires ram { length ram.now ≡ 2048 }
         requires placed { IsPlaced self.now }
-        ensures { result ≡ value_of self.now ram.now }
+        ensures value { result ≡ value_of self.now ram.now }
+        ensures low { neg_ℤ (pos 32768) ≤ℤ result }
+        ensures high { result ≤ℤ pos 65535 }
     {
         let at = self.at as usize;
         match self.kind {
