@@ -2,3 +2,5 @@ pub mod Sets
 pub mod Sums
 pub mod Members
 pub mod Satisfied
+pub mod Distinct
+pub mod Offered

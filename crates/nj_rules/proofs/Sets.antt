@@ -68,6 +68,7 @@ is_in-set_below (suc n) p j h = by_tests (is_in-set_below n p j) (p n) refl (n =
   where
     above : is_in (set_below n p) n ≡ false
     above = is_in-above (set_below n p) n n (set_below-lt n p) (omega arith)
+
     by_tests : (j < n → is_in (set_below n p) j ≡ p j) → (b : Bool) → p n ≡ b → (here : Bool) → (n == j) ≡ here → is_in (if b then bit_or (set_below n p) (2 ^ n) else set_below n p) j ≡ p j
     by_tests smaller true e true same =
         let same_number : n ≡ j = grind (arith, nat_tests) in

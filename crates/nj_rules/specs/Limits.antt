@@ -4,6 +4,8 @@ use Rattle.nj_property.specs.Property.{IsPlaced}
 use Rattle.nj_property.specs.Condition.{IsPlacedCondition}
 use Rattle.nj_rules.specs.declared.record.Rule.{Rule}
 use Rattle.nj_rules.specs.declared.record.Weight.{Weight}
+use Rattle.nj_rules.specs.declared.record.InputSet.{InputSet}
+use Rattle.nj_rules.specs.declared.record.HashItem.{HashItem}
 
 -- the property is placed, and the weight is from -2^20 to 2^20
 pub record IsWeightInRange (w : Weight) : Type 0 where
@@ -24,3 +26,24 @@ pub record IsRuleInRange (count : ℕ) (rule : Rule) : Type 0 where
 pub record AreRulesInRange (rules : List Rule) : Type 0 where
   pub few : length rules ≤ 128
   pub each : All (IsRuleInRange (length rules)) rules
+
+-- the set's lists have at most their lengths, and its conditions are placed
+pub record IsSetInRange (set : InputSet) : Type 0 where
+  pub when_length : length set.when ≤ 16
+  pub when : All IsPlacedCondition set.when
+  pub pads_length : length set.pads ≤ 256
+
+-- the input sets are at most 32, each in range
+pub record AreSetsInRange (sets : List InputSet) : Type 0 where
+  pub few : length sets ≤ 32
+  pub each : All IsSetInRange sets
+
+-- the item is a range of working memory, not empty
+pub record IsItemInRange (item : HashItem) : Type 0 where
+  pub ordered : item.from ≤ item.to
+  pub below : item.to < 2048
+
+-- the items are at most 64, each in range
+pub record AreItemsInRange (items : List HashItem) : Type 0 where
+  pub few : length items ≤ 64
+  pub each : All IsItemInRange items

@@ -4,9 +4,14 @@
 #![tactic(auto)]
 
 mod judging;
+mod pads;
 mod record;
 
 pub use judging::judge;
+pub use nj_pad::Pad;
 pub use nj_property::{Cmp, Condition, Kind, Property, Side};
 pub use nj_seq::Seq;
-pub use record::{Judged, Rule, Rules, Status, Verdict, Weight};
+pub use pads::{allowed, pad_count};
+pub use record::{
+    HashItem, HashItems, InputSet, InputSets, Judged, Rule, Rules, Status, Verdict, Weight,
+};

@@ -1,3 +1,4 @@
+use nj_pad::Pad;
 use nj_property::{Condition, Property};
 use nj_seq::Seq;
 
@@ -51,4 +52,34 @@ pub struct Judged {
     pub reward: i64,
     /// The number of satisfied checkpoint rules.
     pub level: u32,
+}
+
+/// A script's input sets, in order: at most 32.
+#[derive(Debug, Drop)]
+pub struct InputSets {
+    pub sets: Seq<InputSet>,
+}
+
+/// Pads that are offered where conditions hold.
+#[derive(Debug, Drop)]
+pub struct InputSet {
+    /// The conditions, all of which have to hold: at most 16.
+    pub when: Seq<Condition>,
+    /// At most 256.
+    pub pads: Seq<Pad>,
+    /// Whether the sets behind this one are passed over where its conditions hold.
+    pub stop: bool,
+}
+
+/// The parts of working memory that tell states apart, in order: at most 64.
+#[derive(Debug, Drop)]
+pub struct HashItems {
+    pub items: Seq<HashItem>,
+}
+
+/// The bytes of working memory from one address to another, both ends included: at most to 2,047.
+#[derive(Clone, Copy, Debug, PartialEq, Eq)]
+pub struct HashItem {
+    pub from: u16,
+    pub to: u16,
 }
