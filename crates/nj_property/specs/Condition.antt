@@ -23,6 +23,7 @@ abbrev pub side_of : Side → List ℕ → ℤ
 side_of (Number value) ram = value
 side_of (Other property) ram = value_of property ram
 
+-- a property on the right side is placed
 abbrev pub IsPlacedSide : Side → Type 0
 IsPlacedSide (Number value) = Unit {0}
 IsPlacedSide (Other property) = IsPlaced property

@@ -1,7 +1,6 @@
 -- Lists in which each number stands at its first place only.
-use Rattle.std.proofs.Common.{◌≡◌, ℕ, zero, suc, ◌+◌, ◌<◌, ◌≤◌, Bool, true, false, not, ◌||◌, ◌&&◌, ◌==◌, nat_eq, eqb, refl, sym, ◌∙◌, ap, arith, List, [], ◌∷◌, ◌++◌, filter, length, take, append_assoc, if◌then◌else◌, cond, subst, lit<, get_or, length-append, drop, drop-cons, add-one}
+use Rattle.std.proofs.Common.{◌≡◌, ℕ, zero, suc, ◌+◌, ◌<◌, ◌≤◌, Bool, true, false, not, ◌||◌, ◌==◌, nat_eq, refl, sym, ◌∙◌, ap, arith, List, [], ◌∷◌, ◌++◌, filter, length, take, append_assoc, if◌then◌else◌, cond, subst, lit<, get_or, length-append, drop, drop-cons, add-one}
 use Rattle.std.specs.List.{list_any, IsDistinct, AllByRecursion}
-use Rattle.std.proofs.lemmas.Grind.{common_steps}
 use Rattle.std.proofs.lemmas.Bool.Decides.{nat_tests}
 use Rattle.std.proofs.lemmas.List.Elements.{filter-append}
 use Rattle.std.proofs.lemmas.List.{length-take, drop_all}
@@ -140,7 +139,7 @@ distinct-append xs (y ∷ ys) =
     ap distinct (sym moved) ∙ sym (distinct-append (distinct xs ++ y ∷ []) ys)
     ∙ ap (λ zs. distinct (zs ++ ys)) (one_more xs y) ∙ distinct-append (xs ++ y ∷ []) ys ∙ ap distinct moved_too
 
-stands-turned : (q : ℕ) (xs : List ℕ) → list_any (nat_eq q) xs ≡ stands q xs
+pub stands-turned : (q : ℕ) (xs : List ℕ) → list_any (nat_eq q) xs ≡ stands q xs
 stands-turned q [] = refl
 stands-turned q (x ∷ xs) =
     let turned : (q == x) ≡ (x == q) = grind (arith, nat_tests) in

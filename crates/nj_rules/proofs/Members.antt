@@ -1,13 +1,10 @@
 -- The rules of a set, one after another, as a loop over all rules meets them.
-use Rattle.std.proofs.Common.{◌≡◌, ℕ, zero, suc, ◌+◌, ◌<◌, ◌≤◌, Bool, true, false, ◌||◌, ◌&&◌, ◌==◌, ℤ, pos, ◌+ℤ◌, refl, sym, ◌∙◌, ap, arith, List, [], ◌∷◌, map, drop, length, slice_index_or, drop-cons, add-one, cond, if◌then◌else◌, count_by}
+use Rattle.std.proofs.Common.{◌≡◌, ℕ, ◌+◌, ◌<◌, Bool, true, false, ◌||◌, ◌&&◌, pos, ◌+ℤ◌, refl, arith, List, ◌∷◌, map, drop, length, slice_index_or, drop-cons, add-one, cond, if◌then◌else◌, count_by}
 use Rattle.std.specs.List.{list_any}
 use Rattle.std.proofs.lemmas.Int.{ints}
-use Rattle.std.proofs.lemmas.Grind.{common_steps}
-use Rattle.std.proofs.lemmas.Bool.Decides.{nat_tests}
 use Rattle.std.proofs.lemmas.List.Sums.{sum_by-cons}
-use Rattle.nj_property.specs.Condition.{all_hold_in}
 use Rattle.nj_rules.specs.declared.record.Rule.{Rule}
-use Rattle.nj_rules.specs.Rules.{is_in, members_from, own_hold, is_named, is_met, int_sum, gain_of}
+use Rattle.nj_rules.specs.Rules.{is_in, members_from, int_sum, gain_of}
 
 drop_here : {X : Type 0} (xs : List X) (i : ℕ) (d : X) → i < length xs → drop i xs ≡ slice_index_or xs i d ∷ drop (i + 1) xs
 drop_here xs i d h = rw (add-one, drop-cons xs i d) refl

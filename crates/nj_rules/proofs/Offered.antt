@@ -1,5 +1,5 @@
 -- The pads that input sets offer, as a loop over the sets adds them.
-use Rattle.std.proofs.Common.{◌≡◌, ℕ, suc, ◌+◌, ◌<◌, ◌≤◌, Bool, true, false, refl, sym, ◌∙◌, ap, arith, List, [], ◌∷◌, ◌++◌, length, take, drop, drop-cons, add-one, slice_index_or, append_assoc, nat_eq, if◌then◌else◌}
+use Rattle.std.proofs.Common.{◌≡◌, ℕ, suc, ◌+◌, ◌<◌, ◌≤◌, true, false, refl, sym, ◌∙◌, ap, arith, List, ◌∷◌, ◌++◌, length, take, drop, drop-cons, add-one, slice_index_or, append_assoc, nat_eq}
 use Rattle.std.specs.List.{flat_map, IsDistinct}
 use Rattle.std.proofs.lemmas.List.{length-take, drop_all}
 use Rattle.nj_property.specs.Condition.{all_hold_in}

@@ -1,8 +1,7 @@
 -- Which rules memory satisfies, as a loop over the rules finds them.
-use Rattle.std.proofs.Common.{◌≡◌, ℕ, zero, suc, ◌+◌, ◌^◌, ◌<◌, ◌≤◌, Bool, true, false, ◌||◌, ◌&&◌, ◌==◌, refl, sym, ◌∙◌, ap, arith, List, [], ◌∷◌, drop, length, slice_index_or, drop-cons, add-one, All, nat_lt}
+use Rattle.std.proofs.Common.{◌≡◌, ℕ, zero, suc, ◌+◌, ◌^◌, ◌<◌, ◌≤◌, Bool, true, false, ◌||◌, ◌&&◌, ◌==◌, refl, sym, arith, List, [], ◌∷◌, drop, length}
 use Rattle.std.specs.List.{list_any}
 use Rattle.std.proofs.lemmas.List.{drop_all}
-use Rattle.std.proofs.lemmas.Grind.{common_steps}
 use Rattle.std.proofs.lemmas.Bool.Decides.{nat_tests}
 use Rattle.nj_property.specs.Condition.{all_hold_in}
 use Rattle.nj_rules.specs.declared.record.Rule.{Rule}

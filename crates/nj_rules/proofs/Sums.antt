@@ -1,6 +1,6 @@
 -- Sums of integers, and how far they can come from 0.
-use Rattle.std.proofs.Common.{◌≡◌, ℕ, ◌+◌, ◌*◌, ◌<◌, ◌≤◌, ℤ, pos, negsuc, neg_ℤ, ◌+ℤ◌, ◌*ℤ◌, ◌≤ℤ◌, unsigned_abs, refl, sym, ap, arith, List, [], ◌∷◌, map, drop, length, slice_index_or, suc, drop-cons, add-one, ◌^◌, FitsSigned, w64, lit<}
-use Rattle.std.proofs.lemmas.Int.{ints, unsigned_abs-mul, fits_signed_mul, fits_signed_from_abs}
+use Rattle.std.proofs.Common.{◌≡◌, ℕ, ◌+◌, ◌*◌, ◌<◌, ◌≤◌, ℤ, pos, negsuc, neg_ℤ, ◌+ℤ◌, ◌*ℤ◌, ◌≤ℤ◌, unsigned_abs, arith, List, map, drop, length, slice_index_or, drop-cons, add-one, ◌^◌, FitsSigned, w64, lit<}
+use Rattle.std.proofs.lemmas.Int.{ints, unsigned_abs-mul, fits_signed_mul}
 use Rattle.std.proofs.lemmas.Nat.{mul-le}
 use Rattle.nj_rules.specs.Rules.{int_sum}
 

@@ -1,5 +1,5 @@
 -- Which rules are satisfied, and what they come to. All of it is this project's own.
-use Rattle.std.specs.Prelude.{ℕ, zero, suc, ◌+◌, ◌^◌, ◌==◌, ◌&&◌, ◌||◌, Bool, false, List, [], ◌∷◌, length, filter, count_by, map, ℤ, pos, ◌+ℤ◌, ◌*ℤ◌, bit_or, if◌then◌else◌}
+use Rattle.std.specs.Prelude.{ℕ, zero, suc, ◌+◌, ◌^◌, ◌==◌, ◌&&◌, ◌||◌, Bool, false, List, [], ◌∷◌, count_by, map, ℤ, pos, ◌+ℤ◌, ◌*ℤ◌, bit_or, if◌then◌else◌}
 use Rattle.std.specs.List.{list_any}
 use Rattle.std.specs.Int.{bit_at}
 use Rattle.nj_property.specs.Property.{value_of}

@@ -4,10 +4,17 @@
 #![tactic(auto)]
 
 mod judging;
+mod keys;
+mod laws;
 mod pads;
 mod record;
 
 pub use judging::judge;
+pub use keys::key_of;
+pub use laws::{
+    allowed_pads_come_once, keys_tell_bytes_and_status, naming_is_one_level_deep,
+    no_rule_gives_nothing, satisfied_rules_stay,
+};
 pub use nj_pad::Pad;
 pub use nj_property::{Cmp, Condition, Kind, Property, Side};
 pub use nj_seq::Seq;

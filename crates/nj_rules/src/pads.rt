@@ -7,19 +7,19 @@ use crate::record::{InputSet, InputSets};
 use nj_pad::Pad;
 use nj_property::all_hold;
 
-fn add_pad(pad: u8, into: &mut [u8; 256], count: usize) -> usize
-    requires count { count ≤ 256 }
-    requires once { IsDistinct nat_eq (take count into.old) }
-    ensures pads { take result into.new ≡ distinct (take count into.old ++ pad ∷ []) }
-    ensures grows { count ≤ result }
+fn add_pad(pad: u8, into: &mut [u8; 256], filled: usize) -> usize
+    requires count { filled ≤ 256 }
+    requires once { IsDistinct nat_eq (take filled into.old) }
+    ensures pads { take result into.new ≡ distinct (take filled into.old ++ pad ∷ []) }
+    ensures grows { filled ≤ result }
     ensures within { result ≤ 256 }
     ensures rest { (k : ℕ) → result ≤ k → slice_index into.new k ≡ slice_index into.old k }
 {
-    if into[..count].contains(&pad) {
-        return count;
+    if into[..filled].contains(&pad) {
+        return filled;
     }
-    into[count] = pad;
-    count + 1
+    into[filled] = pad;
+    filled + 1
 }
 
 fn add_pads(pads: &[Pad], into: &mut [u8; 256], count: usize) -> usize

@@ -1,4 +1,4 @@
-use Rattle.std.proofs.Common.{◌≡◌, ℕ, ◌+◌, ◌*◌, ◌^◌, ◌≤◌, map, drop, ◌+ℤ◌, unsigned_abs}
+use Rattle.std.proofs.Common.{◌≡◌, ◌*◌, ◌^◌, ◌≤◌, map, drop, ◌+ℤ◌, unsigned_abs}
 use Rattle.nj_rules.specs.Rules.{gain_of, members_from, int_sum, reward_of}
 use Rattle.nj_rules.proofs.judging.reward.Given as goal
 

@@ -1,4 +1,4 @@
-use Rattle.std.proofs.Common.{◌≡◌, ℕ, ◌+◌, ◌≤◌, ◌||◌, drop, count_by}
+use Rattle.std.proofs.Common.{◌≡◌, ◌+◌, ◌≤◌, ◌||◌, drop, count_by}
 use Rattle.std.specs.List.{list_any}
 use Rattle.nj_rules.specs.Rules.{satisfied_rules, members_from, level_of}
 use Rattle.nj_rules.proofs.judging.tally_of.Given as goal

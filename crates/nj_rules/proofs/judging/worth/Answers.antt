@@ -1,4 +1,4 @@
-use Rattle.std.proofs.Common.{◌≡◌, ℤ, FitsSigned, to_z, of_z, w32, w64, arith, rules, ◌*ℤ◌}
+use Rattle.std.proofs.Common.{arith}
 use Rattle.std.proofs.lemmas.Int.{ints, to_z-of_z}
 use Rattle.nj_rules.specs.Rules.{worth_of}
 use Rattle.nj_rules.proofs.Sums.{worth_fits, abs_le-worth}

@@ -1,4 +1,4 @@
-use Rattle.std.proofs.Common.{◌≡◌, ◌+◌, ◌++◌, ◌∷◌, [], take, drop, get_or, arith, ℕ, ◌≤◌, slice_index, ◌∙◌}
+use Rattle.std.proofs.Common.{◌++◌, ◌∷◌, [], take, arith, ◌∙◌}
 use Rattle.nj_rules.specs.Pads.{distinct}
 use Rattle.nj_rules.proofs.Distinct.{added-step, added-differs, added-end}
 use Rattle.nj_rules.proofs.pads.add_pads.Goals as goal

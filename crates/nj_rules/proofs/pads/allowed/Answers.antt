@@ -1,4 +1,4 @@
-use Rattle.std.proofs.Common.{◌≡◌, ◌∙◌, ◌++◌, take, true, false, arith, sym, refl, ap}
+use Rattle.std.proofs.Common.{◌≡◌, ◌∙◌, ◌++◌, take, true, arith, sym, refl, ap}
 use Rattle.nj_property.specs.Condition.{all_hold_in}
 use Rattle.nj_rules.specs.Pads.{distinct, offered_pads, allowed_pads}
 use Rattle.nj_rules.proofs.Distinct.{added-differs, IsDistinct-none}
@@ -15,12 +15,13 @@ loop-set-preserved c =
     let set = c.set-item.result in
     let sets = c.as_slice-set-items.result.now in
     let holds : all_hold_in c.args.ram.now set.when ≡ true = sym (c.if-not-all_hold.ensures ∙ ap (all_hold_in c.args.ram.now) c.as_slice.ensures.value) in
-    let grown : after ≡ distinct (before ++ set.pads) = c.add_pads-count.ensures.pads ∙ ap (λ xs. distinct (before ++ xs)) c.as_slice-in-loop-set.ensures.value in
-    (offered-taken sets c.args.ram.now before after (distinct (offered_pads sets c.args.ram.now)) c.loop-set.set-index set c.loop-set-test.true c.set-item.is holds c.if-set.false grown c.loop-set.invariant.0,
-    added-differs (before ++ set.pads) after grown,
-    c.add_pads-count.ensures.within,
-    (λ k h. c.add_pads-count.ensures.rest k h ∙ c.loop-set.invariant.3 k (omega (arith, c.add_pads-count.ensures.grows))),
-    c.add_pads-count.array_long)
+    let grown : after ≡ distinct (before ++ set.pads) = c.add_pads-count.ensures.pads ∙ ap (λ xs. distinct (before ++ xs)) c.as_slice-in-loop-set.ensures.value in (
+      offered-taken sets c.args.ram.now before after (distinct (offered_pads sets c.args.ram.now)) c.loop-set.set-index set c.loop-set-test.true c.set-item.is holds c.if-set.false grown c.loop-set.invariant.0,
+      added-differs (before ++ set.pads) after grown,
+      c.add_pads-count.ensures.within,
+      (λ k h. c.add_pads-count.ensures.rest k h ∙ c.loop-set.invariant.3 k (omega (arith, c.add_pads-count.ensures.grows))),
+      c.add_pads-count.array_long,
+    )
 
 pub returns-clause-pads : goal.returns-clause-pads
 unfolding allowed_pads

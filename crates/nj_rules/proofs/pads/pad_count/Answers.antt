@@ -14,11 +14,12 @@ loop-set-preserved c =
     let after = take c.add_pads-count.result c.add_pads-count.new.into in
     let set = c.set-item.result in
     let sets = c.as_slice-set-items.result.now in
-    let grown : after ≡ distinct (before ++ set.pads) = c.add_pads-count.ensures.pads ∙ ap (λ xs. distinct (before ++ xs)) c.as_slice.ensures.value in
-    (named-taken sets before after (distinct (flat_map (λ s. s.pads) sets)) c.loop-set.set-index set c.loop-set-test.true c.set-item.is grown c.loop-set.invariant.0,
-    added-differs (before ++ set.pads) after grown,
-    c.add_pads-count.ensures.within,
-    c.add_pads-count.array_long)
+    let grown : after ≡ distinct (before ++ set.pads) = c.add_pads-count.ensures.pads ∙ ap (λ xs. distinct (before ++ xs)) c.as_slice.ensures.value in (
+      named-taken sets before after (distinct (flat_map (λ s. s.pads) sets)) c.loop-set.set-index set c.loop-set-test.true c.set-item.is grown c.loop-set.invariant.0,
+      added-differs (before ++ set.pads) after grown,
+      c.add_pads-count.ensures.within,
+      c.add_pads-count.array_long,
+    )
 
 pub returns-clause-count : goal.returns-clause-count
 unfolding named_pads

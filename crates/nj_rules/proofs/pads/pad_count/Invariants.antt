@@ -1,4 +1,4 @@
-use Rattle.std.proofs.Common.{◌≡◌, ℕ, ◌≤◌, ◌++◌, take, drop, nat_eq, length}
+use Rattle.std.proofs.Common.{◌≡◌, ◌≤◌, ◌++◌, take, drop, nat_eq, length}
 use Rattle.std.specs.List.{flat_map}
 use Rattle.std.specs.List.{IsDistinct}
 use Rattle.nj_rules.specs.Pads.{distinct}
