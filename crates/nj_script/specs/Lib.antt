@@ -1,0 +1,5 @@
+pub mod Reading
+pub mod Fields
+pub mod Lists
+pub mod Names
+pub mod Kinds
