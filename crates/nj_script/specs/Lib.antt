@@ -3,3 +3,4 @@ pub mod Fields
 pub mod Lists
 pub mod Names
 pub mod Kinds
+pub mod Script

@@ -6,6 +6,7 @@ mod conditions;
 mod fields;
 mod lists;
 mod names;
+mod naming;
 mod properties;
 mod refusal;
 mod rules;
