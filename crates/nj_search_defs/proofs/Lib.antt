@@ -1,0 +1,4 @@
+pub mod Preference
+pub mod Orders
+pub mod Moves
+mod Tiny

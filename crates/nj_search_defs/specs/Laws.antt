@@ -1,0 +1,53 @@
+-- The laws of the search, in its own words.
+use Rattle.std.specs.Prelude.{◌≡◌, ℕ, ◌+◌, ◌≤◌, false, List, [], ◌∷◌, ◌++◌, length, All, Contains, Some}
+use Rattle.nj_search_defs.specs.Game.{Word, Win, Game, Bounds}
+use Rattle.nj_search_defs.specs.Candidates.{Candidate}
+use Rattle.nj_search_defs.specs.Pruning.{judged_of, is_before, winner}
+use Rattle.nj_search_defs.specs.Outcome.{State, Goes, next, Outcome, WonAt, LimitAt, searched, outcome}
+
+-- a search of a + b steps is one of a steps that goes on for b more where it came to its limit
+abbrev pub gone_on : Outcome → (State → Outcome) → Outcome
+gone_on (LimitAt state) go_on = go_on state
+gone_on ended go_on = ended
+
+abbrev pub LimitsAdd : Type 0
+LimitsAdd = (game : Game) (bounds : Bounds) (a b : ℕ) (state : State)
+    → searched game bounds (a + b) state ≡ gone_on (searched game bounds a state) (searched game bounds b)
+
+-- a front has at most as many words as its bound
+abbrev pub FrontIsBounded : Type 0
+FrontIsBounded = (game : Game) (bounds : Bounds) (state new : State)
+    → next game bounds state ≡ Goes new → length new.front ≤ bounds.most
+
+-- each word of a new front is a word of the front before, and one allowed pad more
+pub record IsChild (game : Game) (front : List Word) (word : Word) : Type 0 where
+  pub parent : Word
+  pub pad : ℕ
+  pub stood : Contains front parent
+  pub is_allowed : Contains (game.allowed parent) pad
+  pub is : word ≡ parent ++ pad ∷ []
+
+abbrev pub ParentsStoodBefore : Type 0
+ParentsStoodBefore = (game : Game) (bounds : Bounds) (state new : State)
+    → next game bounds state ≡ Goes new → All (IsChild game state.front) new.front
+
+-- the words of a front are equally long: as long as the steps that were made
+abbrev pub WordsAreEquallyLong : Type 0
+WordsAreEquallyLong = (game : Game) (bounds : Bounds) (state new : State)
+    → All (λ word. length word ≡ state.step) state.front
+    → next game bounds state ≡ Goes new → All (λ word. length word ≡ new.step) new.front
+
+-- the winner is a live win, and no live win is preferred to it
+pub record IsBestWin (game : Game) (lives : List Candidate) (best : Candidate) : Type 0 where
+  pub is_live : Contains lives best
+  pub wins : (judged_of game best).verdict ≡ Win
+  pub no_better : All (λ c. (judged_of game c).verdict ≡ Win → is_before game c best ≡ false) lives
+
+abbrev pub WinnerIsBest : Type 0
+WinnerIsBest = (game : Game) (lives : List Candidate) (best : Candidate)
+    → winner game lives ≡ Some best → IsBestWin game lives best
+
+-- the word of a search that is won wins
+abbrev pub WonWins : Type 0
+WonWins = (game : Game) (bounds : Bounds) (limit step : ℕ) (word : Word)
+    → outcome game bounds limit ≡ WonAt step word → (game.judged word).verdict ≡ Win

@@ -1,0 +1,6 @@
+pub mod Game
+pub mod Candidates
+pub mod Order
+pub mod Pruning
+pub mod Outcome
+pub mod Laws

@@ -1,0 +1,36 @@
+//! The search, defined: what one thread finds that extends words by pads, judges them, drops repeated
+//! keys and keeps the best. The definitions stand in `specs/`, over any game; the functions here have
+//! laws of them as their contracts, and do nothing.
+#![tactic(auto)]
+
+ghost use Rattle.nj_search_defs.specs.Laws.{LimitsAdd, FrontIsBounded, ParentsStoodBefore, WordsAreEquallyLong, WinnerIsBest, WonWins};
+
+/// A search that may go on behind its limit ends as the unbroken one.
+pub fn limits_add()
+    ensures { LimitsAdd }
+{}
+
+/// A front has at most as many words as its bound.
+pub fn front_is_bounded()
+    ensures { FrontIsBounded }
+{}
+
+/// Each word of a new front extends a word of the front before by a pad that is allowed after it.
+pub fn parents_stood_before()
+    ensures { ParentsStoodBefore }
+{}
+
+/// The words of a front are as long as the steps that were made.
+pub fn words_are_equally_long()
+    ensures { WordsAreEquallyLong }
+{}
+
+/// No live win is preferred to the winner, which is one of them.
+pub fn winner_is_best()
+    ensures { WinnerIsBest }
+{}
+
+/// The word of a search that is won has the verdict Win.
+pub fn won_wins()
+    ensures { WonWins }
+{}
