@@ -49,7 +49,7 @@ unknown_key-view known entries =
     (find-same (λ key. not (list_any (bytes_eq key) (map (λ s. s.now) known))) (is_unknown known) (λ key. ap not (any-words key known)) (map string_bytes (keys_of entries)))
 
 -- what an object's members say of its keys
-pub opened-members : (list : List ℕ) (known : List (List ℕ)) (d : Data) (members : Members) → Some members ≡ as_object d
-    → opened list known d ≡ if_there (unknown_key known members) (Ok tt) (λ key. Err (UnknownKey key))
+pub opened-members : (list : List ℕ) (known : List (List ℕ)) (d : Data) (ms : Members) → Some ms ≡ as_object d
+    → opened list known d ≡ if_there (unknown_key known ms) (Ok tt) (λ key. Err (UnknownKey key))
 unfolding opened
-opened-members list known d members e = rw (← e) refl
+opened-members list known d ms e = rw (← e) refl

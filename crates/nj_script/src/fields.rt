@@ -21,7 +21,7 @@ fn missing(alloc: Global, key: &str) -> ScriptRefused
     }
 }
 
-fn wrong_kind(alloc: Global, key: &str) -> ScriptRefused
+pub fn wrong_kind(alloc: Global, key: &str) -> ScriptRefused
     ensures { (result ≡ ScriptRefused.NoMemory) ⊎ (result ≡ ScriptRefused.WrongKind key.now) }
 {
     match Text::from_str(alloc, key) {

@@ -10,7 +10,10 @@ mod naming;
 mod properties;
 mod refusal;
 mod rules;
+mod script;
 mod sets;
+#[cfg(test)]
+mod tests;
 
 pub use nj_pad::Pad;
 pub use nj_rules::{
@@ -19,3 +22,4 @@ pub use nj_rules::{
 };
 pub use nj_seq::{Seq, Text};
 pub use refusal::ScriptRefused;
+pub use script::Script;

@@ -1,4 +1,4 @@
-ghost use Rattle.std.specs.Prelude.{◌≡◌, List, [], ◌∷◌, ◌++◌};
+ghost use Rattle.std.specs.Prelude.{◌≡◌, List, [], length, IfOk};
 ghost use Rattle.serde_json.specs.Data.{Data};
 ghost use Rattle.serde_json.specs.View.{view, items_view};
 ghost use Rattle.nj_script.specs.Reading.{Reading, Gives, GivesAs};
@@ -31,7 +31,8 @@ pub fn read_each<M: Member>(
     items: &[Value],
     member: &M,
 ) -> Result<Vec<M::Made>, ScriptRefused>
-    ensures { GivesAs (λ v. v.items) (each (M.reading member.now) [] (items_view items.now)) result }
+    ensures value { GivesAs (λ v. v.items) (each (M.reading member.now) [] (items_view items.now)) result }
+    ensures count { IfOk result (λ v. length v.items ≡ length items.now) }
 {
     let mut made = Vec::new(alloc);
     for item in items {

@@ -1,6 +1,6 @@
 // The rules of a script, whose names in `also` are looked up once all rules were read.
 
-ghost use Rattle.std.specs.Prelude.{◌≡◌, ◌≤◌, ◌<◌, ◌^◌, List, [], map, length, IfOk, OnErr, MatchResult};
+ghost use Rattle.std.specs.Prelude.{◌≡◌, ◌≤◌, ◌<◌, ◌^◌, List, [], map, length, IfOk, MatchResult};
 ghost use Rattle.serde_json.specs.View.{view};
 ghost use Rattle.nj_script.specs.Reading.{Gives, GivesAs};
 ghost use Rattle.nj_script.specs.Lists.{collected};
@@ -22,7 +22,8 @@ fn named_rules_in(
     object: &Value,
     properties: &[Named],
 ) -> Result<Vec<NamedRule>, ScriptRefused>
-    ensures { GivesAs (λ v. v.items) (named_rules_in properties.now (view object.now)) result }
+    ensures value { GivesAs (λ v. v.items) (named_rules_in properties.now (view object.now)) result }
+    ensures few { IfOk result (λ v. length v.items ≤ 128) }
 {
     let items = list(alloc, object, "rules", 128)?;
     read_each(alloc, items, &RuleMember { properties })
@@ -59,6 +60,7 @@ fn rule_of(alloc: Global, names: &[Text], body: Body) -> Result<Rule, ScriptRefu
 }
 
 // The names of the rules, and what they have beside them.
+#[derive(Drop)]
 struct Parts {
     names: Vec<Text>,
     bodies: Vec<Body>,
@@ -86,4 +88,18 @@ fn rules_of(alloc: Global, names: &[Text], bodies: Vec<Body>) -> Result<Vec<Rule
         rules.push(rule)?;
     }
     Ok(rules)
+}
+
+/// The rules of a script.
+#[tactic(auto, using(crate::proofs::Sizes::sizes), unfolding(crate::specs::Script::rules_in))]
+pub fn rules_in(
+    alloc: Global,
+    object: &Value,
+    properties: &[Named],
+) -> Result<Vec<Rule>, ScriptRefused>
+    ensures { GivesAs (λ v. v.items) (rules_in properties.now (view object.now)) result }
+{
+    let named = named_rules_in(alloc, object, properties)?;
+    let Parts { names, bodies } = parts_of(alloc, named)?;
+    rules_of(alloc, names.as_slice(), bodies)
 }
