@@ -32,6 +32,7 @@ integer_in key low high value =
     if_there (option_and_then as_i64 (as_number value)) (Err (WrongKind key))
     (λ n. if int_lt n low || int_lt high n then Err (OutOfRange key n) else Ok n)
 
+-- the same of a member, which has to be there
 unfoldable pub integer : List ℕ → ℤ → ℤ → Data → Reading ℤ
 integer key low high d = then_read (required key d) (integer_in key low high)
 
@@ -43,6 +44,7 @@ integer_or key low high default d = if_there (get key d) (Ok default) (integer_i
 unfoldable pub natural : List ℕ → ℕ → ℕ → Data → Reading ℕ
 natural key low high d = then_read (integer key (pos low) (pos high) d) (λ n. Ok (unsigned_abs n))
 
+-- the same, where a member that is not there stands for a number
 unfoldable pub natural_or : List ℕ → ℕ → ℕ → ℕ → Data → Reading ℕ
 natural_or key low high default d = then_read (integer_or key (pos low) (pos high) (pos default) d) (λ n. Ok (unsigned_abs n))
 
@@ -54,6 +56,7 @@ truth key d = if_there (get key d) (Ok false) (λ value. if_there (as_bool value
 unfoldable pub text_in : List ℕ → Data → Reading (List ℕ)
 text_in key value = if_there (as_str value) (Err (WrongKind key)) (λ s. Ok s)
 
+-- the text of a member, which has to be there
 unfoldable pub text : List ℕ → Data → Reading (List ℕ)
 text key d = then_read (required key d) (text_in key)
 
@@ -62,6 +65,7 @@ unfoldable pub list_in : List ℕ → ℕ → Data → Reading Items
 list_in key limit value =
     if_there (as_array value) (Err (WrongKind key)) (λ items. if nat_lt limit (items_len items) then Err (TooMany key limit) else Ok items)
 
+-- the list of a member, which has to be there
 unfoldable pub list : List ℕ → ℕ → Data → Reading Items
 list key limit d = then_read (required key d) (list_in key limit)
 

@@ -24,6 +24,7 @@ use Rattle.nj_script.specs.Names.{free_name, property_named, kind_named, compari
 
 -- ---- properties and ranges
 
+-- a property's kind
 unfoldable pub kind_in : Data → Reading Kind
 kind_in d = then_read (text (codes "kind") d) kind_named
 
@@ -65,6 +66,7 @@ abbrev pub condition_keys : Bool → List (List ℕ)
 condition_keys other =
     if other then codes "property" ∷ codes "op" ∷ codes "other" ∷ [] else codes "property" ∷ codes "op" ∷ codes "other" ∷ codes "value" ∷ []
 
+-- a condition's comparison
 unfoldable pub comparison_in : Data → Reading Cmp
 comparison_in d = then_read (text (codes "op") d) comparison_named
 
@@ -75,6 +77,7 @@ side_in properties d =
     (then_read (integer (codes "value") (neg_ℤ (pos 65536)) (pos 65535) d) (λ n. Ok (Number n)))
     (λ value. then_read (text_in (codes "other") value) (λ name. then_read (property_named properties name) (λ p. Ok (Other p))))
 
+-- a condition
 unfoldable pub condition_in : List Named → Data → Reading Condition
 condition_in properties d =
     then_read (opened (codes "when") (condition_keys (is_some (get (codes "other") d))) d) (λ _.
@@ -83,17 +86,21 @@ condition_in properties d =
     then_read (side_in properties d) (λ right.
     Ok (record { left = left; op = op; right = right })))))
 
+-- the conditions of an input set or a rule
 unfoldable pub conditions_in : List Named → Data → Reading (List Condition)
 conditions_in properties d = then_read (list_or_none (codes "when") 16 d) (each (λ _. condition_in properties) [])
 
 -- ---- input sets
 
+-- a pad of an input set
 unfoldable pub pad_in : Data → Reading ℕ
 pad_in d = then_read (text_in (codes "pads") d) pad_named
 
+-- the pads of an input set
 unfoldable pub pads_in : Data → Reading (List ℕ)
 pads_in d = then_read (list (codes "pads") 256 d) (each (λ _. pad_in) [])
 
+-- an input set
 unfoldable pub set_in : List Named → Data → Reading InputSet
 set_in properties d =
     then_read (opened (codes "inputs") (codes "when" ∷ codes "pads" ∷ codes "stop" ∷ []) d) (λ _.
@@ -104,6 +111,7 @@ set_in properties d =
 
 -- ---- rules
 
+-- a rule's truth values
 unfoldable pub flags_in : Data → Reading Flags
 flags_in d =
     then_read (truth (codes "win") d) (λ win.
@@ -111,6 +119,7 @@ flags_in d =
     then_read (truth (codes "checkpoint") d) (λ checkpoint.
     Ok (record { win = win; fail = fail; checkpoint = checkpoint }))))
 
+-- a weight of a rule
 unfoldable pub weight_in : List Named → Data → Reading Weight
 weight_in properties d =
     then_read (opened (codes "weights") (codes "property" ∷ codes "weight" ∷ []) d) (λ _.
@@ -118,6 +127,7 @@ weight_in properties d =
     then_read (integer (codes "weight") (neg_ℤ (pos (2 ^ 20))) (pos (2 ^ 20)) d) (λ weight.
     Ok (record { property = property; weight = weight }))))
 
+-- the weights of a rule
 unfoldable pub weights_in : List Named → Data → Reading (List Weight)
 weights_in properties d = then_read (list_or_none (codes "weights") 4 d) (each (λ _. weight_in properties) [])
 
@@ -135,6 +145,7 @@ body_in properties d =
     then_read (also_in d) (λ also.
     Ok (record { when = when; flags = flags; reward = reward; weights = weights; also = also }))))))
 
+-- the keys that a rule may have
 abbrev pub rule_keys : List (List ℕ)
 rule_keys =
     codes "name" ∷ codes "when" ∷ codes "win" ∷ codes "fail" ∷ codes "checkpoint" ∷ codes "reward" ∷ codes "weights" ∷ codes "also" ∷ []

@@ -23,6 +23,7 @@ property_named properties name =
 unfoldable pub number_of : List (List ℕ) → List ℕ → Reading ℕ
 number_of names name = if_there (position (λ n. bytes_eq n name) names) (Err (UnknownName name)) (λ k. Ok k)
 
+-- the kind of property of that name
 unfoldable pub kind_named : List ℕ → Reading Kind
 kind_named name =
     if bytes_eq name (codes "u8") then Ok U8
@@ -31,6 +32,7 @@ kind_named name =
     else if bytes_eq name (codes "i16") then Ok I16
     else Err (UnknownName name)
 
+-- the comparison of that name
 unfoldable pub comparison_named : List ℕ → Reading Cmp
 comparison_named name =
     if bytes_eq name (codes "==") then Ok Eq

@@ -43,15 +43,19 @@ pub record IsInRange (script : Record) : Type 0 where
 
 -- ---- the lists of a script
 
+-- the properties, each with its name
 unfoldable pub properties_in : Data → Reading (List Named)
 properties_in d = then_read (list (codes "properties") 64 d) (each property_in [])
 
+-- the items of `hash`
 unfoldable pub items_in : List Named → Data → Reading (List HashItem)
 items_in properties d = then_read (list (codes "hash") 64 d) (each (λ _. item_in properties) [])
 
+-- the input sets
 unfoldable pub sets_in : List Named → Data → Reading (List InputSet)
 sets_in properties d = then_read (list (codes "inputs") 32 d) (each (λ _. set_in properties) [])
 
+-- the rules, each with its name and the names in its `also`
 unfoldable pub named_rules_in : List Named → Data → Reading (List NamedRule)
 named_rules_in properties d = then_read (list (codes "rules") 128 d) (each (rule_in properties) [])
 
@@ -72,12 +76,14 @@ rules_in properties d =
 
 -- ---- the whole
 
+-- the version, which is 1
 unfoldable pub version_in : Data → Reading ⊤
 version_in d =
     then_read (required (codes "version") d) (λ value.
     if_there (option_and_then as_i64 (as_number value)) (Err (WrongKind (codes "version")))
     (λ n. if int_eq n (pos 1) then Ok tt else Err (Version n)))
 
+-- the keys that a script may have
 abbrev pub script_keys : List (List ℕ)
 script_keys =
     codes "version" ∷ codes "properties" ∷ codes "hash" ∷ codes "hold" ∷ codes "tolerance" ∷ codes "inputs" ∷ codes "rules" ∷ []
@@ -87,6 +93,7 @@ unfoldable pub head_in : Data → Reading ⊤
 head_in d =
     if_there (as_object d) (Err (WrongKind [])) (λ _. then_read (version_in d) (λ _. opened [] script_keys d))
 
+-- the script that a JSON value is
 unfoldable pub script_in : Data → Reading Record
 script_in d =
     then_read (head_in d) (λ _.
