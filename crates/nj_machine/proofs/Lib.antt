@@ -1,0 +1,7 @@
+pub mod Walks
+pub mod Writes
+pub mod Dots
+pub mod Accesses
+pub mod Units
+pub mod Fuel
+pub mod First
