@@ -1,0 +1,5 @@
+pub mod Bits
+pub mod Arithmetic
+pub mod Shifts
+pub mod FlagByte
+pub mod Signed

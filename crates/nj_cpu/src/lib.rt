@@ -1,0 +1,15 @@
+//! The processor of the NES, a 2A03: an NMOS 6502 without decimal mode, over any bus. One call runs
+//! one unit: an instruction, an NMI entry or a sprite copy, cycle by cycle.
+#![tactic(auto)]
+
+mod cycle;
+mod effects;
+mod modes;
+mod rows;
+mod state;
+mod units;
+
+pub use nj_alu::Flags;
+pub use nj_isa::Bus;
+pub use state::{Cpu, Note, UnitEnd};
+pub use units::{power_on, unit};

@@ -1,0 +1,150 @@
+//! One unit: nothing, a sprite copy, an NMI entry or an instruction.
+
+ghost use Rattle.std.specs.Prelude.{◌≡◌, ◌++◌};
+ghost use Rattle.nj_isa.specs.declared.operations.Op.TheVariants.{Nop as NoOp};
+ghost use Rattle.nj_isa.specs.Accesses.{copies};
+ghost use Rattle.nj_cpu.specs.Walk.{begun, walk, EndsAs};
+ghost use Rattle.nj_cpu.specs.Unit.{powered_on, no_rise, instruction, entered, waits, copied, note_after, active, end_of, unit_of};
+
+use crate::cycle::{idle, read, write};
+use crate::rows::{enter, run_row};
+use crate::state::{Cpu, Note, Rises, UnitEnd};
+use nj_alu::Flags;
+use nj_isa::{Bus, Op, op_row};
+
+/// A processor at power-on, before its first cycle, at this PC.
+pub fn power_on(pc: u16) -> Cpu
+    ensures { result ≡ powered_on pc }
+{
+    Cpu {
+        a: 0,
+        x: 0,
+        y: 0,
+        s: 0xFD,
+        pc,
+        flags: Flags {
+            n: false,
+            v: false,
+            d: false,
+            i: true,
+            z: false,
+            c: false,
+        },
+        note: Note::None,
+        line: false,
+        jammed: false,
+    }
+}
+
+/// One instruction. A jam makes its opcode's access alone, and PC stays at the opcode.
+#[tactic(auto, unfolding(crate::specs::Unit::instruction))]
+#[inline(always)]
+fn run_instruction<B: Bus>(cpu: &mut Cpu, rises: &mut Rises, bus: &mut B)
+    ensures { rises.old ≡ no_rise → EndsAs (instruction B.acts cpu.old (B.held bus.old)) cpu.new (B.held bus.new) rises.new }
+{
+    let opcode = read(cpu, rises, bus, cpu.pc);
+    run_row(cpu, rises, bus, op_row(opcode));
+}
+
+/// The entry of an NMI.
+#[tactic(auto, unfolding(crate::specs::Unit::entered))]
+#[inline]
+fn enter_nmi<B: Bus>(cpu: &mut Cpu, rises: &mut Rises, bus: &mut B)
+    ensures { rises.old ≡ no_rise → EndsAs (entered B.acts cpu.old (B.held bus.old)) cpu.new (B.held bus.new) rises.new }
+{
+    cpu.note = Note::None;
+    idle(cpu, rises, bus);
+    idle(cpu, rises, bus);
+    enter(cpu, rises, bus, Op::Nop, false, 0xFFFA);
+}
+
+/// One cycle before a sprite copy, two where the next cycle's number is odd.
+#[inline]
+fn wait<B: Bus>(cpu: &mut Cpu, rises: &mut Rises, bus: &mut B)
+    ensures { EndsAs (walk B.acts NoOp (waits (B.acts.odd (B.held bus.old))) (begun cpu.old (B.held bus.old) rises.old)) cpu.new (B.held bus.new) rises.new }
+{
+    let odd = bus.odd();
+    idle(cpu, rises, bus);
+    if odd {
+        idle(cpu, rises, bus);
+    }
+}
+
+/// Reads the 256 bytes of a page and writes each to $2004.
+#[inline]
+fn copy_page<B: Bus>(cpu: &mut Cpu, rises: &mut Rises, bus: &mut B, page: u8)
+    ensures { EndsAs (walk B.acts NoOp (copies page 256) (begun cpu.old (B.held bus.old) rises.old)) cpu.new (B.held bus.new) rises.new }
+{
+    for i in 0..256u16 {
+        let byte = read(cpu, rises, bus, page as u16 * 256 + i);
+        write(cpu, rises, bus, 0x2004, byte);
+    }
+}
+
+/// A sprite copy.
+#[tactic(auto, unfolding(crate::specs::Unit::copied))]
+#[inline]
+fn copy<B: Bus>(cpu: &mut Cpu, rises: &mut Rises, bus: &mut B, page: u8)
+    ensures { rises.old ≡ no_rise → EndsAs (copied B.acts page cpu.old (B.held bus.old)) cpu.new (B.held bus.new) rises.new }
+{
+    wait(cpu, rises, bus);
+    copy_page(cpu, rises, bus, page);
+}
+
+/// A unit of a processor that is not jammed, but for its note.
+#[tactic(auto, unfolding(crate::specs::Unit::active))]
+#[inline(always)]
+fn run_active<B: Bus>(cpu: &mut Cpu, rises: &mut Rises, bus: &mut B)
+    ensures { rises.old ≡ no_rise → EndsAs (active B.acts cpu.old (B.held bus.old)) cpu.new (B.held bus.new) rises.new }
+{
+    match bus.take_dma() {
+        Some(page) => copy(cpu, rises, bus, page),
+        None => match cpu.note {
+            Note::Due => enter_nmi(cpu, rises, bus),
+            Note::None | Note::Late => run_instruction(cpu, rises, bus),
+        },
+    }
+}
+
+/// The note at a unit's end.
+#[tactic(auto, unfolding(crate::specs::Unit::note_after))]
+#[inline]
+fn next_note(began: Note, now: Note, rises: Rises) -> Note
+    ensures { result ≡ note_after began now rises }
+{
+    if rises.before || began == Note::Late {
+        Note::Due
+    } else if rises.last && now != Note::Due {
+        Note::Late
+    } else {
+        now
+    }
+}
+
+/// Runs one unit: nothing where the processor is jammed, else a sprite copy where the bus asks for
+/// one, else an NMI entry where one is due, else one instruction. Each access is one cycle.
+#[tactic(auto, unfolding(crate::specs::Unit::unit_of))]
+pub fn unit<B: Bus>(cpu: &mut Cpu, bus: &mut B) -> UnitEnd
+    ensures cpu { cpu.new ≡ (unit_of B.acts cpu.old (B.held bus.old)).cpu }
+    ensures held { B.held bus.new ≡ (unit_of B.acts cpu.old (B.held bus.old)).held }
+    ensures end { result ≡ (unit_of B.acts cpu.old (B.held bus.old)).end_ }
+{
+    if cpu.jammed {
+        return UnitEnd::Jammed;
+    }
+    let began = cpu.note;
+    let mut rises = Rises {
+        before: false,
+        last: false,
+    };
+    run_active(cpu, &mut rises, bus);
+    cpu.note = next_note(began, cpu.note, rises);
+    end_now(cpu)
+}
+
+#[inline]
+fn end_now(cpu: &Cpu) -> UnitEnd
+    ensures { result ≡ end_of cpu.now.jammed }
+{
+    if cpu.jammed { UnitEnd::Jammed } else { UnitEnd::Done }
+}

@@ -1,0 +1,89 @@
+-- The published timing of the official instructions, against which the lists of accesses are held.
+use Rattle.std.specs.Prelude.{ℕ, ◌+◌, Bool, true, false, List, [], ◌∷◌, ◌++◌, ◌==◌, slice_index, if◌then◌else◌}
+use Rattle.nj_isa.specs.declared.operations.Op.{Op}
+use Rattle.nj_isa.specs.declared.operations.Op.TheVariants.{Jam}
+use Rattle.nj_isa.specs.declared.table.OpRow.{OpRow}
+use Rattle.nj_isa.specs.Accesses.{Access, When, Always, Carried, Taken, TakenAway, accesses, class_of}
+use Rattle.nj_isa.specs.Table.{row_of}
+
+-- cycles by the opcode's high digit, one line each, and its low digit; 0 stands where no official opcode is
+-- (MOS Technology, MCS6500 Family Programming Manual, appendix B; NESdev Wiki, "6502 instructions")
+abbrev pub cycle_table : List ℕ
+cycle_table =
+    7 ∷ 6 ∷ 0 ∷ 0 ∷ 0 ∷ 3 ∷ 5 ∷ 0 ∷ 3 ∷ 2 ∷ 2 ∷ 0 ∷ 0 ∷ 4 ∷ 6 ∷ 0 ∷ []
+    ++ 2 ∷ 5 ∷ 0 ∷ 0 ∷ 0 ∷ 4 ∷ 6 ∷ 0 ∷ 2 ∷ 4 ∷ 0 ∷ 0 ∷ 0 ∷ 4 ∷ 7 ∷ 0 ∷ []
+    ++ 6 ∷ 6 ∷ 0 ∷ 0 ∷ 3 ∷ 3 ∷ 5 ∷ 0 ∷ 4 ∷ 2 ∷ 2 ∷ 0 ∷ 4 ∷ 4 ∷ 6 ∷ 0 ∷ []
+    ++ 2 ∷ 5 ∷ 0 ∷ 0 ∷ 0 ∷ 4 ∷ 6 ∷ 0 ∷ 2 ∷ 4 ∷ 0 ∷ 0 ∷ 0 ∷ 4 ∷ 7 ∷ 0 ∷ []
+    ++ 6 ∷ 6 ∷ 0 ∷ 0 ∷ 0 ∷ 3 ∷ 5 ∷ 0 ∷ 3 ∷ 2 ∷ 2 ∷ 0 ∷ 3 ∷ 4 ∷ 6 ∷ 0 ∷ []
+    ++ 2 ∷ 5 ∷ 0 ∷ 0 ∷ 0 ∷ 4 ∷ 6 ∷ 0 ∷ 2 ∷ 4 ∷ 0 ∷ 0 ∷ 0 ∷ 4 ∷ 7 ∷ 0 ∷ []
+    ++ 6 ∷ 6 ∷ 0 ∷ 0 ∷ 0 ∷ 3 ∷ 5 ∷ 0 ∷ 4 ∷ 2 ∷ 2 ∷ 0 ∷ 5 ∷ 4 ∷ 6 ∷ 0 ∷ []
+    ++ 2 ∷ 5 ∷ 0 ∷ 0 ∷ 0 ∷ 4 ∷ 6 ∷ 0 ∷ 2 ∷ 4 ∷ 0 ∷ 0 ∷ 0 ∷ 4 ∷ 7 ∷ 0 ∷ []
+    ++ 0 ∷ 6 ∷ 0 ∷ 0 ∷ 3 ∷ 3 ∷ 3 ∷ 0 ∷ 2 ∷ 0 ∷ 2 ∷ 0 ∷ 4 ∷ 4 ∷ 4 ∷ 0 ∷ []
+    ++ 2 ∷ 6 ∷ 0 ∷ 0 ∷ 4 ∷ 4 ∷ 4 ∷ 0 ∷ 2 ∷ 5 ∷ 2 ∷ 0 ∷ 0 ∷ 5 ∷ 0 ∷ 0 ∷ []
+    ++ 2 ∷ 6 ∷ 2 ∷ 0 ∷ 3 ∷ 3 ∷ 3 ∷ 0 ∷ 2 ∷ 2 ∷ 2 ∷ 0 ∷ 4 ∷ 4 ∷ 4 ∷ 0 ∷ []
+    ++ 2 ∷ 5 ∷ 0 ∷ 0 ∷ 4 ∷ 4 ∷ 4 ∷ 0 ∷ 2 ∷ 4 ∷ 2 ∷ 0 ∷ 4 ∷ 4 ∷ 4 ∷ 0 ∷ []
+    ++ 2 ∷ 6 ∷ 0 ∷ 0 ∷ 3 ∷ 3 ∷ 5 ∷ 0 ∷ 2 ∷ 2 ∷ 2 ∷ 0 ∷ 4 ∷ 4 ∷ 6 ∷ 0 ∷ []
+    ++ 2 ∷ 5 ∷ 0 ∷ 0 ∷ 0 ∷ 4 ∷ 6 ∷ 0 ∷ 2 ∷ 4 ∷ 0 ∷ 0 ∷ 0 ∷ 4 ∷ 7 ∷ 0 ∷ []
+    ++ 2 ∷ 6 ∷ 0 ∷ 0 ∷ 3 ∷ 3 ∷ 5 ∷ 0 ∷ 2 ∷ 2 ∷ 2 ∷ 0 ∷ 4 ∷ 4 ∷ 6 ∷ 0 ∷ []
+    ++ 2 ∷ 5 ∷ 0 ∷ 0 ∷ 0 ∷ 4 ∷ 6 ∷ 0 ∷ 2 ∷ 4 ∷ 0 ∷ 0 ∷ 0 ∷ 4 ∷ 7 ∷ 0 ∷ []
+
+-- the published cycles of an opcode, without penalties
+abbrev pub cycles_of : ℕ → ℕ
+cycles_of opcode = slice_index cycle_table opcode
+
+-- whether a list has an opcode
+abbrev pub is_among : List ℕ → ℕ → Bool
+is_among [] opcode = false
+is_among (x ∷ xs) opcode = if x == opcode then true else is_among xs opcode
+
+-- "add 1 if a page is crossed": the reads by abs,X, by abs,Y and by (zp),Y
+abbrev pub crossing_opcodes : List ℕ
+crossing_opcodes =
+    0x11 ∷ 0x19 ∷ 0x1D ∷ []
+    ++ 0x31 ∷ 0x39 ∷ 0x3D ∷ []
+    ++ 0x51 ∷ 0x59 ∷ 0x5D ∷ []
+    ++ 0x71 ∷ 0x79 ∷ 0x7D ∷ []
+    ++ 0xB1 ∷ 0xB9 ∷ 0xBC ∷ 0xBD ∷ 0xBE ∷ []
+    ++ 0xD1 ∷ 0xD9 ∷ 0xDD ∷ []
+    ++ 0xF1 ∷ 0xF9 ∷ 0xFD ∷ []
+
+-- "add 1 if the branch is taken, 1 more if it goes to another page"
+abbrev pub branch_opcodes : List ℕ
+branch_opcodes = 0x10 ∷ 0x30 ∷ 0x50 ∷ 0x70 ∷ 0x90 ∷ 0xB0 ∷ 0xD0 ∷ 0xF0 ∷ []
+
+-- one cycle, or none
+abbrev pub one_if : Bool → ℕ
+one_if false = 0
+one_if true = 1
+
+-- the published penalty: for a crossed page, for a taken branch, for one that is taken to another page
+abbrev pub penalty_of : ℕ → Bool → Bool → Bool → ℕ
+penalty_of opcode crossed taken away =
+    (if is_among crossing_opcodes opcode then one_if crossed else 0)
+    + (if is_among branch_opcodes opcode then one_if taken + one_if away else 0)
+
+-- whether an access is made, where a page is crossed, a branch is taken, or taken to another page
+abbrev pub is_made_if : Bool → Bool → Bool → When → Bool
+is_made_if crossed taken away Always = true
+is_made_if crossed taken away (Carried index) = crossed
+is_made_if crossed taken away Taken = taken
+is_made_if crossed taken away TakenAway = away
+
+-- how many accesses of a list are made
+abbrev pub count_made : Bool → Bool → Bool → List Access → ℕ
+count_made crossed taken away [] = 0
+count_made crossed taken away (a ∷ rest) =
+    one_if (is_made_if crossed taken away a.when_) + count_made crossed taken away rest
+
+-- the accesses after the opcode's, by the row of the opcode
+unfoldable pub accesses_of : OpRow → List Access
+accesses_of row = accesses (class_of row.op row.mode) row.mode row.kind
+
+-- whether an operation is the jam
+abbrev pub is_jam : Op → Bool
+is_jam Jam = true
+is_jam _ = false
+
+-- whether an opcode jams
+unfoldable pub jams : ℕ → Bool
+jams opcode = is_jam (row_of opcode).op
