@@ -1,0 +1,2 @@
+pub mod Sprite
+pub mod Meeting
