@@ -12,7 +12,7 @@ use Rattle.nj_dots.proofs.Accesses.{after_read-fits, after_write-fits}
 use Rattle.nj_machine.specs.State.{Cells, Rom, pattern_rom, rom_in}
 use Rattle.nj_machine.specs.Wires.{Wired, dots_run, register_read, port_one_read, port_two_read, answered, pattern_put, ram_put, register_put, copy_asked, ports_strobed, written, over, byte_read, after_read, after_write, page_taken, wires}
 use Rattle.nj_machine.specs.Frame.{IsSized}
-use Rattle.nj_machine.proofs.Walks.{Lower, Lowers, same, then_}
+use Rattle.nj_cpu.proofs.Lower.{Lower, Lowers, lower-same, lower-and}
 use Rattle.nj_machine.proofs.Dots.{still_left, Falls, dots-fall}
 
 -- an access of a register leaves the place, the mark and the mirroring
@@ -119,7 +119,7 @@ with_screen : (rom : Rom) (n : ℕ) (w : Wired) (e : Screen) → Keeps rom w →
     Lower (Keeps rom) left_of n w (record w { cells = (let c = w.cells in record c { screen = e }) })
 with_screen rom n w e h fits fewer vertical =
     record {
-      inside = record {
+      stays = record {
         sized = record { screen = fits; ram = h.sized.ram; board = h.sized.board };
         of_rom = ap (λ v. rom_in w.cells.board v) vertical ∙ h.of_rom;
       };
@@ -152,21 +152,21 @@ register_read-stays rom reg w h =
 port_one_read-stays : (rom : Rom) (w : Wired) → Keeps rom w → Stays rom w (port_one_read w)
 unfolding port_one_read
 port_one_read-stays rom w h =
-    record { inside = record { sized = record { screen = h.sized.screen; ram = h.sized.ram; board = h.sized.board }; of_rom = h.of_rom }; fewer = omega arith }
+    record { stays = record { sized = record { screen = h.sized.screen; ram = h.sized.ram; board = h.sized.board }; of_rom = h.of_rom }; fewer = omega arith }
 
 port_two_read-stays : (rom : Rom) (w : Wired) → Keeps rom w → Stays rom w (port_two_read w)
 unfolding port_two_read
 port_two_read-stays rom w h =
-    record { inside = record { sized = record { screen = h.sized.screen; ram = h.sized.ram; board = h.sized.board }; of_rom = h.of_rom }; fewer = omega arith }
+    record { stays = record { sized = record { screen = h.sized.screen; ram = h.sized.ram; board = h.sized.board }; of_rom = h.of_rom }; fewer = omega arith }
 
 -- what a read changes
 answered-stays : (rom : Rom) (w : Wired) (at : ℕ) → Keeps rom w → Stays rom w (answered w at)
 unfolding answered
 answered-stays rom w at h =
-    lower-if rom _ w _ _ (same (Keeps rom) left_of w h)
+    lower-if rom _ w _ _ (lower-same (Keeps rom) left_of w h)
     (lower-if rom _ w _ _ (register_read-stays rom (at % 8) w h)
     (lower-if rom _ w _ _ (port_one_read-stays rom w h)
-    (lower-if rom _ w _ _ (port_two_read-stays rom w h) (same (Keeps rom) left_of w h))))
+    (lower-if rom _ w _ _ (port_two_read-stays rom w h) (lower-same (Keeps rom) left_of w h))))
 
 -- a write to pattern memory keeps its size, and what is ROM
 record KeepsBoard (m e : Memory) : Type 0 where
@@ -190,7 +190,7 @@ ram_put-stays : (rom : Rom) (place value : ℕ) (w : Wired) → Keeps rom w → 
 unfolding ram_put
 ram_put-stays rom place value w h =
     record {
-      inside = record {
+      stays = record {
         sized = record { screen = h.sized.screen; ram = length-set w.cells.ram place value ∙ h.sized.ram; board = h.sized.board };
         of_rom = h.of_rom;
       };
@@ -204,7 +204,7 @@ register_put-stays rom reg value w byte h =
     let same = same-write reg value w.cells.screen in
     let board = keeps-put w.cells.board (to_pattern reg value w.cells.screen) h.sized.board in
     record {
-      inside = record {
+      stays = record {
         sized = record { screen = after_write-fits reg value w.cells.screen byte h.sized.screen; ram = h.sized.ram; board = board.sized };
         of_rom = board.rom e.vram.vertical ∙ ap (λ v. rom_in w.cells.board v) same.vertical ∙ h.of_rom;
       };
@@ -214,12 +214,12 @@ register_put-stays rom reg value w byte h =
 copy_asked-stays : (rom : Rom) (page : ℕ) (w : Wired) → Keeps rom w → Stays rom w (copy_asked page w)
 unfolding copy_asked
 copy_asked-stays rom page w h =
-    record { inside = record { sized = record { screen = h.sized.screen; ram = h.sized.ram; board = h.sized.board }; of_rom = h.of_rom }; fewer = omega arith }
+    record { stays = record { sized = record { screen = h.sized.screen; ram = h.sized.ram; board = h.sized.board }; of_rom = h.of_rom }; fewer = omega arith }
 
 ports_strobed-stays : (rom : Rom) (value : ℕ) (w : Wired) → Keeps rom w → Stays rom w (ports_strobed value w)
 unfolding ports_strobed
 ports_strobed-stays rom value w h =
-    record { inside = record { sized = record { screen = h.sized.screen; ram = h.sized.ram; board = h.sized.board }; of_rom = h.of_rom }; fewer = omega arith }
+    record { stays = record { sized = record { screen = h.sized.screen; ram = h.sized.ram; board = h.sized.board }; of_rom = h.of_rom }; fewer = omega arith }
 
 -- what a write changes
 written-stays : (rom : Rom) (w : Wired) (at value : ℕ) → value < 256 → Keeps rom w → Stays rom w (written w at value)
@@ -228,32 +228,32 @@ written-stays rom w at value byte h =
     lower-if rom _ w _ _ (ram_put-stays rom (at % 2048) value w h)
     (lower-if rom _ w _ _ (register_put-stays rom (at % 8) value w byte h)
     (lower-if rom _ w _ _ (copy_asked-stays rom value w h)
-    (lower-if rom _ w _ _ (ports_strobed-stays rom value w h) (same (Keeps rom) left_of w h))))
+    (lower-if rom _ w _ _ (ports_strobed-stays rom value w h) (lower-same (Keeps rom) left_of w h))))
 
 -- the end of a cycle
 over-stays : (rom : Rom) (w : Wired) (byte : ℕ) → Keeps rom w → Stays rom w (over byte w)
 unfolding over
 over-stays rom w byte h =
-    record { inside = record { sized = record { screen = h.sized.screen; ram = h.sized.ram; board = h.sized.board }; of_rom = h.of_rom }; fewer = omega arith }
+    record { stays = record { sized = record { screen = h.sized.screen; ram = h.sized.ram; board = h.sized.board }; of_rom = h.of_rom }; fewer = omega arith }
 
 taken-stays : (rom : Rom) (w : Wired) → Keeps rom w → Stays rom w (page_taken w)
 unfolding page_taken
 taken-stays rom w h =
-    record { inside = record { sized = record { screen = h.sized.screen; ram = h.sized.ram; board = h.sized.board }; of_rom = h.of_rom }; fewer = omega arith }
+    record { stays = record { sized = record { screen = h.sized.screen; ram = h.sized.ram; board = h.sized.board }; of_rom = h.of_rom }; fewer = omega arith }
 
 reads-lower : (rom : Rom) (w : Wired) (at : ℕ) → Keeps rom w → Lower (Keeps rom) left_of 3 w (after_read w at)
 unfolding after_read
 reads-lower rom w at h =
     let dots = dots_run-lowers rom w h in
-    let access = answered-stays rom (dots_run w) at dots.inside in
-    then_ (Keeps rom) left_of 3 _ _ _ (then_ (Keeps rom) left_of 3 _ _ _ dots access) (over-stays rom (answered (dots_run w) at) (byte_read w at) access.inside)
+    let access = answered-stays rom (dots_run w) at dots.stays in
+    lower-and (Keeps rom) left_of 3 _ _ _ (lower-and (Keeps rom) left_of 3 _ _ _ dots access) (over-stays rom (answered (dots_run w) at) (byte_read w at) access.stays)
 
 writes-lower : (rom : Rom) (w : Wired) (at value : ℕ) → Keeps rom w → Lower (Keeps rom) left_of 3 w (after_write w at value)
 unfolding after_write
 writes-lower rom w at value h =
     let dots = dots_run-lowers rom w h in
-    let access = written-stays rom (dots_run w) at (value % 256) (omega arith) dots.inside in
-    then_ (Keeps rom) left_of 3 _ _ _ (then_ (Keeps rom) left_of 3 _ _ _ dots access) (over-stays rom (written (dots_run w) at (value % 256)) (value % 256) access.inside)
+    let access = written-stays rom (dots_run w) at (value % 256) (omega arith) dots.stays in
+    lower-and (Keeps rom) left_of 3 _ _ _ (lower-and (Keeps rom) left_of 3 _ _ _ dots access) (over-stays rom (written (dots_run w) at (value % 256)) (value % 256) access.stays)
 
 -- every access of the machine's bus
 pub wires-lower : (rom : Rom) → Lowers wires (Keeps rom) left_of 3

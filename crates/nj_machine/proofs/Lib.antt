@@ -1,4 +1,4 @@
-pub mod Walks
+pub mod Begins
 pub mod Writes
 pub mod Dots
 pub mod Accesses

@@ -4,6 +4,7 @@ use Rattle.std.proofs.lemmas.Bool.Decides.{nat_tests}
 use Rattle.nj_cpu.specs.declared.state.UnitEnd.{UnitEnd}
 use Rattle.nj_cpu.specs.declared.state.UnitEnd.TheVariants.{Done, Jammed as JammedUnit}
 use Rattle.nj_cpu.specs.declared.state.Cpu.{Cpu}
+use Rattle.nj_isa.specs.Bus.{Acts}
 use Rattle.nj_cpu.specs.Unit.{Unit, end_of, unit_of}
 use Rattle.nj_dots.specs.declared.screen.Screen.{Screen}
 use Rattle.nj_dots.specs.Screen.{IsPlaced, IsScreen}
@@ -12,9 +13,30 @@ use Rattle.nj_machine.specs.Wires.{Wired, wires}
 use Rattle.nj_machine.specs.Frame.{left_at, dots_left, end_by, unmarked, unit_step, IsSized, IsReady}
 use Rattle.nj_machine.specs.declared.FrameEnd.{FrameEnd}
 use Rattle.nj_machine.specs.declared.FrameEnd.TheVariants.{Picture, Jammed}
-use Rattle.nj_machine.proofs.Walks.{Lower, unit-lowers, unit-jammed, unit-end}
+use Rattle.nj_cpu.proofs.Lower.{Lower, unit-lower}
 use Rattle.nj_machine.proofs.Dots.{still, still_left}
 use Rattle.nj_machine.proofs.Accesses.{Keeps, left_of, wires-lower}
+
+-- a unit of a jammed one is nothing
+nothing-by : {Held : Type 0} (b : Bool) (u v : Unit Held) → b ≡ true → (if b then u else v) ≡ u
+nothing-by true u v e = refl
+nothing-by false u v e = absurd (true≢false (sym e))
+
+unit-jammed : {Held : Type 0} (acts : Acts Held) (cpu : Cpu) (held : Held) → cpu.jammed ≡ true →
+    unit_of acts cpu held ≡ record { cpu = cpu; held = held; end_ = JammedUnit }
+unfolding unit_of
+unit-jammed acts cpu held jammed = nothing-by cpu.jammed _ _ jammed
+
+-- a unit tells whether the processor is jammed behind it
+end-by : {Held : Type 0} (b : Bool) (u v : Unit Held) → (b ≡ true → u.end_ ≡ end_of u.cpu.jammed) → v.end_ ≡ end_of v.cpu.jammed →
+    (if b then u else v).end_ ≡ end_of (if b then u else v).cpu.jammed
+end-by true u v p q = p refl
+end-by false u v p q = q
+
+unit-end : {Held : Type 0} (acts : Acts Held) (cpu : Cpu) (held : Held) →
+    (unit_of acts cpu held).end_ ≡ end_of (unit_of acts cpu held).cpu.jammed
+unfolding unit_of
+unit-end acts cpu held = end-by cpu.jammed _ _ (λ e. ap end_of (sym e)) refl
 
 -- the processor's surroundings in a frame with this pad, and its next unit
 abbrev wired : ℕ → State → Wired
@@ -33,7 +55,7 @@ keeps-by : (b : Bool) (pad : ℕ) (s : State) → s.cpu.jammed ≡ b → IsReady
 keeps-by true pad s e h =
     subst (Keeps (rom_of s)) (sym (ap (λ u. u.held) (unit-jammed wires s.cpu (wired pad s) e))) (begins pad s h)
 keeps-by false pad s e h =
-    (unit-lowers wires (Keeps (rom_of s)) left_of 3 (wires-lower (rom_of s)) s.cpu (wired pad s) e (begins pad s h)).inside
+    (unit-lower wires (Keeps (rom_of s)) left_of 3 (wires-lower (rom_of s)) s.cpu (wired pad s) e (begins pad s h)).stays
 
 -- a unit leaves a state that is ready, of the same cartridge
 pub record Leaves (s t : State) : Type 0 where
@@ -103,7 +125,7 @@ unit_fewer pad s h e =
     let u = unit_now pad s in
     let still_going = no_end u.end_ u.held.cells.screen.ended e in
     let running = was_running s.cpu.jammed pad s refl still_going.done in
-    let lower = unit-lowers wires (Keeps (rom_of s)) left_of 3 (wires-lower (rom_of s)) s.cpu (wired pad s) running (begins pad s h) in
+    let lower = unit-lower wires (Keeps (rom_of s)) left_of 3 (wires-lower (rom_of s)) s.cpu (wired pad s) running (begins pad s h) in
     let now = clear_left u.held.cells.screen.ended u.held.cells.screen.position.line u.held.cells.screen.position.dot still_going.not_ended in
     let before = clear_left s.cells.screen.ended s.cells.screen.position.line s.cells.screen.position.dot h.clear in
     let some : 0 < left_at s.cells.screen.position.line s.cells.screen.position.dot = left_positive s h in
