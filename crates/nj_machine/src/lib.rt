@@ -5,7 +5,16 @@
 mod cells;
 mod frames;
 
-pub use frames::Console;
+pub use frames::{Console, frame_is_first};
+pub use nj_dots::Picture;
+pub use nj_ines::Cart;
+pub use nj_pad::Pad;
+pub use nj_steps::Steps;
+
+use nj_ppu::DotPicture;
+
+/// The machine, over the picture that runs each dot as it comes.
+pub type Machine = Console<DotPicture>;
 
 /// How a frame ended: with the unit that ran the picture's dot (241,1), or with a jammed processor.
 #[derive(Clone, Copy, Debug, PartialEq, Eq)]
