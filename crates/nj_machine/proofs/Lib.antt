@@ -5,3 +5,4 @@ pub mod Accesses
 pub mod Units
 pub mod Fuel
 pub mod First
+pub mod Images

@@ -1,3 +1,4 @@
 pub mod State
 pub mod Wires
 pub mod Frame
+pub mod Image
