@@ -1,6 +1,6 @@
 //! The NROM board.
 
-ghost use Rattle.std.specs.Prelude.{◌≡◌, ℕ, ◌+◌, ◌<◌, ◌≤◌, length, Bool};
+ghost use Rattle.std.specs.Prelude.{◌≡◌, ℕ, ◌+◌, ◌<◌, ◌≤◌, length, Bool, true};
 ghost use Rattle.nj_board.specs.Nrom.{Memory, IsProgram, nrom, byte_at};
 
 use crate::boards::Board;
@@ -41,6 +41,15 @@ impl Nrom {
         ensures { result ≡ self.now.chr_ram }
     {
         self.chr_ram
+    }
+
+    /// Replaces all of pattern memory, which is RAM.
+    pub fn load_pattern(&mut self, bytes: &[u8])
+        requires ram { self.old.chr_ram ≡ true }
+        requires len { length bytes.now ≡ 8192 }
+        ensures { self.new ≡ record self.old { chr = bytes.now } }
+    {
+        self.chr.as_mut_slice().copy_from_slice(bytes);
     }
 }
 

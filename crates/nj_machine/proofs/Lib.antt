@@ -5,4 +5,6 @@ pub mod Accesses
 pub mod Units
 pub mod Fuel
 pub mod First
-pub mod Images
+pub mod ReadBack
+pub mod Saves
+pub mod Loads

@@ -11,7 +11,7 @@ use nj_pad::{Pad, Port};
 
 /// All that the machine holds beside its processor, and the pad of the frame.
 #[derive(Drop)]
-pub struct Cells<P> {
+pub(crate) struct Cells<P> {
     pub picture: P,
     pub ram: [u8; 2048],
     pub board: Nrom,

@@ -20,8 +20,8 @@ use std::sync::ledger::Ledger;
 /// The machine between two frames, over any picture.
 #[derive(Drop)]
 pub struct Console<P: Picture> {
-    cpu: Cpu,
-    cells: Cells<P>,
+    pub(crate) cpu: Cpu,
+    pub(crate) cells: Cells<P>,
 }
 
 impl<P: Picture> Model for Console<P> {

@@ -4,6 +4,7 @@
 
 mod cells;
 mod frames;
+mod images;
 
 pub use frames::{Console, frame_is_first};
 pub use nj_dots::Picture;
