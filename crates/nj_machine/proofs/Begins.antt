@@ -1,7 +1,9 @@
 -- The machine at power-on.
-use Rattle.std.proofs.Common.{◌≡◌, ℕ, Bool, false, List, length, replicate, Option, None, refl, sym, ap, subst, ◌∙◌}
+use Rattle.std.proofs.Common.{◌≡◌, ◌⊎◌, inl, inr, ℕ, ◌%◌, ◌<◌, ◌≤◌, Bool, false, List, length, replicate, Option, None, refl, sym, ap, subst, ◌∙◌, arith}
+use Rattle.std.proofs.lemmas.Bool.{cases_lt}
 use Rattle.std.proofs.lemmas.List.{length-replicate}
-use Rattle.nj_ines.specs.Cartridge.{Cartridge}
+use Rattle.nj_ines.specs.Cartridge.{Cartridge, IsNrom}
+use Rattle.nj_vram.specs.Home.{blank}
 use Rattle.nj_board.specs.Nrom.{Memory, IsMemory}
 use Rattle.nj_cpu.specs.declared.state.Cpu.{Cpu}
 use Rattle.nj_cpu.specs.Unit.{powered_on}
@@ -10,7 +12,7 @@ use Rattle.nj_dots.specs.Screen.{IsScreen, power_on as screen_at_power_on}
 use Rattle.nj_dots.proofs.Kept.{power_on-fits}
 use Rattle.nj_pad.specs.declared.Port.{Port}
 use Rattle.nj_pad.specs.Port.{port_at_power_on}
-use Rattle.nj_machine.specs.State.{State, cells_of, memory_of, reset_vector, power_on}
+use Rattle.nj_machine.specs.State.{State, cells_of, memory_of, reset_vector, power_on, rom_in, rom_of}
 use Rattle.nj_machine.specs.Frame.{IsReady, IsSized}
 
 -- the parts of a machine that was just made
@@ -41,3 +43,22 @@ made_ready cart cpu screen ram board one two m sized =
       };
       clear = ap (λ s. s.ended) m.picture;
     }
+
+-- 16 or 32 KiB of program memory
+kib : (n : ℕ) → 0 < n → n ≤ 32768 → n % 16384 ≡ 0 → (n ≡ 16384) ⊎ (n ≡ 32768)
+kib n some most whole =
+    elim (cases_lt 16384 n) [ inl above ↦ inr (omega arith) | inr below ↦ inl (omega arith) ]
+
+pub sized_by : (cart : Cartridge) → IsNrom cart → IsMemory (memory_of cart)
+sized_by cart h = record { prg = kib (length cart.prg) h.some_prg h.most_prg h.whole_prg; chr = h.chr_size }
+
+-- the state at power-on is ready
+pub begun_ready : (cart : Cartridge) → IsNrom cart → IsReady (power_on cart)
+begun_ready cart h =
+    let made : Made cart (powered_on (reset_vector (memory_of cart))) (screen_at_power_on cart.vertical) (replicate 2048 0) (memory_of cart) port_at_power_on port_at_power_on =
+        record { registers = refl; picture = refl; zeros = refl; memory = refl; first = refl; second = refl } in
+    subst IsReady (made_is cart _ _ _ _ _ _ made) (made_ready cart _ _ _ _ _ _ made (sized_by cart h))
+
+pub begun_rom : (cart : Cartridge) → rom_of (power_on cart) ≡ rom_in (memory_of cart) cart.vertical
+unfolding power_on rom_of screen_at_power_on blank
+begun_rom cart = refl

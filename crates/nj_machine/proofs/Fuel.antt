@@ -1,7 +1,8 @@
 -- The fuel of a frame is enough: a unit that does not end the frame leaves fewer dots up to dot (241,1).
-use Rattle.std.proofs.Common.{◌≡◌, ℕ, zero, suc, ◌<◌, ◌≤◌, true, Option, Some, None, refl, sym, ap, ◌∙◌, subst, arith}
-use Rattle.nj_machine.specs.State.{State, Rom, rom_of, is_jammed}
-use Rattle.nj_machine.specs.Frame.{dots_left, unit_step, or_on, units_until, frame, IsReady}
+use Rattle.std.proofs.Common.{◌≡◌, ℕ, zero, suc, ◌<◌, ◌≤◌, true, List, [], ◌∷◌, Option, Some, None, refl, sym, ap, ◌∙◌, subst, arith}
+use Rattle.nj_ines.specs.Cartridge.{Cartridge}
+use Rattle.nj_machine.specs.State.{State, Rom, rom_of, is_jammed, power_on}
+use Rattle.nj_machine.specs.Frame.{dots_left, unit_step, or_on, units_until, frame, frames, play, IsReady}
 use Rattle.nj_machine.specs.declared.FrameEnd.{FrameEnd}
 use Rattle.nj_machine.specs.declared.FrameEnd.TheVariants.{Picture, Jammed}
 use Rattle.nj_machine.proofs.Units.{Leaves, unit_leaves, unit_fewer, left_positive, jam_stays}
@@ -73,3 +74,18 @@ units-leave pad (suc n) s h =
 pub frame_leaves : (s : State) (pad : ℕ) → IsReady s → Leaves s (frame s pad).0
 unfolding frame
 frame_leaves s pad h = units-leave pad (dots_left s) s h
+
+-- and so do frames one after another
+pub frames_leave : (s : State) (pads : List ℕ) → IsReady s → Leaves s (frames s pads)
+frames_leave s [] h = record { ready = h; of_rom = refl }
+frames_leave s (pad ∷ pads) h =
+    let first = frame_leaves s pad h in leaves-then s (frame s pad).0 (frames (frame s pad).0 pads) first (frames_leave (frame s pad).0 pads first.ready)
+
+pub played : (cart : Cartridge) (movie : List ℕ) → IsReady (power_on cart) → Leaves (power_on cart) (play cart movie)
+unfolding play
+played cart movie h = frames_leave (power_on cart) movie h
+
+-- within a frame: what is left of it is the frame that began, and the cartridge is the same
+pub record StillIn (pad : ℕ) (began now : State) : Type 0 where
+  pub same_frame : frame now pad ≡ frame began pad
+  pub same_rom : rom_of now ≡ rom_of began

@@ -152,10 +152,8 @@ jam_stays pad s h e =
     ∙ ap (λ c. (record { cpu = s.cpu; cells = c }, Some Jammed)) clear
 
 -- the parts of a state after a unit whose mark was taken off
-pub ready_by : (pad : ℕ) (s : State) (cpu : Cpu) (w : Wired) (screen : Screen) → IsReady s →
+pub leaves_by : (pad : ℕ) (s : State) (cpu : Cpu) (w : Wired) (screen : Screen) → IsReady s →
     cpu ≡ (unit_of wires s.cpu (record { cells = s.cells; pad = pad })).cpu → w ≡ (unit_of wires s.cpu (record { cells = s.cells; pad = pad })).held →
-    screen ≡ (let p = w.cells.screen in record p { ended = false }) → IsReady (record { cpu = cpu; cells = record w.cells { screen = screen } })
+    screen ≡ (let p = w.cells.screen in record p { ended = false }) → Leaves s (record { cpu = cpu; cells = record w.cells { screen = screen } })
 unfolding unit_step
-ready_by pad s cpu w screen h registers held taken =
-    let left = unit_leaves pad s h in
-    rw (taken, registers, held) left.ready
+leaves_by pad s cpu w screen h registers held taken = rw (taken, registers, held) (unit_leaves pad s h)

@@ -72,7 +72,8 @@ impl<P: Picture + Drop> Console<P> {
     /// The machine of a cartridge, before its first cycle.
     #[tactic(auto, unfolding(crate::specs::State::power_on))]
     pub fn power_on(alloc: Global, cart: &Cart) -> Result<Self, AllocError>
-        ensures { IfOk result (λ machine. machine ≡ power_on cart.now) }
+        ensures begun { IfOk result (λ machine. machine ≡ power_on cart.now) }
+        ensures ready { IfOk result (λ machine. IsReady machine) }
     {
         let board = board_of(alloc, cart)?;
         let cpu = nj_cpu::power_on(reset_vector(&board));
@@ -96,6 +97,8 @@ impl<P: Picture + Drop> Console<P> {
     pub fn frame<L: Ledger>(&mut self, pad: Pad, steps: &mut Steps<L>) -> FrameEnd
         ensures after { frame self.old pad ≡ (self.new, result) }
         ensures jammed { (result ≡ FrameEnd.Jammed) ↔ (is_jammed self.new ≡ true) }
+        ensures ready { IsReady self.new }
+        ensures cartridge { rom_of self.new ≡ rom_of self.old }
         ensures counted { steps.new ≡ min (steps.old + 1) (2 ^ 64 - 1) }
     {
         steps.tick();
@@ -128,7 +131,9 @@ impl<P: Picture + Drop> Console<P> {
     #[tactic(auto, unfolding(crate::specs::Frame::unit_step))]
     fn unit_step(&mut self, pad: Pad) -> Option<FrameEnd>
         ensures step { unit_step pad self.old ≡ (self.new, result) }
-        ensures ready { IsReady self.old }
+        ensures began { IsReady self.old }
+        ensures ready { IsReady self.new }
+        ensures cartridge { rom_of self.new ≡ rom_of self.old }
     {
         self.cells.pad = pad;
         let end = nj_cpu::unit(&mut self.cpu, &mut self.cells);
@@ -145,9 +150,3 @@ impl<P: Picture + Drop> Console<P> {
         }
     }
 }
-
-/// A frame ends with the first unit that ends it: from each state between two frames there is a number of units before
-/// which no unit ends the frame, and the unit after them ends it with the frame's state and end.
-pub fn frame_is_first()
-    ensures { (s : State) (pad : ℕ) → IsReady s → (n : ℕ) × IsFirstEnd s pad n (frame s pad) }
-{}

@@ -5,8 +5,10 @@
 mod cells;
 mod frames;
 mod images;
+mod laws;
 
-pub use frames::{Console, frame_is_first};
+pub use frames::Console;
+pub use laws::{a_jam_stays, an_image_tells_its_state, frame_is_first, frames_keep_the_cartridge};
 pub use nj_dots::Picture;
 pub use nj_ines::Cart;
 pub use nj_pad::Pad;

@@ -16,8 +16,8 @@ invariant_of-result g c =
       second = c.new-2.ensures;
     }) c.in_ok-board.ensures.sized
 
-pub returns : goal.returns
-returns g c =
+pub returns-clause-begun : goal.returns-clause-begun
+returns-clause-begun g c =
     made_is c.args.cart.now _ _ _ _ _ _ (record {
       registers = c.power_on-cpu.ensures ∙ ap (λ pc. powered_on pc) c.reset_vector.ensures;
       picture = c.power_on.ensures _ ∙ ap screen_at_power_on c.vertical.ensures;
@@ -26,3 +26,6 @@ returns g c =
       first = c.new.ensures;
       second = c.new-2.ensures;
     })
+
+pub returns-clause-ready : goal.returns-clause-ready
+returns-clause-ready g c = invariant_of-result g c
