@@ -99,3 +99,37 @@ impl Board for Nrom {
     #[inline]
     fn set_bank(&mut self, _bank: u8) {}
 }
+
+#[cfg(test)]
+mod tests {
+    use super::*;
+    use std::alloc::{AllocError, Global};
+    use std::test::Fail;
+
+    fn board(alloc: Global, chr_ram: bool) -> Result<Nrom, AllocError> {
+        let mut prg = vec![in alloc; 0; 0x4000]?;
+        prg[1] = 0x42;
+        let chr = vec![in alloc; 0; 0x2000]?;
+        Ok(Nrom::new(prg, chr, chr_ram))
+    }
+
+    fn read_twice<B: Board>(board: &mut B) -> (Option<u8>, Option<u8>) {
+        board.cpu_write(0x8001, 0x99);
+        board.put_pattern(7, 0x17);
+        (board.cpu_read(0x8001), board.cpu_read(0xC001))
+    }
+
+    // 16 KiB of program memory stand twice from $8000 on; nothing is mapped below. Pattern memory is written where it is RAM.
+    #[test]
+    fn sees_its_memories(rt: HostRuntime) -> Result<(), Fail> {
+        let mut ram = board(rt.alloc(), true)?;
+        assert_eq!(rt; read_twice(&mut ram), (Some(0x42), Some(0x42)));
+        assert_eq!(rt; ram.cpu_read(0x7FFF), None);
+        assert_eq!(rt; ram.pattern()[7], 0x17);
+        assert_eq!(rt; ram.bank(), 0);
+        let mut rom = board(rt.alloc(), false)?;
+        let _ = read_twice(&mut rom);
+        assert_eq!(rt; rom.pattern()[7], 0);
+        Ok(())
+    }
+}

@@ -147,7 +147,7 @@ register_read-stays : (rom : Rom) (reg : ℕ) (w : Wired) → Keeps rom w → St
 unfolding register_read
 register_read-stays rom reg w h =
     accessed rom w (screen_after_read reg w.cells.board.chr w.cells.screen) h
-      (after_read-fits reg w.cells.board.chr w.cells.screen h.sized.screen) (same-read reg w.cells.board.chr w.cells.screen)
+    (after_read-fits reg w.cells.board.chr w.cells.screen h.sized.screen) (same-read reg w.cells.board.chr w.cells.screen)
 
 port_one_read-stays : (rom : Rom) (w : Wired) → Keeps rom w → Stays rom w (port_one_read w)
 unfolding port_one_read

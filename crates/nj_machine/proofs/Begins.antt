@@ -56,7 +56,7 @@ sized_by cart h = record { prg = kib (length cart.prg) h.some_prg h.most_prg h.w
 pub begun_ready : (cart : Cartridge) → IsNrom cart → IsReady (power_on cart)
 begun_ready cart h =
     let made : Made cart (powered_on (reset_vector (memory_of cart))) (screen_at_power_on cart.vertical) (replicate 2048 0) (memory_of cart) port_at_power_on port_at_power_on =
-        record { registers = refl; picture = refl; zeros = refl; memory = refl; first = refl; second = refl } in
+    record { registers = refl; picture = refl; zeros = refl; memory = refl; first = refl; second = refl } in
     subst IsReady (made_is cart _ _ _ _ _ _ made) (made_ready cart _ _ _ _ _ _ made (sized_by cart h))
 
 pub begun_rom : (cart : Cartridge) → rom_of (power_on cart) ≡ rom_in (memory_of cart) cart.vertical

@@ -77,7 +77,7 @@ move_restarts : (s t : Screen) → IsPlaced s.position → Marked (is_next 241 1
 unfolding frame_begun is_last_dot is_next
 move_restarts s t h m last =
     let moved_last : ((s.position.line == 261 && s.position.dot == 340) || ((s.position.line == 261 && s.position.dot == 339) && t.odd_frame && is_rendering t.mask)) ≡ true =
-        ap (λ (p : Position). (p.line == 261 && p.dot == 340) || ((p.line == 261 && p.dot == 339) && t.odd_frame && is_rendering t.mask)) (sym m.place) ∙ last in
+    ap (λ (p : Position). (p.line == 261 && p.dot == 340) || ((p.line == 261 && p.dot == 339) && t.odd_frame && is_rendering t.mask)) (sym m.place) ∙ last in
     let place : AtLast s.position.line s.position.dot = last_place s.position.line s.position.dot t.odd_frame (is_rendering t.mask) moved_last in
     record {
       fewer = rw m.mark (restarted s.position.line s.position.dot s.ended place.at_line place.at_dot h.dot);
@@ -89,10 +89,10 @@ unfolding advanced after_position is_next
 move_advances s t h m =
     record {
       fewer =
-        rw (m.mark, m.place)
+          rw (m.mark, m.place)
           (choice (λ (p : Position). still p.line p.dot ((s.position.line == 241 && s.position.dot == 1) || s.ended) ≤ still_left s - 1) (s.position.dot == 340) _ _
-            (λ e. let at : s.position.dot ≡ 340 = grind (arith, nat_tests) in turned s.position.line s.position.dot s.ended h.line at)
-            (λ e. let below : s.position.dot < 340 = grind (arith, nat_tests, h.dot) in onward s.position.line s.position.dot s.ended h.line below));
+          (λ e. let at : s.position.dot ≡ 340 = grind (arith, nat_tests) in turned s.position.line s.position.dot s.ended h.line at)
+          (λ e. let below : s.position.dot < 340 = grind (arith, nat_tests, h.dot) in onward s.position.line s.position.dot s.ended h.line below));
       vertical = ap (λ v. v.vertical) m.memory;
     }
 

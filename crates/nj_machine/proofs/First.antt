@@ -17,12 +17,14 @@ one_more pad s t n end e first = record { before = before; at_ = rw e first.at_ 
 -- by how the next unit ended the frame, if it did
 first_by : (fuel : ℕ) (s : State) (pad : ℕ) (end : Option FrameEnd) → IsReady s → dots_left s ≤ suc fuel → (unit_step pad s).1 ≡ end →
     ((t : State) → GoesOn s t → unit_step pad s ≡ (t, None) → (n : ℕ) × IsFirstEnd t pad n (frame t pad)) → (n : ℕ) × IsFirstEnd s pad n (frame s pad)
-first_by fuel s pad (Some end) ready h e rest =
-    (0, record {
-      before = λ k below. absurd (omega arith);
-      at_ = let ends = frame_ends s (unit_step pad s).0 end pad ready (ap (λ x. ((unit_step pad s).0, x)) e) in
-            rw ends (ap (λ x. ((unit_step pad s).0, x)) e);
-    })
+first_by fuel s pad (Some end) ready h e rest = (
+  0,
+  record {
+    before = λ k below. absurd (omega arith);
+    at_ = let ends = frame_ends s (unit_step pad s).0 end pad ready (ap (λ x. ((unit_step pad s).0, x)) e) in
+        rw ends (ap (λ x. ((unit_step pad s).0, x)) e);
+  },
+)
 first_by fuel s pad None ready h e rest =
     let t = (unit_step pad s).0 in
     let step : unit_step pad s ≡ (t, None) = ap (λ x. (t, x)) e in

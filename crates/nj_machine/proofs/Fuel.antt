@@ -27,7 +27,7 @@ enough pad zero m s h p q = absurd (omega (arith, left_positive s h))
 enough pad (suc n) zero s h p q = absurd (omega (arith, left_positive s h))
 enough pad (suc n) (suc m) s h p q =
     or_on_same (unit_step pad s).0 (unit_step pad s).1 (units_until pad n) (units_until pad m)
-      (λ e. let next = goes_on pad s h e in enough pad n m (unit_step pad s).0 next.ready (omega (arith, next.fewer)) (omega (arith, next.fewer)))
+    (λ e. let next = goes_on pad s h e in enough pad n m (unit_step pad s).0 next.ready (omega (arith, next.fewer)) (omega (arith, next.fewer)))
 
 -- the frame by its first unit
 frame_unfolds : (s : State) (pad : ℕ) → IsReady s → frame s pad ≡ or_on (unit_step pad s).0 (unit_step pad s).1 (units_until pad (dots_left s))
@@ -47,7 +47,7 @@ unfolding frame
 frame_goes_on s t pad h e =
     let next = next_of pad s t h e in
     enough pad (dots_left t) (dots_left s) t next.ready (omega arith) (omega (arith, next.fewer))
-      ∙ sym (frame_unfolds s pad h ∙ ap (λ step. or_on step.0 step.1 (units_until pad (dots_left s))) e)
+    ∙ sym (frame_unfolds s pad h ∙ ap (λ step. or_on step.0 step.1 (units_until pad (dots_left s))) e)
 
 pub fewer_left : (s t : State) (pad : ℕ) → IsReady s → unit_step pad s ≡ (t, None) → dots_left t < dots_left s
 fewer_left s t pad h e = let next = next_of pad s t h e in next.fewer

@@ -28,7 +28,7 @@ unfolding picture_part
 parts_of ram picture rest pattern r p m =
     let behind_ram = drop_at ram (picture ++ (rest ++ pattern)) 2048 r in
     let behind_picture : drop 4448 (ram ++ (picture ++ (rest ++ pattern))) ≡ rest ++ pattern =
-        sym (drop-drop 2400 2048 (ram ++ (picture ++ (rest ++ pattern)))) ∙ ap (drop 2400) behind_ram ∙ drop_at picture (rest ++ pattern) 2400 p in
+    sym (drop-drop 2400 2048 (ram ++ (picture ++ (rest ++ pattern)))) ∙ ap (drop 2400) behind_ram ∙ drop_at picture (rest ++ pattern) 2400 p in
     record {
       first = take_at ram (picture ++ (rest ++ pattern)) 2048 r;
       second = ap (take 2400) behind_ram ∙ take_at picture (rest ++ pattern) 2400 p;
@@ -57,7 +57,7 @@ pub image_parts : (s : State) → IsReady s →
 unfolding image_of
 image_parts s h =
     parts_of s.cells.ram (picture_bytes s.cells.screen) (rest_bytes s ++ replicate 7 0) (pattern_ram s.cells.board.chr_ram s.cells.board.chr)
-      h.sized.ram (length-picture_bytes s.cells.screen h.sized.screen) (length-rest s)
+    h.sized.ram (length-picture_bytes s.cells.screen h.sized.screen) (length-rest s)
 
 -- bytes, flags, notes and pages are read again as they were written
 word-back : (n : ℕ) → n % 256 + 256 * (n / 256) ≡ n
@@ -112,8 +112,15 @@ image-length s h =
     let pattern = pattern_ram s.cells.board.chr_ram s.cells.board.chr in
     let whole = pattern-length s.cells.board.chr_ram s.cells.board.chr h.sized.board.chr in
     length-append s.cells.ram (picture_bytes s.cells.screen ++ ((rest_bytes s ++ replicate 7 0) ++ pattern))
-    ∙ omega (arith, whole, h.sized.ram, length-picture_bytes s.cells.screen h.sized.screen, length-rest s,
-        length-append (picture_bytes s.cells.screen) ((rest_bytes s ++ replicate 7 0) ++ pattern), length-append (rest_bytes s ++ replicate 7 0) pattern)
+    ∙ omega (
+      arith,
+      whole,
+      h.sized.ram,
+      length-picture_bytes s.cells.screen h.sized.screen,
+      length-rest s,
+      length-append (picture_bytes s.cells.screen) ((rest_bytes s ++ replicate 7 0) ++ pattern),
+      length-append (rest_bytes s ++ replicate 7 0) pattern,
+    )
 
 long_enough : (b : Bool) → 4480 ≤ (if b then 12672 else 4480)
 long_enough true = lit≤ tt
@@ -133,10 +140,10 @@ again s h =
     let screen = screen-back s.cells.screen image h.sized.screen h.clear long parts.second in
     let board = board-back s.cells.board s.cells.screen.vram.vertical image parts.last in
     let cells =
-        cells-back s
-        ∙ ap (λ x. cells_of x (take 2048 image) (board_at (rom_of s) image) s.cells.bus_byte s.cells.page s.cells.odd s.cells.port_one s.cells.port_two) screen
-        ∙ ap (λ x. cells_of s.cells.screen x (board_at (rom_of s) image) s.cells.bus_byte s.cells.page s.cells.odd s.cells.port_one s.cells.port_two) parts.first
-        ∙ ap (λ x. cells_of s.cells.screen s.cells.ram x s.cells.bus_byte s.cells.page s.cells.odd s.cells.port_one s.cells.port_two) board in
+    cells-back s
+    ∙ ap (λ x. cells_of x (take 2048 image) (board_at (rom_of s) image) s.cells.bus_byte s.cells.page s.cells.odd s.cells.port_one s.cells.port_two) screen
+    ∙ ap (λ x. cells_of s.cells.screen x (board_at (rom_of s) image) s.cells.bus_byte s.cells.page s.cells.odd s.cells.port_one s.cells.port_two) parts.first
+    ∙ ap (λ x. cells_of s.cells.screen s.cells.ram x s.cells.bus_byte s.cells.page s.cells.odd s.cells.port_one s.cells.port_two) board in
     ap (λ bytes. record { cpu = cpu_at bytes; cells = cells_at (rom_of s) image bytes }) parts.third
     ∙ ap (λ x. record { cpu = x; cells = cells_at (rom_of s) image (rest_bytes s ++ replicate 7 0) }) (cpu-back s)
     ∙ ap (λ x. record { cpu = s.cpu; cells = x }) cells

@@ -138,7 +138,7 @@ end_tells pad s t end e =
     let u = unit_now pad s in
     let jammed : u.cpu.jammed ≡ t.cpu.jammed = ap (λ step. step.0.cpu.jammed) e in
     let told : end_by (end_of u.cpu.jammed) u.held.cells.screen.ended ≡ Some end =
-        ap (λ x. end_by x u.held.cells.screen.ended) (sym (unit-end wires s.cpu (wired pad s))) ∙ ap (λ step. step.1) e in
+    ap (λ x. end_by x u.held.cells.screen.ended) (sym (unit-end wires s.cpu (wired pad s))) ∙ ap (λ step. step.1) e in
     rw (← jammed) (an_end u.cpu.jammed u.held.cells.screen.ended end told)
 
 -- a unit of a jammed machine changes nothing
@@ -147,7 +147,7 @@ unfolding unit_step is_jammed
 jam_stays pad s h e =
     let nothing = unit-jammed wires s.cpu (wired pad s) e in
     let clear : unmarked s.cells ≡ s.cells =
-        ap (λ b. record s.cells { screen = (let p = s.cells.screen in record p { ended = b }) }) (sym h.clear) in
+    ap (λ b. record s.cells { screen = (let p = s.cells.screen in record p { ended = b }) }) (sym h.clear) in
     ap (λ u. (record { cpu = u.cpu; cells = unmarked u.held.cells }, end_by u.end_ u.held.cells.screen.ended)) nothing
     ∙ ap (λ c. (record { cpu = s.cpu; cells = c }, Some Jammed)) clear
 

@@ -68,30 +68,30 @@ port_at bytes i =
 -- the processor from the first 15 of the 32 bytes
 unfoldable pub cpu_at : List ℕ → Cpu
 cpu_at bytes = record {
-    a = slice_index bytes 0;
-    x = slice_index bytes 1;
-    y = slice_index bytes 2;
-    s = slice_index bytes 3;
-    pc = slice_index bytes 4 + 256 * slice_index bytes 5;
-    flags = record {
-      n = flag_at bytes 6;
-      v = flag_at bytes 7;
-      d = flag_at bytes 8;
-      i = flag_at bytes 9;
-      z = flag_at bytes 10;
-      c = flag_at bytes 11;
-    };
-    note = note_at bytes 12;
-    line = flag_at bytes 13;
-    jammed = flag_at bytes 14;
-  }
+  a = slice_index bytes 0;
+  x = slice_index bytes 1;
+  y = slice_index bytes 2;
+  s = slice_index bytes 3;
+  pc = slice_index bytes 4 + 256 * slice_index bytes 5;
+  flags = record {
+    n = flag_at bytes 6;
+    v = flag_at bytes 7;
+    d = flag_at bytes 8;
+    i = flag_at bytes 9;
+    z = flag_at bytes 10;
+    c = flag_at bytes 11;
+  };
+  note = note_at bytes 12;
+  line = flag_at bytes 13;
+  jammed = flag_at bytes 14;
+}
 
 -- the picture from an image, no end marked
 unfoldable pub screen_at : Bool → List ℕ → Screen
 screen_at vertical image =
     with_registers (take 26 (drop 4384 image)) (let s = screen_at_power_on vertical in record s {
       oam = take 256 (drop 4096 image);
-      vram = record { vertical = vertical; cells = take 2048 (drop 2048 image); palette = take 32 (drop 4352 image) }
+      vram = record { vertical = vertical; cells = take 2048 (drop 2048 image); palette = take 32 (drop 4352 image) };
     })
 
 -- the board of this cartridge, with pattern memory from an image where it is RAM
@@ -103,7 +103,7 @@ board_at rom image =
 unfoldable pub cells_at : Rom → List ℕ → List ℕ → Cells
 cells_at rom image bytes =
     cells_of (screen_at rom.vertical image) (take 2048 image) (board_at rom image) (slice_index bytes 21) (page_at bytes 22)
-      (flag_at bytes 24) (port_at bytes 15) (port_at bytes 18)
+    (flag_at bytes 24) (port_at bytes 15) (port_at bytes 18)
 
 -- the state of this cartridge that has this image
 unfoldable pub of_image : Rom → List ℕ → State

@@ -66,10 +66,10 @@ pattern_put (Some put) board = put_at board put.0 put.1
 -- a register of the picture is written
 unfoldable pub register_put : ℕ → ℕ → Wired → Wired
 register_put reg value w = record w {
-    cells = (let c = w.cells in record c {
-        screen = screen_after_write reg value c.screen;
-        board = pattern_put (to_pattern reg value c.screen) c.board
-    })
+  cells = (let c = w.cells in record c {
+    screen = screen_after_write reg value c.screen;
+    board = pattern_put (to_pattern reg value c.screen) c.board;
+  });
 }
 
 -- a sprite copy of a page is asked for
@@ -79,10 +79,10 @@ copy_asked page w = record w { cells = (let c = w.cells in record c { page = Som
 -- both ports are strobed; port 2's pad has nothing pressed
 unfoldable pub ports_strobed : ℕ → Wired → Wired
 ports_strobed value w = record w {
-    cells = (let c = w.cells in record c {
-        port_one = port_after_write c.port_one value w.pad;
-        port_two = port_after_write c.port_two value 0
-    })
+  cells = (let c = w.cells in record c {
+    port_one = port_after_write c.port_one value w.pad;
+    port_two = port_after_write c.port_two value 0;
+  });
 }
 
 -- what a write changes: working memory, a register of the picture, the page of a sprite copy at $4014, the ports at $4016

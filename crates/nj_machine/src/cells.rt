@@ -36,8 +36,8 @@ impl<P: Picture + Drop> Bus for Cells<P> {
     ghost Held = { Wired };
 
     ghost held = { λ c. record {
-        cells = cells_of (P.meaning c.picture c.board.chr) c.ram c.board c.bus_byte c.page c.odd c.port_one c.port_two;
-        pad = c.pad;
+      cells = cells_of (P.meaning c.picture c.board.chr) c.ram c.board c.bus_byte c.page c.odd c.port_one c.port_two;
+      pad = c.pad;
     } };
 
     ghost acts = { wires };
@@ -71,7 +71,10 @@ impl<P: Picture + Drop> Bus for Cells<P> {
         if at < 0x2000 {
             self.ram[at as usize % 2048] = value;
         } else if at < 0x4000 {
-            if let Some((place, byte)) = self.picture.write((at % 8) as u8, value, self.board.pattern()) {
+            if let Some((place, byte)) = self
+                .picture
+                .write((at % 8) as u8, value, self.board.pattern())
+            {
                 self.board.put_pattern(place, byte);
             }
         } else if at == 0x4014 {

@@ -31,13 +31,13 @@ impl<P: Picture> Model for Console<P> {
     ghost Value = { State };
 
     ghost view = { λ m. record {
-        cpu = m.cpu;
-        cells = cells_of (P.meaning m.cells.picture m.cells.board.chr) m.cells.ram m.cells.board m.cells.bus_byte m.cells.page m.cells.odd m.cells.port_one m.cells.port_two;
+      cpu = m.cpu;
+      cells = cells_of (P.meaning m.cells.picture m.cells.board.chr) m.cells.ram m.cells.board m.cells.bus_byte m.cells.page m.cells.odd m.cells.port_one m.cells.port_two;
     } };
 
     ghost invariant = { λ m. IsReady (record {
-        cpu = m.cpu;
-        cells = cells_of (P.meaning m.cells.picture m.cells.board.chr) m.cells.ram m.cells.board m.cells.bus_byte m.cells.page m.cells.odd m.cells.port_one m.cells.port_two;
+      cpu = m.cpu;
+      cells = cells_of (P.meaning m.cells.picture m.cells.board.chr) m.cells.ram m.cells.board m.cells.bus_byte m.cells.page m.cells.odd m.cells.port_one m.cells.port_two;
     }) };
 }
 
@@ -140,13 +140,7 @@ impl<P: Picture + Drop> Console<P> {
         let ended = self.cells.picture.take_end();
         match end {
             UnitEnd::Jammed => Some(FrameEnd::Jammed),
-            UnitEnd::Done => {
-                if ended {
-                    Some(FrameEnd::Picture)
-                } else {
-                    None
-                }
-            }
+            UnitEnd::Done => { if ended { Some(FrameEnd::Picture) } else { None } }
         }
     }
 }

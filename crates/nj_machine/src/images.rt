@@ -77,7 +77,11 @@ fn page_at(bytes: &[u8], at: usize) -> Option<u8>
     requires { at + 1 < length bytes.now }
     ensures { result ≡ page_at bytes.now at }
 {
-    if flag(bytes[at]) { Some(bytes[at + 1]) } else { None }
+    if flag(bytes[at]) {
+        Some(bytes[at + 1])
+    } else {
+        None
+    }
 }
 
 // The port at a place of the bytes.

@@ -6,15 +6,16 @@ mod cells;
 mod frames;
 mod images;
 mod laws;
+#[cfg(test)]
+mod tests;
 
 pub use frames::Console;
 pub use laws::{a_jam_stays, an_image_tells_its_state, frame_is_first, frames_keep_the_cartridge};
 pub use nj_dots::Picture;
 pub use nj_ines::Cart;
 pub use nj_pad::Pad;
-pub use nj_steps::Steps;
-
 use nj_ppu::DotPicture;
+pub use nj_steps::Steps;
 
 /// The machine, over the picture that runs each dot as it comes.
 pub type Machine = Console<DotPicture>;

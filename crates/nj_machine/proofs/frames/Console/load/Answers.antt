@@ -17,9 +17,13 @@ get-requires-clause-long g c = omega (arith, c.requires.sized, image-long (rom_o
 pub get-requires-clause-stored : goal.get-requires-clause-stored
 get-requires-clause-stored g c =
     let settled = c.settle.ensures.same [] ∙ ap (λ q. g.P.Picture.meaning c.self.inside.cells.picture q) c.pattern.ensures.bytes in
-    let mirroring = ap (λ x. x.vram.vertical) settled ∙ ap (λ s. s.cells.screen.vram.vertical) c.self.view_is in
-    ([], ((of_image (rom_of c.args.self.now) c.args.image.now).cells.screen,
-      (holds_of (rom_of c.args.self.now) c.args.image.now c.requires, mirroring_of c.args.self.now c.args.image.now c.requires ∙ sym mirroring)))
+    let mirroring = ap (λ x. x.vram.vertical) settled ∙ ap (λ s. s.cells.screen.vram.vertical) c.self.view_is in (
+      [],
+      (
+        (of_image (rom_of c.args.self.now) c.args.image.now).cells.screen,
+        (holds_of (rom_of c.args.self.now) c.args.image.now c.requires, mirroring_of c.args.self.now c.args.image.now c.requires ∙ sym mirroring),
+      ),
+    )
 
 pub ram_part-requires : goal.ram_part-requires
 ram_part-requires g c = omega (arith, c.requires.sized, image-long (rom_of c.args.self.now))
@@ -38,12 +42,12 @@ returns-clause-state g c =
       rest_is = c.rest_part-bytes.ensures.part;
       cpu_is = c.cpu_at-self-inside.ensures;
       screen_is =
-        c.get.ensures.state p _ (holds_of (rom_of c.args.self.now) c.args.image.now c.requires)
+          c.get.ensures.state p _ (holds_of (rom_of c.args.self.now) c.args.image.now c.requires)
           (mirroring_of c.args.self.now c.args.image.now c.requires ∙ sym mirroring);
       ram_is = c.copy_from_slice.ensures.after ∙ c.ram_part.ensures.part;
       board_is =
-        c.take_pattern.ensures
-        ∙ ap (with_pattern c.args.image.now) (ap (λ s. s.cells.board) c.self.view_is);
+          c.take_pattern.ensures
+          ∙ ap (with_pattern c.args.image.now) (ap (λ s. s.cells.board) c.self.view_is);
       page_is = c.page_at-self-inside.ensures;
       odd_is = c.flag-self-inside.ensures;
       one_is = c.port_at-self-inside.ensures;

@@ -23,19 +23,19 @@ pub place_pattern-requires : goal.place_pattern-requires
 unfolding rom_of
 place_pattern-requires g c is_ram =
     with_ram (rom_of c.args.self.now) _ (c.place-2.auto.image ∙ c.put.auto.image ∙ c.place.auto.image ∙ c.requires)
-      (ap (λ s. s.cells.board.chr_ram) (sym c.self.view_is) ∙ is_ram)
+    (ap (λ s. s.cells.board.chr_ram) (sym c.self.view_is) ∙ is_ram)
 
 pub returns-clause-image : goal.returns-clause-image
 returns-clause-image g c =
     save_chain c.args.self.now _ _ _ _ _ _ _ _ _ (subst IsReady c.self.view_is c.self.invariant)
-      (ap (λ s. s.cells.ram) c.self.view_is) (ap (λ s. s.cells.screen) c.self.view_is) (ap (λ s. s.cells.board) c.self.view_is)
-      c.requires c.rest_bytes-rest.ensures c.place.ensures
-      (c.put.ensures []
-        ∙ ap (λ x. with_picture x c.place.new.image)
-            (c.settle.ensures.same [] ∙ ap (λ q. g.P.Picture.meaning c.self.inside.cells.picture q) c.pattern.ensures.bytes))
-      c.place-2.ensures c.place_pattern.ensures
+    (ap (λ s. s.cells.ram) c.self.view_is) (ap (λ s. s.cells.screen) c.self.view_is) (ap (λ s. s.cells.board) c.self.view_is)
+    c.requires c.rest_bytes-rest.ensures c.place.ensures
+    (c.put.ensures []
+    ∙ ap (λ x. with_picture x c.place.new.image)
+    (c.settle.ensures.same [] ∙ ap (λ q. g.P.Picture.meaning c.self.inside.cells.picture q) c.pattern.ensures.bytes))
+    c.place-2.ensures c.place_pattern.ensures
 
 pub returns-clause-is_image : goal.returns-clause-is_image
 returns-clause-is_image g c =
     subst (IsImage (rom_of c.args.self.now)) (sym (returns-clause-image g c))
-      (saved c.args.self.now (subst IsReady c.self.view_is c.self.invariant))
+    (saved c.args.self.now (subst IsReady c.self.view_is c.self.invariant))

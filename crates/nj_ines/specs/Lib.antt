@@ -1,0 +1,2 @@
+pub mod Cartridge
+pub mod Header
