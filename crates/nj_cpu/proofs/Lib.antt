@@ -1,2 +1,6 @@
 pub mod Walks
 pub mod Lower
+pub mod Runs
+pub mod Cycles
+pub mod Straight
+pub mod Stack

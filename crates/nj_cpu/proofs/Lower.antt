@@ -1,8 +1,8 @@
 -- What every access keeps, a walk and a unit keep, over any bus; and a unit that is not nothing makes an access.
 -- The bus is told by In, which holds of all that it can hold, and by a number that each access makes fewer by n.
-use Rattle.std.proofs.Common.{◌≡◌, ℕ, ◌+◌, ◌-◌, ◌≤◌, Bool, true, false, cond, List, [], ◌∷◌, ◌++◌, Option, Some, None, refl, sym, ap, subst, arith}
+use Rattle.std.proofs.Common.{◌≡◌, ℕ, ◌+◌, ◌-◌, ◌≤◌, Bool, true, false, cond, List, [], ◌∷◌, ◌++◌, Option, Some, None, refl, sym, subst, arith}
 use Rattle.nj_isa.specs.Bus.{Acts}
-use Rattle.nj_isa.specs.Accesses.{Place, AtPc, At, Transfer, Ignores, ToLow, ToHigh, ToPointer, ToPage, ToData, ToFlags, PutsStored, PutsData, PutsChanged, PutsPcHigh, PutsPcLow, PutsFlags, Move, Stay, PcUp, StackUp, StackDown, Jump, JumpPast, PointerUp, Mask, Access, access, accesses, class_of, enter, copies}
+use Rattle.nj_isa.specs.Accesses.{Place, AtPc, Transfer, Ignores, ToLow, ToHigh, ToPointer, ToPage, ToData, ToFlags, PutsStored, PutsData, PutsChanged, PutsPcHigh, PutsPcLow, PutsFlags, Move, Stay, PcUp, StackUp, StackDown, Jump, JumpPast, PointerUp, Mask, Access, access, accesses, class_of, enter, copies}
 use Rattle.nj_isa.specs.Table.{row_of}
 use Rattle.nj_isa.specs.declared.operations.Op.{Op}
 use Rattle.nj_isa.specs.declared.operations.Op.TheVariants.{Nop}
@@ -12,10 +12,9 @@ use Rattle.nj_isa.specs.declared.table.OpRow.{OpRow}
 use Rattle.nj_cpu.specs.declared.state.Cpu.{Cpu}
 use Rattle.nj_cpu.specs.declared.state.Note.{Note}
 use Rattle.nj_cpu.specs.declared.state.Note.TheVariants.{None as NoNote, Late, Due}
-use Rattle.nj_cpu.specs.declared.state.Rises.{Rises}
 use Rattle.nj_cpu.specs.declared.state.UnitEnd.TheVariants.{Jammed}
 use Rattle.nj_cpu.specs.Walk.{Walk, begun, address_of, is_made, read_at, transferred, moved, step, walk}
-use Rattle.nj_cpu.specs.Unit.{Unit, no_rise, opened, rest_by, rest_of, instruction, entered, waits, copied, on_note, on_page, active, noted, unit_of}
+use Rattle.nj_cpu.specs.Unit.{no_rise, opened, rest_by, rest_of, instruction, entered, waits, copied, on_note, on_page, active, noted, unit_of}
 
 -- after h the bus holds e, which is in order, with n fewer left
 pub record Lower {Held : Type 0} (In : Held → Type 0) (left : Held → ℕ) (n : ℕ) (h e : Held) : Type 0 where

@@ -1,12 +1,9 @@
 -- Laws of the walk over a list of accesses.
-use Rattle.std.proofs.Common.{◌≡◌, ℕ, suc, ◌+◌, ◌*◌, Bool, true, false, List, [], ◌∷◌, ◌++◌, refl, ap, ◌∙◌, add-one, sym}
+use Rattle.std.proofs.Common.{◌≡◌, ℕ, ◌+◌, ◌*◌, List, [], ◌∷◌, ◌++◌, refl, add-one}
 use Rattle.nj_isa.specs.Bus.{Acts}
 use Rattle.nj_isa.specs.Accesses.{Access, At, ToData, PutsData, Stay, access, copies}
 use Rattle.nj_isa.specs.declared.operations.Op.{Op}
-use Rattle.nj_cpu.specs.declared.state.Cpu.{Cpu}
-use Rattle.nj_cpu.specs.declared.state.Rises.{Rises}
-use Rattle.nj_cpu.specs.Walk.{Walk, begun, step, walk}
-use Rattle.nj_cpu.specs.Unit.{waits}
+use Rattle.nj_cpu.specs.Walk.{Walk, step, walk}
 
 -- a list after another is walked from where the other ends
 pub walk-append : {Held : Type 0} (acts : Acts Held) (op : Op) (xs ys : List Access) (w : Walk Held) → walk acts op (xs ++ ys) w ≡ walk acts op ys (walk acts op xs w)
@@ -17,8 +14,3 @@ walk-append acts op (x ∷ xs) ys w = walk-append acts op xs ys (step acts op x 
 pub walk-copies : {Held : Type 0} (acts : Acts Held) (op : Op) (page n : ℕ) (w : Walk Held) → walk acts op (copies page (n + 1)) w ≡ walk acts op (access (At (page * 256 + n)) ToData Stay ∷ access (At 0x2004) PutsData Stay ∷ []) (walk acts op (copies page n) w)
 unfolding copies
 walk-copies acts op page n w = rw add-one (walk-append acts op (copies page n) (access (At (page * 256 + n)) ToData Stay ∷ access (At 0x2004) PutsData Stay ∷ []) w)
-
--- waiting gathers nothing
-pub walk-waits : {Held : Type 0} (acts : Acts Held) (op : Op) (b : Bool) (c : Cpu) (h : Held) (r : Rises) → walk acts op (waits b) (begun c h r) ≡ begun (walk acts op (waits b) (begun c h r)).cpu (walk acts op (waits b) (begun c h r)).held (walk acts op (waits b) (begun c h r)).rises
-walk-waits acts op false c h r = refl
-walk-waits acts op true c h r = refl

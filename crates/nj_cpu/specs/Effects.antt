@@ -1,5 +1,5 @@
 -- What an operation computes (NMOS 6502 instruction set).
-use Rattle.std.specs.Prelude.{ℕ, ◌+◌, ◌%◌, Bool, true, false, not, ◌==◌, bit_and, bit_or, bit_xor, if◌then◌else◌}
+use Rattle.std.specs.Prelude.{ℕ, ◌+◌, ◌%◌, Bool, true, false, not, ◌==◌, bit_and, bit_or, bit_xor}
 use Rattle.nj_alu.specs.declared.arithmetic.Sum.{Sum}
 use Rattle.nj_alu.specs.declared.arithmetic.Flags3.{Flags3}
 use Rattle.nj_alu.specs.declared.flags.Flags.{Flags}

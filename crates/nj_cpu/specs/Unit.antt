@@ -12,7 +12,6 @@ use Rattle.nj_isa.specs.declared.modes.Kind.TheVariants.{Read, Write, Modify}
 use Rattle.nj_isa.specs.declared.classes.Class.{Class}
 use Rattle.nj_isa.specs.declared.classes.Class.TheVariants.{ByMode, Branches, PullsA, Jams}
 use Rattle.nj_isa.specs.declared.table.OpRow.{OpRow}
-use Rattle.nj_alu.specs.declared.flags.Flags.{Flags}
 use Rattle.nj_cpu.specs.declared.state.Cpu.{Cpu}
 use Rattle.nj_cpu.specs.declared.state.Note.{Note}
 use Rattle.nj_cpu.specs.declared.state.Note.TheVariants.{None as NoNote, Late, Due}

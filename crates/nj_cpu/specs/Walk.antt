@@ -1,5 +1,5 @@
 -- One access after another: the fold over a list of accesses (NESdev Wiki, "6502 cpu.txt").
-use Rattle.std.specs.Prelude.{◌≡◌, ℕ, ◌+◌, ◌*◌, ◌/◌, ◌%◌, Bool, true, false, not, ◌&&◌, ◌||◌, ◌==◌, nat_le, List, [], ◌∷◌, if◌then◌else◌}
+use Rattle.std.specs.Prelude.{◌≡◌, ℕ, ◌+◌, ◌*◌, ◌/◌, ◌%◌, Bool, true, not, ◌&&◌, ◌||◌, ◌==◌, nat_le, List, [], ◌∷◌, if◌then◌else◌}
 use Rattle.nj_alu.specs.FlagByte.{flag_byte, flags_of_byte}
 use Rattle.nj_isa.specs.Bus.{Acts}
 use Rattle.nj_isa.specs.Accesses.{Place, AtPc, AtStack, InZero, InZeroBy, AtWord, AtWordBy, AtUncarried, AtPointer, AfterPointer, AtBranchLow, At, Transfer, Ignores, ToLow, ToHigh, ToPointer, ToPage, ToData, ToFlags, PutsStored, PutsData, PutsChanged, PutsPcHigh, PutsPcLow, PutsFlags, Move, Stay, PcUp, StackUp, StackDown, Jump, JumpPast, PointerUp, Mask, When, Always, Carried, Taken, TakenAway, Access}

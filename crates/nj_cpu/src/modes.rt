@@ -89,14 +89,27 @@ fn indirect_by_x<B: Bus>(cpu: &mut Cpu, rises: &mut Rises, bus: &mut B, op: Op) 
 
 /// Reads at a word with an index, and once more where the index carries into the high byte.
 #[inline]
-fn read_indexed<B: Bus>(cpu: &mut Cpu, rises: &mut Rises, bus: &mut B, op: Op, index: Index, high: u8, low: u8) -> u8
+fn read_indexed<B: Bus>(
+    cpu: &mut Cpu,
+    rises: &mut Rises,
+    bus: &mut B,
+    op: Op,
+    index: Index,
+    high: u8,
+    low: u8,
+) -> u8
     ensures ends { EndsAs (walk B.acts op (end_indexed index ReadKind) (record (begun cpu.old (B.held bus.old) rises.old) { low = low; high = high })) cpu.new (B.held bus.new) rises.new }
     ensures byte { result ≡ (walk B.acts op (end_indexed index ReadKind) (record (begun cpu.old (B.held bus.old) rises.old) { low = low; high = high })).data_ }
 {
     let by = index_value(index, cpu);
     let byte = read(cpu, rises, bus, make_word(high, low.wrapping_add(by)));
     if low as u16 + by as u16 >= 256 {
-        read(cpu, rises, bus, make_word(high, low).wrapping_add(by as u16))
+        read(
+            cpu,
+            rises,
+            bus,
+            make_word(high, low).wrapping_add(by as u16),
+        )
     } else {
         byte
     }
@@ -104,13 +117,27 @@ fn read_indexed<B: Bus>(cpu: &mut Cpu, rises: &mut Rises, bus: &mut B, op: Op, i
 
 /// Writes what an operation stores at a word with an index, after a read without the carry.
 #[inline]
-fn write_indexed<B: Bus>(cpu: &mut Cpu, rises: &mut Rises, bus: &mut B, op: Op, index: Index, high: u8, low: u8)
+fn write_indexed<B: Bus>(
+    cpu: &mut Cpu,
+    rises: &mut Rises,
+    bus: &mut B,
+    op: Op,
+    index: Index,
+    high: u8,
+    low: u8,
+)
     ensures ends { EndsAs (walk B.acts op (end_indexed index WriteKind) (record (begun cpu.old (B.held bus.old) rises.old) { low = low; high = high })) cpu.new (B.held bus.new) rises.new }
 {
     let by = index_value(index, cpu);
     let _ = read(cpu, rises, bus, make_word(high, low.wrapping_add(by)));
     let value = stored(op, cpu);
-    write(cpu, rises, bus, make_word(high, low).wrapping_add(by as u16), value);
+    write(
+        cpu,
+        rises,
+        bus,
+        make_word(high, low).wrapping_add(by as u16),
+        value,
+    );
 }
 
 /// Reads a byte, writes it back, and writes what the operation makes of it. Answers the byte read.
@@ -128,13 +155,27 @@ fn change_at<B: Bus>(cpu: &mut Cpu, rises: &mut Rises, bus: &mut B, op: Op, at: 
 
 /// Changes the byte at a word with an index, after a read without the carry. Answers the byte read.
 #[inline]
-fn change_indexed<B: Bus>(cpu: &mut Cpu, rises: &mut Rises, bus: &mut B, op: Op, index: Index, high: u8, low: u8) -> u8
+fn change_indexed<B: Bus>(
+    cpu: &mut Cpu,
+    rises: &mut Rises,
+    bus: &mut B,
+    op: Op,
+    index: Index,
+    high: u8,
+    low: u8,
+) -> u8
     ensures ends { EndsAs (walk B.acts op (end_indexed index ModifyKind) (record (begun cpu.old (B.held bus.old) rises.old) { low = low; high = high })) cpu.new (B.held bus.new) rises.new }
     ensures byte { result ≡ (walk B.acts op (end_indexed index ModifyKind) (record (begun cpu.old (B.held bus.old) rises.old) { low = low; high = high })).data_ }
 {
-    let by = index_value(index, cpu);
-    let _ = read(cpu, rises, bus, make_word(high, low.wrapping_add(by)));
-    change_at(cpu, rises, bus, op, make_word(high, low).wrapping_add(by as u16))
+    let offset = index_value(index, cpu);
+    let _ = read(cpu, rises, bus, make_word(high, low.wrapping_add(offset)));
+    change_at(
+        cpu,
+        rises,
+        bus,
+        op,
+        make_word(high, low).wrapping_add(offset as u16),
+    )
 }
 
 /// Writes what an operation stores.
@@ -148,7 +189,13 @@ fn write_at<B: Bus>(cpu: &mut Cpu, rises: &mut Rises, bus: &mut B, op: Op, at: u
 
 /// The accesses of an operation that reads. Answers the byte that its mode gives.
 #[inline]
-pub(crate) fn read_by<B: Bus>(cpu: &mut Cpu, rises: &mut Rises, bus: &mut B, op: Op, mode: Mode) -> u8
+pub(crate) fn read_by<B: Bus>(
+    cpu: &mut Cpu,
+    rises: &mut Rises,
+    bus: &mut B,
+    op: Op,
+    mode: Mode,
+) -> u8
     ensures ends { EndsAs (walk B.acts op (by_mode mode ReadKind) (begun cpu.old (B.held bus.old) rises.old)) cpu.new (B.held bus.new) rises.new }
     ensures byte { result ≡ (walk B.acts op (by_mode mode ReadKind) (begun cpu.old (B.held bus.old) rises.old)).data_ }
 {
@@ -239,7 +286,13 @@ pub(crate) fn write_by<B: Bus>(cpu: &mut Cpu, rises: &mut Rises, bus: &mut B, op
 
 /// The accesses of an operation that changes memory. Answers the byte before the change.
 #[inline]
-pub(crate) fn change_by<B: Bus>(cpu: &mut Cpu, rises: &mut Rises, bus: &mut B, op: Op, mode: Mode) -> u8
+pub(crate) fn change_by<B: Bus>(
+    cpu: &mut Cpu,
+    rises: &mut Rises,
+    bus: &mut B,
+    op: Op,
+    mode: Mode,
+) -> u8
     ensures ends { EndsAs (walk B.acts op (by_mode mode ModifyKind) (begun cpu.old (B.held bus.old) rises.old)) cpu.new (B.held bus.new) rises.new }
     ensures byte { result ≡ (walk B.acts op (by_mode mode ModifyKind) (begun cpu.old (B.held bus.old) rises.old)).data_ }
 {

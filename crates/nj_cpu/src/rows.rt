@@ -22,7 +22,14 @@ fn step_over(cpu: &mut Cpu)
 
 /// Pushes PC and the flags, and goes on at a vector with I set.
 #[inline]
-pub(crate) fn enter<B: Bus>(cpu: &mut Cpu, rises: &mut Rises, bus: &mut B, op: Op, brk: bool, vector: u16)
+pub(crate) fn enter<B: Bus>(
+    cpu: &mut Cpu,
+    rises: &mut Rises,
+    bus: &mut B,
+    op: Op,
+    brk: bool,
+    vector: u16,
+)
     requires { vector < 65535 }
     ensures { EndsAs (walk B.acts op (entering brk vector) (begun cpu.old (B.held bus.old) rises.old)) cpu.new (B.held bus.new) rises.new }
 {
@@ -67,7 +74,12 @@ fn branch<B: Bus>(cpu: &mut Cpu, rises: &mut Rises, bus: &mut B, row: OpRow)
         let target = branch_target(cpu.pc, offset);
         idle(cpu, rises, bus);
         if target / 256 != cpu.pc / 256 {
-            let _ = read(cpu, rises, bus, make_word((cpu.pc / 256) as u8, (target % 256) as u8));
+            let _ = read(
+                cpu,
+                rises,
+                bus,
+                make_word((cpu.pc / 256) as u8, (target % 256) as u8),
+            );
         }
         cpu.pc = target;
     }

@@ -146,5 +146,9 @@ pub fn unit<B: Bus>(cpu: &mut Cpu, bus: &mut B) -> UnitEnd
 fn end_now(cpu: &Cpu) -> UnitEnd
     ensures { result ≡ end_of cpu.now.jammed }
 {
-    if cpu.jammed { UnitEnd::Jammed } else { UnitEnd::Done }
+    if cpu.jammed {
+        UnitEnd::Jammed
+    } else {
+        UnitEnd::Done
+    }
 }
