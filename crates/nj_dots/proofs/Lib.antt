@@ -4,3 +4,14 @@ pub mod Kept
 pub mod Accesses
 pub mod Parts
 pub mod Stored
+pub mod Timing
+pub mod Moving
+pub mod Left
+pub mod Frames
+pub mod Events
+pub mod Flags
+pub mod Steps
+pub mod Images
+pub mod Address
+pub mod Mirroring
+pub mod Bits

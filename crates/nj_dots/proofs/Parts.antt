@@ -1,5 +1,5 @@
 -- Parts of lists, over any lengths.
-use Rattle.std.proofs.Common.{◌≡◌, ℕ, ◌+◌, ◌-◌, ◌<◌, ◌≤◌, List, ◌++◌, length, take, drop, refl, ap, sym, ◌∙◌, arith, append_assoc, length-append, length-drop}
+use Rattle.std.proofs.Common.{◌≡◌, ℕ, ◌+◌, ◌≤◌, List, ◌++◌, length, take, drop, ap, sym, ◌∙◌, arith, append_assoc, length-append, length-drop}
 use Rattle.std.proofs.lemmas.List.{take_at, drop_at, drop-drop, drop-take, length-take}
 use Rattle.std.proofs.Math.Seq.{take-add}
 use Rattle.nj_dots.specs.Image.{overwritten}
@@ -17,9 +17,9 @@ overwritten-overwritten a ys zs xs b at long =
     let front : take b (overwritten a ys xs) ≡ take a xs ++ ys = ap (take b) regrouped ∙ take_at (take a xs ++ ys) rest b heads in
     let back : drop b (overwritten a ys xs) ≡ rest = ap (drop b) regrouped ∙ drop_at (take a xs ++ ys) rest b heads in
     let behind : drop (b + length zs) (overwritten a ys xs) ≡ drop (length zs) rest =
-        sym (drop-drop (length zs) b (overwritten a ys xs)) ∙ ap (drop (length zs)) back in
+    sym (drop-drop (length zs) b (overwritten a ys xs)) ∙ ap (drop (length zs)) back in
     let far : drop (length zs) rest ≡ drop (a + length (ys ++ zs)) xs =
-        drop-drop (length zs) (a + length ys) xs ∙ ap (λ n. drop n xs) (omega (arith, length-append ys zs)) in
+    drop-drop (length zs) (a + length ys) xs ∙ ap (λ n. drop n xs) (omega (arith, length-append ys zs)) in
     ap (λ l. l ++ (zs ++ drop (b + length zs) (overwritten a ys xs))) front
     ∙ ap (λ l. (take a xs ++ ys) ++ (zs ++ l)) (behind ∙ far)
     ∙ append_assoc (take a xs) ys (zs ++ drop (a + length (ys ++ zs)) xs)
@@ -34,11 +34,11 @@ pub take-parts : (n m : ℕ) (xs a rest : List ℕ) → length a ≡ n → n ≤
 take-parts n m xs a rest size long known =
     let heads : length (take n xs) ≡ n = head_length n xs long in
     record {
-        front =
-            sym (take_at (take n xs) (take m (drop n xs)) n heads)
-            ∙ ap (take n) (sym (take-add n m xs) ∙ known)
-            ∙ take_at a rest n size;
-        back = sym (drop-take n m xs) ∙ ap (drop n) known ∙ drop_at a rest n size
+      front =
+          sym (take_at (take n xs) (take m (drop n xs)) n heads)
+          ∙ ap (take n) (sym (take-add n m xs) ∙ known)
+          ∙ take_at a rest n size;
+      back = sym (drop-take n m xs) ∙ ap (drop n) known ∙ drop_at a rest n size;
     }
 
 -- five parts written one after another
@@ -71,11 +71,11 @@ further n m o k xs at = ap (take m) (drop-drop n o xs ∙ ap (λ i. drop i xs) (
 pub take-pieces : (o n1 n2 n3 la lb lc ld lz : ℕ) (a b c d z xs : List ℕ) → length a ≡ la → length b ≡ lb → length c ≡ lc → length d ≡ ld → n1 ≡ o + la → n2 ≡ n1 + lb → n3 ≡ n2 + lc → n3 + ld + lz ≤ length xs → take (la + (lb + (lc + (ld + lz)))) (drop o xs) ≡ a ++ (b ++ (c ++ (d ++ z))) → Pieces o n1 n2 n3 la lb lc ld a b c d xs
 take-pieces o n1 n2 n3 la lb lc ld lz a b c d z xs size_a size_b size_c size_d h1 h2 h3 long known =
     let one : Fronts la (lb + (lc + (ld + lz))) (drop o xs) a (b ++ (c ++ (d ++ z))) =
-        take-parts la _ (drop o xs) a _ size_a (omega (arith, length-drop o xs)) known in
+    take-parts la _ (drop o xs) a _ size_a (omega (arith, length-drop o xs)) known in
     let two : Fronts lb (lc + (ld + lz)) (drop n1 xs) b (c ++ (d ++ z)) =
-        take-parts lb _ (drop n1 xs) b _ size_b (omega (arith, length-drop n1 xs)) (sym (further la _ o n1 xs h1) ∙ one.back) in
+    take-parts lb _ (drop n1 xs) b _ size_b (omega (arith, length-drop n1 xs)) (sym (further la _ o n1 xs h1) ∙ one.back) in
     let three : Fronts lc (ld + lz) (drop n2 xs) c (d ++ z) =
-        take-parts lc _ (drop n2 xs) c _ size_c (omega (arith, length-drop n2 xs)) (sym (further lb _ n1 n2 xs h2) ∙ two.back) in
+    take-parts lc _ (drop n2 xs) c _ size_c (omega (arith, length-drop n2 xs)) (sym (further lb _ n1 n2 xs h2) ∙ two.back) in
     let four : Fronts ld lz (drop n3 xs) d z =
-        take-parts ld _ (drop n3 xs) d _ size_d (omega (arith, length-drop n3 xs)) (sym (further lc _ n2 n3 xs h3) ∙ three.back) in
+    take-parts ld _ (drop n3 xs) d _ size_d (omega (arith, length-drop n3 xs)) (sym (further lc _ n2 n3 xs h3) ∙ three.back) in
     record { first = one.front; second = two.front; third = three.front; fourth = four.front }

@@ -1,9 +1,8 @@
 -- What each dot does (NESdev Wiki, "PPU rendering", "PPU scrolling" and "NMI"). The dots at which `near` changes and
 -- the hit flag rises, the hold, the one act that latches sprite zero at dot 257 and the fetch of a tile's row as one
 -- act are this project's own.
-use Rattle.std.specs.Prelude.{ℕ, zero, suc, ◌+◌, ◌-◌, ◌*◌, ◌/◌, ◌%◌, ◌^◌, Bool, true, false, not, ◌&&◌, ◌||◌, ◌==◌, nat_lt, nat_le, if◌then◌else◌, List, Option, None}
+use Rattle.std.specs.Prelude.{ℕ, zero, suc, ◌+◌, ◌-◌, ◌*◌, ◌/◌, ◌%◌, ◌^◌, Bool, true, false, not, ◌&&◌, ◌||◌, ◌==◌, nat_lt, nat_le, if◌then◌else◌, List, None}
 use Rattle.nj_vram.specs.Home.{got}
-use Rattle.nj_sprite0.specs.declared.row.SpriteRow.{SpriteRow}
 use Rattle.nj_sprite0.specs.Sprite.{has_bit, opaque_row, sprite_row_of, shows_at}
 use Rattle.nj_dots.specs.declared.position.Position.{Position}
 use Rattle.nj_dots.specs.declared.scroll.Scroll.{Scroll}
@@ -82,9 +81,9 @@ tile_ended pattern s =
 unfoldable pub latched : List ℕ → Screen → Screen
 latched pattern s =
     record s {
-        scroll = (let c = s.scroll in record c { v = with_horizontal c.t c.v });
-        oam_address = 0;
-        sprite_row = sprite_row_of (first_sprite s.oam) s.position.line (has_bit s.control 5) (has_bit s.control 3) pattern
+      scroll = (let c = s.scroll in record c { v = with_horizontal c.t c.v });
+      oam_address = 0;
+      sprite_row = sprite_row_of (first_sprite s.oam) s.position.line (has_bit s.control 5) (has_bit s.control 3) pattern;
     }
 
 -- the vertical bits are copied at dots 280 to 304 of the pre-render line

@@ -1,10 +1,7 @@
 -- The picture's part of a machine's image (the layout is this project's own): nametables from byte 2,048, OAM from
 -- 4,096, palette from 4,352, and 64 bytes of registers from 4,384. The mirroring and the end mark are no part of it.
 use Rattle.std.specs.Prelude.{◌≡◌, ℕ, ◌+◌, ◌*◌, ◌/◌, ◌%◌, ◌==◌, Bool, true, false, not, List, [], ◌∷◌, ◌++◌, length, take, drop, replicate, slice_index, Option, Some, None, if◌then◌else◌}
-use Rattle.nj_vram.specs.declared.Vram.{Vram}
 use Rattle.nj_sprite0.specs.declared.row.SpriteRow.{SpriteRow}
-use Rattle.nj_dots.specs.declared.position.Position.{Position}
-use Rattle.nj_dots.specs.declared.scroll.Scroll.{Scroll}
 use Rattle.nj_dots.specs.declared.screen.Screen.{Screen}
 use Rattle.nj_dots.specs.Screen.{IsScreen}
 
@@ -13,15 +10,17 @@ abbrev pub flag_byte : Bool → ℕ
 flag_byte true = 1
 flag_byte false = 0
 
--- the sprite row as three bytes: whether there is one, its left edge, its pixels
+-- the sprite row as three bytes: whether there is one
 abbrev pub row_flag : Option SpriteRow → ℕ
 row_flag None = 0
 row_flag (Some row) = 1
 
+-- its left edge
 abbrev pub row_left : Option SpriteRow → ℕ
 row_left None = 0
 row_left (Some row) = row.x
 
+-- its pixels
 abbrev pub row_pixels : Option SpriteRow → ℕ
 row_pixels None = 0
 row_pixels (Some row) = row.bits
@@ -37,13 +36,15 @@ register_bytes s =
     ∷ s.buffer ∷ s.latch ∷ s.oam_address ∷ s.shift % 256 ∷ s.shift / 256
     ∷ row_flag s.sprite_row ∷ row_left s.sprite_row ∷ row_pixels s.sprite_row ∷ []
 
--- a word of the registers, a flag and the sprite row, as they stand from byte i on
+-- a word of the registers, as it stands from byte i on
 abbrev pub word_at : List ℕ → ℕ → ℕ
 word_at bytes i = slice_index bytes i + 256 * slice_index bytes (i + 1)
 
+-- a flag
 abbrev pub flag_at : List ℕ → ℕ → Bool
 flag_at bytes i = not (slice_index bytes i == 0)
 
+-- a sprite row
 abbrev pub row_at : List ℕ → ℕ → Option SpriteRow
 row_at bytes i =
     if flag_at bytes i then Some (record { x = slice_index bytes (i + 1); bits = slice_index bytes (i + 2) }) else None
@@ -51,22 +52,22 @@ row_at bytes i =
 -- the picture with registers and flags taken from their 26 bytes, and no end marked
 unfoldable pub with_registers : List ℕ → Screen → Screen
 with_registers bytes s = record s {
-    position = record { line = word_at bytes 0; dot = word_at bytes 2 };
-    odd_frame = flag_at bytes 4;
-    control = slice_index bytes 5;
-    mask = slice_index bytes 6;
-    vertical_blank = flag_at bytes 7;
-    sprite_zero_hit = flag_at bytes 8;
-    sprite_overflow = flag_at bytes 9;
-    hold = flag_at bytes 10;
-    near = flag_at bytes 11;
-    scroll = record { v = word_at bytes 12; t = word_at bytes 14; x = slice_index bytes 16; w = flag_at bytes 17 };
-    buffer = slice_index bytes 18;
-    latch = slice_index bytes 19;
-    oam_address = slice_index bytes 20;
-    shift = word_at bytes 21;
-    sprite_row = row_at bytes 23;
-    ended = false
+  position = record { line = word_at bytes 0; dot = word_at bytes 2 };
+  odd_frame = flag_at bytes 4;
+  control = slice_index bytes 5;
+  mask = slice_index bytes 6;
+  vertical_blank = flag_at bytes 7;
+  sprite_zero_hit = flag_at bytes 8;
+  sprite_overflow = flag_at bytes 9;
+  hold = flag_at bytes 10;
+  near = flag_at bytes 11;
+  scroll = record { v = word_at bytes 12; t = word_at bytes 14; x = slice_index bytes 16; w = flag_at bytes 17 };
+  buffer = slice_index bytes 18;
+  latch = slice_index bytes 19;
+  oam_address = slice_index bytes 20;
+  shift = word_at bytes 21;
+  sprite_row = row_at bytes 23;
+  ended = false;
 }
 
 -- the 2,400 bytes of the picture; the last 38 are 0

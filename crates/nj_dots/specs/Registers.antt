@@ -3,7 +3,6 @@
 use Rattle.std.specs.Prelude.{ℕ, ◌+◌, ◌-◌, ◌*◌, ◌/◌, ◌%◌, Bool, true, false, ◌||◌, ◌==◌, nat_lt, if◌then◌else◌, List, slice_index, slice_set, Option, Some, None}
 use Rattle.nj_vram.specs.Home.{got, written}
 use Rattle.nj_sprite0.specs.Sprite.{has_bit}
-use Rattle.nj_dots.specs.declared.scroll.Scroll.{Scroll}
 use Rattle.nj_dots.specs.declared.screen.Screen.{Screen}
 use Rattle.nj_dots.specs.Scroll.{scrolled, addressed}
 use Rattle.nj_dots.specs.Screen.{is_next}
@@ -21,10 +20,10 @@ status_byte s =
 -- after a read of $2002: vertical blank and w are clear, and the flag is held where its dot is next ("NMI", race)
 unfoldable pub after_status : Screen → Screen
 after_status s = record s {
-    latch = status_byte s;
-    vertical_blank = false;
-    scroll = (let c = s.scroll in record c { w = false });
-    hold = s.hold || is_next 241 1 s
+  latch = status_byte s;
+  vertical_blank = false;
+  scroll = (let c = s.scroll in record c { w = false });
+  hold = s.hold || is_next 241 1 s;
 }
 
 -- $2004 as read: the byte of OAM at the OAM address
@@ -60,9 +59,9 @@ buffered_address at = if nat_lt at 0x3F00 then at else at - 0x1000
 -- after a read of $2007
 unfoldable pub after_data_read : List ℕ → Screen → Screen
 after_data_read pattern s = record s {
-    latch = data_byte s;
-    buffer = cell_at pattern s (buffered_address (data_address s));
-    scroll = (let c = s.scroll in record c { v = next_address s.control c.v })
+  latch = data_byte s;
+  buffer = cell_at pattern s (buffered_address (data_address s));
+  scroll = (let c = s.scroll in record c { v = next_address s.control c.v });
 }
 
 -- the byte that a register answers; those that are only written answer the latch
@@ -80,9 +79,9 @@ after_read reg pattern s =
 -- a write of $2000: bits 0 and 1 go to bits 10 and 11 of t
 unfoldable pub put_control : ℕ → Screen → Screen
 put_control value s = record s {
-    control = value;
-    latch = value;
-    scroll = (let c = s.scroll in record c { t = c.t / 4096 * 4096 + value % 4 * 1024 + c.t % 1024 })
+  control = value;
+  latch = value;
+  scroll = (let c = s.scroll in record c { t = c.t / 4096 * 4096 + value % 4 * 1024 + c.t % 1024 });
 }
 
 -- a write of $2001
@@ -104,9 +103,9 @@ oam_kept address value = if address % 4 == 2 then value / 32 * 32 + value % 4 el
 -- a write of $2004
 unfoldable pub put_oam : ℕ → Screen → Screen
 put_oam value s = record s {
-    oam = slice_set s.oam s.oam_address (oam_kept s.oam_address value);
-    oam_address = (s.oam_address + 1) % 256;
-    latch = value
+  oam = slice_set s.oam s.oam_address (oam_kept s.oam_address value);
+  oam_address = (s.oam_address + 1) % 256;
+  latch = value;
 }
 
 -- a write of $2005
@@ -120,9 +119,9 @@ put_address value s = record s { scroll = addressed value s.scroll; latch = valu
 -- a write of $2007: a cell of this memory changes; pattern memory is left to the board
 unfoldable pub put_data : ℕ → Screen → Screen
 put_data value s = record s {
-    vram = (if nat_lt (data_address s) 0x2000 then s.vram else written s.vram (data_address s) value);
-    scroll = (let c = s.scroll in record c { v = next_address s.control c.v });
-    latch = value
+  vram = (if nat_lt (data_address s) 0x2000 then s.vram else written s.vram (data_address s) value);
+  scroll = (let c = s.scroll in record c { v = next_address s.control c.v });
+  latch = value;
 }
 
 -- the picture after a write of a register

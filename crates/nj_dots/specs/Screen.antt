@@ -1,34 +1,32 @@
 -- The state of the picture, and what of it other definitions read (NESdev Wiki, "PPU registers").
-use Rattle.std.specs.Prelude.{◌≡◌, ℕ, ◌+◌, ◌*◌, ◌<◌, Bool, true, false, ◌||◌, ◌&&◌, ◌==◌, List, [], ◌∷◌, length, replicate, slice_index, None}
+use Rattle.std.specs.Prelude.{◌≡◌, ℕ, ◌<◌, Bool, false, ◌||◌, ◌&&◌, ◌==◌, List, [], ◌∷◌, length, replicate, slice_index, None}
 use Rattle.nj_vram.specs.Home.{blank}
 use Rattle.nj_vram.specs.Laws.{IsSized}
 use Rattle.nj_sprite0.specs.Sprite.{has_bit}
 use Rattle.nj_dots.specs.declared.position.Position.{Position}
-use Rattle.nj_dots.specs.declared.scroll.Scroll.{Scroll}
 use Rattle.nj_dots.specs.declared.screen.Screen.{Screen}
-use Rattle.nj_dots.specs.Scroll.{IsScroll}
 
 -- the picture at power-on: all 0, the next dot is (0,0) (this project's own choice)
 unfoldable pub power_on : Bool → Screen
 power_on vertical = record {
-    position = record { line = 0; dot = 0 };
-    odd_frame = false;
-    control = 0;
-    mask = 0;
-    vertical_blank = false;
-    sprite_zero_hit = false;
-    sprite_overflow = false;
-    hold = false;
-    near = false;
-    scroll = record { v = 0; t = 0; x = 0; w = false };
-    buffer = 0;
-    latch = 0;
-    oam_address = 0;
-    shift = 0;
-    sprite_row = None;
-    ended = false;
-    oam = replicate 256 0;
-    vram = blank vertical
+  position = record { line = 0; dot = 0 };
+  odd_frame = false;
+  control = 0;
+  mask = 0;
+  vertical_blank = false;
+  sprite_zero_hit = false;
+  sprite_overflow = false;
+  hold = false;
+  near = false;
+  scroll = record { v = 0; t = 0; x = 0; w = false };
+  buffer = 0;
+  latch = 0;
+  oam_address = 0;
+  shift = 0;
+  sprite_row = None;
+  ended = false;
+  oam = replicate 256 0;
+  vram = blank vertical;
 }
 
 -- the position is one of a frame: 262 lines of 341 dots
@@ -36,10 +34,10 @@ pub record IsPlaced (p : Position) : Type 0 where
   pub line : p.line < 262
   pub dot : p.dot < 341
 
--- position and scroll registers are in their ranges, the memories have their sizes
+-- position and fine X are in their ranges, the memories have their sizes
 pub record IsScreen (s : Screen) : Type 0 where
   pub placed : IsPlaced s.position
-  pub scroll : IsScroll s.scroll
+  pub fine_x : s.scroll.x < 8
   pub oam : length s.oam ≡ 256
   pub vram : IsSized s.vram
 

@@ -1,6 +1,6 @@
 -- The picture's internal scroll registers (NESdev Wiki, "PPU scrolling"). v and t are yyy NN YYYYY XXXXX: fine Y,
 -- two bits of the nametable, coarse Y, coarse X.
-use Rattle.std.specs.Prelude.{ℕ, ◌+◌, ◌-◌, ◌*◌, ◌/◌, ◌%◌, ◌<◌, Bool, true, false, not, ◌==◌, if◌then◌else◌}
+use Rattle.std.specs.Prelude.{ℕ, ◌+◌, ◌-◌, ◌*◌, ◌/◌, ◌%◌, ◌<◌, true, false, ◌==◌, if◌then◌else◌}
 use Rattle.nj_dots.specs.declared.scroll.Scroll.{Scroll}
 
 -- v and t have 15 bits, fine X has three

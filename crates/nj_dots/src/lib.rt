@@ -4,6 +4,7 @@
 
 mod dot;
 mod image;
+pub mod laws;
 mod picture;
 mod position;
 mod registers;
@@ -12,7 +13,7 @@ mod scroll;
 
 pub use nj_sprite0::SpriteRow;
 pub use nj_vram::Vram;
+pub use picture::Picture;
 pub use position::Position;
 pub use screen::Screen;
 pub use scroll::Scroll;
-pub use picture::Picture;

@@ -35,8 +35,7 @@ impl Screen {
 
     #[tactic(auto, unfolding(crate::specs::Registers::read_byte, crate::specs::Registers::after_read))]
     fn read_register(&mut self, reg: u8, pattern: &[u8]) -> u8
-        requires fits { self.old.scroll.v < 32768 }
-        requires pattern { length pattern.now ≡ 8192 }
+        requires { length pattern.now ≡ 8192 }
         ensures byte { result ≡ read_byte reg self.old }
         ensures after { self.new ≡ after_read reg pattern.now self.old }
     {
@@ -50,8 +49,7 @@ impl Screen {
 
     #[tactic(auto, unfolding(crate::specs::Registers::after_write, crate::specs::Registers::to_pattern))]
     fn write_register(&mut self, reg: u8, value: u8) -> Option<(u16, u8)>
-        requires fits { self.old.scroll.v < 32768 }
-        requires reg { reg < 8 }
+        requires { reg < 8 }
         ensures left { result ≡ to_pattern reg value self.old }
         ensures after { self.new ≡ after_write reg value self.old }
     {
@@ -97,8 +95,7 @@ impl Screen {
     // $2007: the buffer, or a colour.
     #[tactic(auto, unfolding(crate::specs::Registers::data_byte, crate::specs::Registers::after_data_read))]
     fn read_data(&mut self, pattern: &[u8]) -> u8
-        requires fits { self.old.scroll.v < 32768 }
-        requires pattern { length pattern.now ≡ 8192 }
+        requires { length pattern.now ≡ 8192 }
         ensures byte { result ≡ data_byte self.old }
         ensures after { self.new ≡ after_data_read pattern.now self.old }
     {
@@ -207,7 +204,6 @@ impl Screen {
     // $2007: a cell of this memory, or one of the board's.
     #[tactic(auto, unfolding(crate::specs::Registers::put_data))]
     fn write_data(&mut self, value: u8) -> Option<(u16, u8)>
-        requires { self.old.scroll.v < 32768 }
         ensures after { self.new ≡ put_data value self.old }
         ensures left { result ≡ (if nat_lt (data_address self.old) 0x2000 then Some (data_address self.old, value) else None) }
     {
@@ -226,11 +222,10 @@ impl Screen {
 // v after an access of $2007.
 #[tactic(auto, unfolding(crate::specs::Registers::next_address))]
 fn next_address(control: u8, v: u16) -> u16
-    requires { v < 32768 }
     ensures { result ≡ next_address control v }
 {
     let step = if has_bit(control, 2) { 32 } else { 1 };
-    (v + step) % 32768
+    (v % 32768 + step) % 32768
 }
 
 // Which address a read of $2007 brings into the buffer.

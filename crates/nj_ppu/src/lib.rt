@@ -4,9 +4,8 @@
 ghost use Rattle.std.specs.Prelude.{◌≡◌, ℕ, List};
 ghost use Rattle.nj_dots.specs.Screen.{IsScreen, power_on};
 
-pub use nj_dots::{Picture, Position};
-
 use nj_dots::Screen;
+pub use nj_dots::{Picture, Position};
 
 /// A picture with no dot pending.
 #[derive(Drop)]
@@ -77,3 +76,6 @@ impl Picture for DotPicture {
 
     ghost fits = { λ s p. s.fits };
 }
+
+#[cfg(test)]
+mod tests;

@@ -47,10 +47,10 @@ unfoldable pub sprite_row_of : List ℕ → ℕ → Bool → Bool → List ℕ �
 sprite_row_of oam line tall high_table pattern =
     if nat_le line 239 && is_in_range (slice_index oam 0) line tall
     then Some (record {
-        x = slice_index oam 3;
-        bits = shown_bits (slice_index oam 2)
-            (opaque_row pattern
-                (row_place (slice_index oam 1) (row_number (slice_index oam 0) (slice_index oam 2) line tall) tall high_table))
+      x = slice_index oam 3;
+      bits = shown_bits (slice_index oam 2)
+          (opaque_row pattern
+          (row_place (slice_index oam 1) (row_number (slice_index oam 0) (slice_index oam 2) line tall) tall high_table));
     })
     else None
 

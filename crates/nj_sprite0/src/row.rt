@@ -27,7 +27,13 @@ impl SpriteRow {
 /// their own table; `high_table` is bit 3 of $2000. `None` where the line is below the picture or is none of
 /// the sprite's.
 #[tactic(auto, unfolding(crate::specs::Sprite::sprite_row_of))]
-pub fn sprite_row(oam: &[u8; 4], line: u16, tall: bool, high_table: bool, pattern: &[u8]) -> Option<SpriteRow>
+pub fn sprite_row(
+    oam: &[u8; 4],
+    line: u16,
+    tall: bool,
+    high_table: bool,
+    pattern: &[u8],
+) -> Option<SpriteRow>
     requires { length pattern.now ≡ 8192 }
     ensures { result ≡ sprite_row_of oam.now line tall high_table pattern.now }
 {
@@ -116,7 +122,11 @@ fn row_place(tile: u8, row: u16, tall: bool, high_table: bool) -> u16
 fn shown_bits(attributes: u8, bits: u8) -> u8
     ensures { result ≡ shown_bits attributes bits }
 {
-    if has_bit(attributes, 6) { reversed(bits) } else { bits }
+    if has_bit(attributes, 6) {
+        reversed(bits)
+    } else {
+        bits
+    }
 }
 
 #[tactic(auto, unfolding(crate::specs::Sprite::reversed))]

@@ -1,5 +1,5 @@
 -- Homes of addresses by cases: a byte of the nametables below $3F00, a colour from there on.
-use Rattle.std.proofs.Common.{◌≡◌, ◌≢◌, ℕ, ◌+◌, ◌-◌, ◌*◌, ◌/◌, ◌%◌, ◌<◌, ◌≤◌, Bool, true, false, length, refl, ap, sym, ◌∙◌, arith, get_or, get_or-set_same, get_or-set_other, slice_set}
+use Rattle.std.proofs.Common.{◌≡◌, ◌≢◌, ℕ, ◌+◌, ◌%◌, ◌<◌, ◌≤◌, Bool, true, false, length, refl, ap, sym, ◌∙◌, arith, get_or-set_same, get_or-set_other}
 use Rattle.std.proofs.lemmas.Bool.Decides.{nat_tests}
 use Rattle.std.proofs.Math.ListN.{length-set}
 use Rattle.nj_vram.specs.declared.Vram.{Vram}
@@ -42,7 +42,6 @@ cell_of-lt false at = omega arith
 pub colour_of-lt : (at : ℕ) → colour_of at < 32
 unfolding colour_of
 colour_of-lt at = grind (arith, nat_tests)
-
 
 -- a write keeps the sizes
 pub written_at-sized : (h : Home) (value : ℕ) (m : Vram) → IsSized m → IsSized (written_at h value m)

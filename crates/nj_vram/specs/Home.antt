@@ -1,6 +1,6 @@
 -- Where each address of the picture's own memory stands (NESdev Wiki, "PPU memory map", "Mirroring" and
 -- "PPU palettes").
-use Rattle.std.specs.Prelude.{ℕ, ◌+◌, ◌-◌, ◌*◌, ◌/◌, ◌%◌, Bool, true, false, nat_lt, nat_le, ◌==◌, ◌&&◌, if◌then◌else◌, replicate, slice_get, slice_index, slice_set}
+use Rattle.std.specs.Prelude.{ℕ, ◌+◌, ◌*◌, ◌/◌, ◌%◌, Bool, true, false, nat_lt, nat_le, ◌==◌, ◌&&◌, if◌then◌else◌, replicate, slice_index, slice_set}
 use Rattle.nj_vram.specs.declared.Vram.{Vram}
 
 -- the home of an address: a byte of the nametables, or a colour of the palette

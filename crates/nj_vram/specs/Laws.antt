@@ -1,7 +1,7 @@
 -- What the homes of addresses mean, in the words of the NESdev Wiki ("Mirroring", "PPU memory map").
-use Rattle.std.specs.Prelude.{◌≡◌, ◌≢◌, ℕ, ◌+◌, ◌*◌, ◌%◌, ◌<◌, ◌≤◌, Bool, true, false, length}
+use Rattle.std.specs.Prelude.{◌≡◌, ◌≢◌, ℕ, ◌+◌, ◌<◌, ◌≤◌, Bool, length}
 use Rattle.nj_vram.specs.declared.Vram.{Vram}
-use Rattle.nj_vram.specs.Home.{home, got, written}
+use Rattle.nj_vram.specs.Home.{home}
 
 -- two addresses name one byte
 abbrev pub IsMirror : Bool → ℕ → ℕ → Type 0
@@ -15,11 +15,6 @@ IsSameTable vertical a b = (n : ℕ) → n < 1024 → IsMirror vertical (a + n) 
 abbrev pub IsOtherTable : Bool → ℕ → ℕ → Type 0
 IsOtherTable vertical a b =
     (n m : ℕ) → n < 1024 → m < 1024 → home vertical (a + n) ≢ home vertical (b + m)
-
--- the address is one of this memory
-pub record IsInVram (at : ℕ) : Type 0 where
-  pub from : 0x2000 ≤ at
-  pub below : at < 0x4000
 
 -- the two arrays have their sizes
 pub record IsSized (m : Vram) : Type 0 where

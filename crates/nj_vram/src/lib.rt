@@ -67,7 +67,11 @@ fn cell(vertical: bool, at: u16) -> usize
     ensures home { result ≡ cell_of vertical at }
     ensures within { result < 2048 }
 {
-    let table = if vertical { at / 1024 % 2 } else { at / 2048 % 2 };
+    let table = if vertical {
+        at / 1024 % 2
+    } else {
+        at / 2048 % 2
+    };
     (table * 1024 + at % 1024) as usize
 }
 
@@ -81,5 +85,29 @@ fn colour(at: u16) -> usize
         (at % 16) as usize
     } else {
         (at % 32) as usize
+    }
+}
+
+#[cfg(test)]
+mod tests {
+    use super::*;
+
+    // Values from NESdev Wiki, "Mirroring" and "PPU palettes".
+    #[test]
+    fn mirrors_share_their_bytes(rt: HostRuntime) {
+        let mut upright = Vram::new(true);
+        let mut level = Vram::new(false);
+        upright.set(0x2005, 7);
+        level.set(0x2005, 9);
+        assert_eq!(rt; upright.get(0x2805), 7);
+        assert_eq!(rt; upright.get(0x2405), 0);
+        assert_eq!(rt; level.get(0x2405), 9);
+        assert_eq!(rt; level.get(0x2805), 0);
+        assert_eq!(rt; level.get(0x3005), 9);
+        level.set(0x3F10, 0xFF);
+        level.set(0x3F11, 0x21);
+        assert_eq!(rt; level.get(0x3F00), 0x3F);
+        assert_eq!(rt; level.get(0x3F01), 0);
+        assert_eq!(rt; level.get(0x3FF1), 0x21);
     }
 }

@@ -1,5 +1,5 @@
 -- One more dot, by the definition's own two equations.
-use Rattle.std.proofs.Common.{◌≡◌, ◌+◌, refl, ap, add-one, ◌∙◌, sym}
+use Rattle.std.proofs.Common.{refl, ap, add-one, ◌∙◌}
 use Rattle.nj_dots.specs.Dots.{after_dots, dot_of}
 use Rattle.nj_ppu.proofs.DotPicturePicture.run.Goals as goal
 

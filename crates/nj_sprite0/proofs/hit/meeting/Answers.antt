@@ -1,7 +1,6 @@
 -- Nothing meets beside the sprite's eight pixels.
-use Rattle.std.proofs.Common.{◌≡◌, ℕ, ◌+◌, ◌<◌, ◌≤◌, arith, false, inl, inr}
+use Rattle.std.proofs.Common.{◌+◌, arith, inl, inr}
 use Rattle.std.proofs.lemmas.Bool.{cases_lt}
-use Rattle.nj_sprite0.specs.Meeting.{meets_at}
 use Rattle.nj_sprite0.proofs.Pixels.{meets_at-left, meets_at-right}
 use Rattle.nj_sprite0.proofs.hit.meeting.Goals as goal
 
@@ -11,6 +10,6 @@ loop-i-init c y below = meets_at-left c.args.row c.args.opaque.now c.args.left y
 pub returns-clause-none : goal.returns-clause-none
 returns-clause-none c y =
     elim (cases_lt y (c.from-start.result + 8)) [
-        inl below ↦ c.loop-i.invariant y (omega arith)
-        | inr from ↦ meets_at-right c.args.row c.args.opaque.now c.args.left y (omega arith)
+      | inl below ↦ c.loop-i.invariant y (omega arith)
+      | inr from ↦ meets_at-right c.args.row c.args.opaque.now c.args.left y (omega arith)
     ]

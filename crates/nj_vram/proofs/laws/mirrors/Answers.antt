@@ -1,4 +1,4 @@
-use Rattle.std.proofs.Common.{◌≡◌, ◌≢◌, ℕ, ◌+◌, ◌*◌, ◌%◌, ◌<◌, ◌≤◌, Bool, true, false, arith}
+use Rattle.std.proofs.Common.{◌+◌, ◌*◌, ◌%◌, true, false, arith}
 use Rattle.std.proofs.lemmas.Bool.Decides.{nat_tests}
 use Rattle.nj_vram.specs.Home.{cell_of, table_of, colour_of}
 use Rattle.nj_vram.proofs.Homes.{mirror_cells, mirror_colours, cells_apart, cell_of-same}

@@ -1,5 +1,5 @@
-use Rattle.std.proofs.Common.{◌≡◌, ◌≢◌, ℕ, ◌+◌, ◌*◌, ◌%◌, ◌<◌, ◌≤◌, Bool, true, false, arith, ap, ◌∙◌, sym, length}
-use Rattle.nj_vram.specs.Home.{Home, Cell, Colour, home, got, got_at, written, written_at, cell_of, colour_of}
+use Rattle.std.proofs.Common.{◌<◌, arith, ap, ◌∙◌, sym, length}
+use Rattle.nj_vram.specs.Home.{home, got, got_at, written, written_at, cell_of, colour_of}
 use Rattle.nj_vram.proofs.Homes.{home-cell, home-colour, cell_of-lt, colour_of-lt, got-written, got_at-cell, got_at-colour, got_at-other, written_at-sized, written_at-vertical}
 use Rattle.nj_vram.proofs.laws.reads_after_writes.Goals as goal
 

@@ -1,7 +1,6 @@
 -- Each part is read again, and with it the picture.
-use Rattle.std.proofs.Common.{◌≡◌, sym, ◌∙◌, subst, refl}
+use Rattle.std.proofs.Common.{sym, ◌∙◌, subst, refl}
 use Rattle.nj_dots.specs.Screen.{IsScreen}
-use Rattle.nj_dots.specs.Image.{Holds}
 use Rattle.nj_dots.proofs.Stored.{get_is}
 use Rattle.nj_dots.proofs.screen.Screen.get.Goals as goal
 

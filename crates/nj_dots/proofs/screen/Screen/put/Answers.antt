@@ -1,5 +1,4 @@
 -- Five parts written one after another are the picture's bytes.
-use Rattle.std.proofs.Common.{◌≡◌}
 use Rattle.nj_dots.proofs.Stored.{put_chain}
 use Rattle.nj_dots.proofs.screen.Screen.put.Goals as goal
 
