@@ -4,7 +4,8 @@ use Rattle.std.specs.Prelude.{replicate, slice_range, slice_index}
 use Rattle.std.specs.Int.{bit_at}
 use Rattle.std.proofs.lemmas.Bool.{eqb-false, cond-true}
 use Rattle.nj_ines.specs.Cartridge.{IsNrom}
-use Rattle.nj_ines.specs.Header.{contents_of, chr_units_of, prg_units_of, prg_end, IsReadable}
+use Rattle.nj_ines.specs.Header.{chr_units_of, prg_units_of, prg_end}
+use Rattle.nj_ines.specs.Reading.{contents_of, IsReadable}
 
 -- a piece of the file is as long as its places are apart
 length-piece : (file : List ℕ) (from to size : ℕ) → to ≤ length file → from + size ≡ to → length (slice_range file from to) ≡ size

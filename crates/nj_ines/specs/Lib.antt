@@ -1,2 +1,3 @@
 pub mod Cartridge
 pub mod Header
+pub mod Reading

@@ -2,9 +2,10 @@
 //! "NES 2.0" and "NROM".
 #![tactic(auto)]
 
-ghost use Rattle.std.specs.Prelude.{◌≡◌, ◌+◌, ◌*◌, ◌/◌, ◌%◌, ◌<◌, ◌≤◌, ◌⊎◌, ◌==◌, ℕ, length, replicate, slice_index, slice_range, IsTrue, IfOk, IfErr, None, Ok, Err, if◌then◌else◌};
+ghost use Rattle.std.specs.Prelude.{◌≡◌, ◌+◌, ◌*◌, ◌/◌, ◌%◌, ◌<◌, ◌≤◌, ◌⊎◌, ◌==◌, ℕ, length, replicate, slice_index, slice_range, IsTrue, IfOk, MatchResult, None, Ok, Err, if◌then◌else◌};
 ghost use Rattle.std.specs.Int.{bit_at};
-ghost use Rattle.nj_ines.specs.Header.{is_named, is_nes_2, is_clean, mapper_of, prg_units_of, chr_units_of, timing_of, need_of, IsReadable, prg_end, chr_of, refusals, first_refusal, contents_of, cartridge_of};
+ghost use Rattle.nj_ines.specs.Header.{is_named, is_nes_2, is_clean, mapper_of, prg_units_of, chr_units_of, timing_of};
+ghost use Rattle.nj_ines.specs.Reading.{refusals, first_refusal, IsReadable, contents_of, cartridge_of};
 
 use std::alloc::{AllocError, Global};
 use std::marker::Model;
@@ -145,7 +146,7 @@ fn timing(file: &[u8]) -> u64
 }
 
 // The first refusal of a file, if there is one.
-#[tactic(auto, unfolding(crate::specs::Header::refusals))]
+#[tactic(auto, unfolding(crate::specs::Reading::refusals))]
 fn refusal(file: &[u8]) -> Option<CartRefused>
     ensures first { result ≡ first_refusal (refusals file.now) }
     ensures readable { result ≡ None → IsReadable file.now }
@@ -232,10 +233,9 @@ impl Model for Cart {
 
 impl Cart {
     /// Reads a cartridge file. What stands behind the memories is ignored.
-    #[tactic(auto, unfolding(crate::specs::Header::cartridge_of))]
+    #[tactic(auto, unfolding(crate::specs::Reading::cartridge_of))]
     pub fn read(alloc: Global, file: &[u8]) -> Result<Self, CartRefused>
-        ensures accepted { IfOk result (λ cart. cartridge_of file.now ≡ Ok cart) }
-        ensures refused { IfErr result (λ refused. (refused ≡ CartRefused.NoMemory) ⊎ (cartridge_of file.now ≡ Err refused)) }
+        ensures { MatchResult result (λ cart. cartridge_of file.now ≡ Ok cart) (λ refused. (refused ≡ CartRefused.NoMemory) ⊎ (cartridge_of file.now ≡ Err refused)) }
     {
         match refusal(file) {
             Some(refused) => Err(refused),
