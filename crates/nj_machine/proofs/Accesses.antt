@@ -1,5 +1,5 @@
 -- What one access of the machine's bus keeps, and that it lowers the number of dots left by three.
-use Rattle.std.proofs.Common.{◌≡◌, ℕ, ◌+◌, ◌-◌, ◌%◌, ◌<◌, ◌≤◌, Bool, true, false, not, ◌==◌, if◌then◌else◌, nat_lt, List, length, Option, Some, None, refl, sym, ap, subst, ◌∙◌, arith, slice_set}
+use Rattle.std.proofs.Common.{◌≡◌, ℕ, ◌-◌, ◌%◌, ◌≤◌, Bool, true, false, if◌then◌else◌, List, Option, Some, None, refl, ap, ◌∙◌, arith, slice_set}
 use Rattle.std.proofs.Math.ListN.{length-set}
 use Rattle.nj_vram.specs.declared.Vram.{Vram}
 use Rattle.nj_vram.specs.Home.{Home, Cell, Colour, home, written as vram_written, written_at}
@@ -9,11 +9,11 @@ use Rattle.nj_dots.specs.Screen.{IsScreen}
 use Rattle.nj_dots.specs.Dots.{after_dots}
 use Rattle.nj_dots.specs.Registers.{after_status, after_oam_read, data_address, after_data_read, after_read as screen_after_read, put_control, put_mask, put_nothing, put_oam_address, put_oam, put_scroll, put_address, put_data, after_write as screen_after_write, to_pattern}
 use Rattle.nj_dots.proofs.Accesses.{after_read-fits, after_write-fits}
-use Rattle.nj_machine.specs.State.{Cells, Rom, pattern_rom, rom_in}
+use Rattle.nj_machine.specs.State.{Rom, rom_in}
 use Rattle.nj_machine.specs.Wires.{Wired, dots_run, register_read, port_one_read, port_two_read, answered, pattern_put, ram_put, register_put, copy_asked, ports_strobed, written, over, byte_read, after_read, after_write, page_taken, wires}
 use Rattle.nj_machine.specs.Frame.{IsSized}
 use Rattle.nj_cpu.proofs.Lower.{Lower, Lowers, lower-same, lower-and}
-use Rattle.nj_machine.proofs.Dots.{still_left, Falls, dots-fall}
+use Rattle.nj_machine.proofs.Dots.{still_left, dots-fall}
 
 -- an access of a register leaves the place, the mark and the mirroring
 record Same (s e : Screen) : Type 0 where
@@ -197,15 +197,15 @@ ram_put-stays rom place value w h =
       fewer = omega arith;
     }
 
-register_put-stays : (rom : Rom) (reg value : ℕ) (w : Wired) → value < 256 → Keeps rom w → Stays rom w (register_put reg value w)
+register_put-stays : (rom : Rom) (reg value : ℕ) (w : Wired) → Keeps rom w → Stays rom w (register_put reg value w)
 unfolding register_put
-register_put-stays rom reg value w byte h =
+register_put-stays rom reg value w h =
     let e = screen_after_write reg value w.cells.screen in
     let same = same-write reg value w.cells.screen in
     let board = keeps-put w.cells.board (to_pattern reg value w.cells.screen) h.sized.board in
     record {
       stays = record {
-        sized = record { screen = after_write-fits reg value w.cells.screen byte h.sized.screen; ram = h.sized.ram; board = board.sized };
+        sized = record { screen = after_write-fits reg value w.cells.screen h.sized.screen; ram = h.sized.ram; board = board.sized };
         of_rom = board.rom e.vram.vertical ∙ ap (λ v. rom_in w.cells.board v) same.vertical ∙ h.of_rom;
       };
       fewer = omega (arith, same_left w.cells.screen e same);
@@ -222,11 +222,11 @@ ports_strobed-stays rom value w h =
     record { stays = record { sized = record { screen = h.sized.screen; ram = h.sized.ram; board = h.sized.board }; of_rom = h.of_rom }; fewer = omega arith }
 
 -- what a write changes
-written-stays : (rom : Rom) (w : Wired) (at value : ℕ) → value < 256 → Keeps rom w → Stays rom w (written w at value)
+written-stays : (rom : Rom) (w : Wired) (at value : ℕ) → Keeps rom w → Stays rom w (written w at value)
 unfolding written
-written-stays rom w at value byte h =
+written-stays rom w at value h =
     lower-if rom _ w _ _ (ram_put-stays rom (at % 2048) value w h)
-    (lower-if rom _ w _ _ (register_put-stays rom (at % 8) value w byte h)
+    (lower-if rom _ w _ _ (register_put-stays rom (at % 8) value w h)
     (lower-if rom _ w _ _ (copy_asked-stays rom value w h)
     (lower-if rom _ w _ _ (ports_strobed-stays rom value w h) (lower-same (Keeps rom) left_of w h))))
 
@@ -252,8 +252,8 @@ writes-lower : (rom : Rom) (w : Wired) (at value : ℕ) → Keeps rom w → Lowe
 unfolding after_write
 writes-lower rom w at value h =
     let dots = dots_run-lowers rom w h in
-    let access = written-stays rom (dots_run w) at (value % 256) (omega arith) dots.stays in
-    lower-and (Keeps rom) left_of 3 _ _ _ (lower-and (Keeps rom) left_of 3 _ _ _ dots access) (over-stays rom (written (dots_run w) at (value % 256)) (value % 256) access.stays)
+    let access = written-stays rom (dots_run w) at value dots.stays in
+    lower-and (Keeps rom) left_of 3 _ _ _ (lower-and (Keeps rom) left_of 3 _ _ _ dots access) (over-stays rom (written (dots_run w) at value) value access.stays)
 
 -- every access of the machine's bus
 pub wires-lower : (rom : Rom) → Lowers wires (Keeps rom) left_of 3

@@ -1,5 +1,5 @@
 -- The machine at power-on.
-use Rattle.std.proofs.Common.{◌≡◌, ◌⊎◌, inl, inr, ℕ, ◌%◌, ◌<◌, ◌≤◌, Bool, false, List, length, replicate, Option, None, refl, sym, ap, subst, ◌∙◌, arith}
+use Rattle.std.proofs.Common.{◌≡◌, ◌⊎◌, inl, inr, ℕ, ◌%◌, ◌<◌, ◌≤◌, false, List, length, replicate, None, refl, sym, ap, subst, ◌∙◌, arith}
 use Rattle.std.proofs.lemmas.Bool.{cases_lt}
 use Rattle.std.proofs.lemmas.List.{length-replicate}
 use Rattle.nj_ines.specs.Cartridge.{Cartridge, IsNrom}
@@ -12,8 +12,8 @@ use Rattle.nj_dots.specs.Screen.{IsScreen, power_on as screen_at_power_on}
 use Rattle.nj_dots.proofs.Kept.{power_on-fits}
 use Rattle.nj_pad.specs.declared.Port.{Port}
 use Rattle.nj_pad.specs.Port.{port_at_power_on}
-use Rattle.nj_machine.specs.State.{State, cells_of, memory_of, reset_vector, power_on, rom_in, rom_of}
-use Rattle.nj_machine.specs.Frame.{IsReady, IsSized}
+use Rattle.nj_machine.specs.State.{cells_of, memory_of, reset_vector, power_on, rom_in, rom_of}
+use Rattle.nj_machine.specs.Frame.{IsReady}
 
 -- the parts of a machine that was just made
 pub record Made (cart : Cartridge) (cpu : Cpu) (screen : Screen) (ram : List ℕ) (board : Memory) (one two : Port) : Type 0 where

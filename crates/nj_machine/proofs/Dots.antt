@@ -1,7 +1,6 @@
 -- The number of dots up to dot (241,1) falls with each dot, and no dot changes the mirroring.
-use Rattle.std.proofs.Common.{◌≡◌, ℕ, zero, suc, ◌+◌, ◌-◌, ◌*◌, ◌<◌, ◌≤◌, Bool, true, false, ◌||◌, ◌&&◌, ◌==◌, if◌then◌else◌, nat_le, nat_eq, List, refl, sym, ap, subst, ◌∙◌, arith}
+use Rattle.std.proofs.Common.{◌≡◌, ℕ, zero, suc, ◌+◌, ◌-◌, ◌<◌, ◌≤◌, Bool, true, false, ◌||◌, ◌&&◌, ◌==◌, if◌then◌else◌, List, refl, sym, ap, ◌∙◌, arith}
 use Rattle.std.proofs.lemmas.Bool.Decides.{nat_tests}
-use Rattle.nj_vram.specs.declared.Vram.{Vram}
 use Rattle.nj_dots.specs.declared.position.Position.{Position}
 use Rattle.nj_dots.specs.declared.screen.Screen.{Screen}
 use Rattle.nj_dots.specs.Screen.{IsPlaced, IsScreen, is_next, is_rendering}

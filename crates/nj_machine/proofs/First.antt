@@ -1,5 +1,5 @@
 -- The frame ends with the first unit that ends it.
-use Rattle.std.proofs.Common.{◌≡◌, ℕ, zero, suc, ◌<◌, ◌≤◌, Option, Some, None, refl, ap, ◌∙◌, arith}
+use Rattle.std.proofs.Common.{◌≡◌, ℕ, zero, suc, ◌<◌, ◌≤◌, Option, Some, None, refl, ap, arith}
 use Rattle.nj_machine.specs.State.{State}
 use Rattle.nj_machine.specs.Frame.{dots_left, unit_step, frame, units, IsReady, IsFirstEnd}
 use Rattle.nj_machine.specs.declared.FrameEnd.{FrameEnd}

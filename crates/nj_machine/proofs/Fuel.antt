@@ -1,10 +1,10 @@
 -- The fuel of a frame is enough: a unit that does not end the frame leaves fewer dots up to dot (241,1).
 use Rattle.std.proofs.Common.{◌≡◌, ℕ, zero, suc, ◌<◌, ◌≤◌, true, List, [], ◌∷◌, Option, Some, None, refl, sym, ap, ◌∙◌, subst, arith}
 use Rattle.nj_ines.specs.Cartridge.{Cartridge}
-use Rattle.nj_machine.specs.State.{State, Rom, rom_of, is_jammed, power_on}
+use Rattle.nj_machine.specs.State.{State, rom_of, is_jammed, power_on}
 use Rattle.nj_machine.specs.Frame.{dots_left, unit_step, or_on, units_until, frame, frames, play, IsReady}
 use Rattle.nj_machine.specs.declared.FrameEnd.{FrameEnd}
-use Rattle.nj_machine.specs.declared.FrameEnd.TheVariants.{Picture, Jammed}
+use Rattle.nj_machine.specs.declared.FrameEnd.TheVariants.{Jammed}
 use Rattle.nj_machine.proofs.Units.{Leaves, unit_leaves, unit_fewer, left_positive, jam_stays}
 
 -- what is left after a unit that does not end the frame

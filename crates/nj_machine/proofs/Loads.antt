@@ -1,13 +1,12 @@
 -- What is read from an image is the state that it is of.
-use Rattle.std.proofs.Common.{◌≡◌, ℕ, ◌≤◌, Bool, true, false, List, length, take, drop, slice_index, Option, refl, ap, sym, ◌∙◌, subst, if◌then◌else◌}
+use Rattle.std.proofs.Common.{◌≡◌, ℕ, Bool, true, false, List, take, drop, slice_index, Option, refl, ap, sym, ◌∙◌, if◌then◌else◌}
 use Rattle.nj_board.specs.Nrom.{Memory}
 use Rattle.nj_cpu.specs.declared.state.Cpu.{Cpu}
 use Rattle.nj_dots.specs.declared.screen.Screen.{Screen}
-use Rattle.nj_dots.specs.Image.{flag_at, picture_bytes, picture_part, Holds}
+use Rattle.nj_dots.specs.Image.{flag_at, picture_part, Holds}
 use Rattle.nj_pad.specs.declared.Port.{Port}
 use Rattle.nj_machine.specs.State.{State, Rom, cells_of, pattern_rom, rom_in, rom_of}
-use Rattle.nj_machine.specs.Frame.{IsReady}
-use Rattle.nj_machine.specs.Image.{page_at, port_at, cpu_at, screen_at, board_at, cells_at, of_image, image_of, IsImage}
+use Rattle.nj_machine.specs.Image.{page_at, port_at, cpu_at, board_at, cells_at, of_image, IsImage}
 use Rattle.nj_machine.proofs.ReadBack.{image_parts}
 
 -- the picture that an image holds

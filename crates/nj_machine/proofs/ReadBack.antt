@@ -1,19 +1,18 @@
 -- Image and state determine each other.
-use Rattle.std.proofs.Common.{◌≡◌, ℕ, ◌+◌, ◌-◌, ◌*◌, ◌/◌, ◌%◌, ◌≤◌, ◌==◌, Bool, true, false, not, List, [], ◌∷◌, ◌++◌, length, take, drop, replicate, slice_index, refl, ap, sym, ◌∙◌, arith, subst, if◌then◌else◌, Option, Some, None, append_assoc, length-append, lit≤}
+use Rattle.std.proofs.Common.{◌≡◌, ℕ, ◌+◌, ◌*◌, ◌/◌, ◌%◌, ◌≤◌, ◌==◌, Bool, true, false, not, List, ◌++◌, length, take, drop, replicate, refl, ap, sym, ◌∙◌, arith, subst, if◌then◌else◌, Option, Some, None, length-append, lit≤}
 use Rattle.std.proofs.Math.ListN.{length-replicate}
-use Rattle.std.proofs.lemmas.List.{take_at, drop_at, take-append-le, drop-drop}
+use Rattle.std.proofs.lemmas.List.{take_at, drop_at, drop-drop}
 use Rattle.nj_board.specs.Nrom.{Memory}
 use Rattle.nj_vram.specs.Home.{blank}
-use Rattle.nj_cpu.specs.declared.state.Cpu.{Cpu}
 use Rattle.nj_cpu.specs.declared.state.Note.{Note}
 use Rattle.nj_cpu.specs.declared.state.Note.TheVariants.{None as NoNote, Late, Due}
 use Rattle.nj_dots.specs.declared.screen.Screen.{Screen}
 use Rattle.nj_dots.specs.Screen.{IsScreen, power_on as screen_at_power_on}
-use Rattle.nj_dots.specs.Image.{flag_byte, flag_at, with_registers, register_bytes, picture_bytes, picture_part, Holds}
+use Rattle.nj_dots.specs.Image.{flag_byte, picture_bytes, picture_part}
 use Rattle.nj_dots.proofs.Stored.{length-register_bytes, get_is}
-use Rattle.nj_machine.specs.State.{Cells, State, Rom, cells_of, pattern_rom, rom_in, rom_of}
+use Rattle.nj_machine.specs.State.{State, Rom, cells_of, pattern_rom, rom_in, rom_of}
 use Rattle.nj_machine.specs.Frame.{IsReady, frames}
-use Rattle.nj_machine.specs.Image.{note_byte, page_flag, page_byte, rest_bytes, pattern_ram, image_len, image_of, note_at, page_at, port_at, cpu_at, screen_at, board_at, cells_at, of_image, IsImage}
+use Rattle.nj_machine.specs.Image.{note_byte, page_flag, page_byte, rest_bytes, pattern_ram, image_len, image_of, cpu_at, screen_at, board_at, cells_at, of_image, IsImage}
 
 -- where each part of an image stands
 pub record Parts (image ram picture rest pattern : List ℕ) : Type 0 where

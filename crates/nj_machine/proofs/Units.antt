@@ -1,5 +1,5 @@
 -- What a unit of the machine leaves.
-use Rattle.std.proofs.Common.{◌≡◌, ◌↔◌, ℕ, ◌+◌, ◌-◌, ◌*◌, ◌<◌, ◌≤◌, Bool, true, false, true≢false, if◌then◌else◌, nat_le, Option, Some, None, refl, sym, ap, subst, ◌∙◌, arith}
+use Rattle.std.proofs.Common.{◌≡◌, ◌↔◌, ℕ, ◌<◌, Bool, true, false, true≢false, if◌then◌else◌, Some, None, refl, sym, ap, subst, ◌∙◌, arith}
 use Rattle.std.proofs.lemmas.Bool.Decides.{nat_tests}
 use Rattle.nj_cpu.specs.declared.state.UnitEnd.{UnitEnd}
 use Rattle.nj_cpu.specs.declared.state.UnitEnd.TheVariants.{Done, Jammed as JammedUnit}
@@ -7,14 +7,13 @@ use Rattle.nj_cpu.specs.declared.state.Cpu.{Cpu}
 use Rattle.nj_isa.specs.Bus.{Acts}
 use Rattle.nj_cpu.specs.Unit.{Unit, end_of, unit_of}
 use Rattle.nj_dots.specs.declared.screen.Screen.{Screen}
-use Rattle.nj_dots.specs.Screen.{IsPlaced, IsScreen}
-use Rattle.nj_machine.specs.State.{Cells, State, Rom, rom_in, rom_of, is_jammed}
+use Rattle.nj_machine.specs.State.{State, rom_of, is_jammed}
 use Rattle.nj_machine.specs.Wires.{Wired, wires}
-use Rattle.nj_machine.specs.Frame.{left_at, dots_left, end_by, unmarked, unit_step, IsSized, IsReady}
+use Rattle.nj_machine.specs.Frame.{left_at, dots_left, end_by, unmarked, unit_step, IsReady}
 use Rattle.nj_machine.specs.declared.FrameEnd.{FrameEnd}
-use Rattle.nj_machine.specs.declared.FrameEnd.TheVariants.{Picture, Jammed}
-use Rattle.nj_cpu.proofs.Lower.{Lower, unit-lower}
-use Rattle.nj_machine.proofs.Dots.{still, still_left}
+use Rattle.nj_machine.specs.declared.FrameEnd.TheVariants.{Jammed}
+use Rattle.nj_cpu.proofs.Lower.{unit-lower}
+use Rattle.nj_machine.proofs.Dots.{still}
 use Rattle.nj_machine.proofs.Accesses.{Keeps, left_of, wires-lower}
 
 -- a unit of a jammed one is nothing
@@ -70,7 +69,7 @@ unit_leaves pad s h =
     record {
       ready = record {
         sized = record {
-          screen = record { placed = screen.placed; scroll = screen.scroll; oam = screen.oam; vram = screen.vram };
+          screen = record { placed = screen.placed; fine_x = screen.fine_x; oam = screen.oam; vram = screen.vram };
           ram = kept.sized.ram;
           board = kept.sized.board;
         };

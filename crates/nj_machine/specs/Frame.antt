@@ -4,10 +4,10 @@ use Rattle.nj_ines.specs.Cartridge.{Cartridge}
 use Rattle.nj_board.specs.Nrom.{IsMemory}
 use Rattle.nj_cpu.specs.declared.state.UnitEnd.{UnitEnd}
 use Rattle.nj_cpu.specs.declared.state.UnitEnd.TheVariants.{Done, Jammed as JammedUnit}
-use Rattle.nj_cpu.specs.Unit.{Unit, unit_of}
+use Rattle.nj_cpu.specs.Unit.{unit_of}
 use Rattle.nj_dots.specs.Screen.{IsScreen}
 use Rattle.nj_machine.specs.State.{Cells, State, power_on}
-use Rattle.nj_machine.specs.Wires.{Wired, wires}
+use Rattle.nj_machine.specs.Wires.{wires}
 use Rattle.nj_machine.specs.declared.FrameEnd.{FrameEnd}
 use Rattle.nj_machine.specs.declared.FrameEnd.TheVariants.{Picture, Jammed}
 
@@ -17,6 +17,7 @@ unfoldable pub left_at : ℕ → ℕ → ℕ
 left_at line dot =
     let place = line * 341 + dot in if nat_le place 82182 then 82183 - place else 171525 - place
 
+-- the same from a state
 unfoldable pub dots_left : State → ℕ
 dots_left s = left_at s.cells.screen.position.line s.cells.screen.position.dot
 

@@ -19,11 +19,12 @@ note_byte NoNote = 0
 note_byte Late = 1
 note_byte Due = 2
 
--- a page that waits for its copy as two bytes: whether there is one, and which
+-- whether a page waits for its copy, as a byte
 abbrev pub page_flag : Option ℕ → ℕ
 page_flag None = 0
 page_flag (Some page) = 1
 
+-- the page, or 0
 abbrev pub page_byte : Option ℕ → ℕ
 page_byte None = 0
 page_byte (Some page) = page
@@ -54,13 +55,15 @@ image_of s =
     s.cells.ram ++ (picture_bytes s.cells.screen
     ++ ((rest_bytes s ++ replicate 7 0) ++ pattern_ram s.cells.board.chr_ram s.cells.board.chr))
 
--- a note, a page and a port from their bytes, as they stand from byte i on
+-- a note from its byte
 abbrev pub note_at : List ℕ → ℕ → Note
 note_at bytes i = if slice_index bytes i == 0 then NoNote else (if slice_index bytes i == 1 then Late else Due)
 
+-- the page from its flag and byte
 abbrev pub page_at : List ℕ → ℕ → Option ℕ
 page_at bytes i = if flag_at bytes i then Some (slice_index bytes (i + 1)) else None
 
+-- a port from its three bytes
 abbrev pub port_at : List ℕ → ℕ → Port
 port_at bytes i =
     record { strobe = flag_at bytes i; latch = slice_index bytes (i + 1); count = slice_index bytes (i + 2) }

@@ -1,5 +1,5 @@
 -- The state of the machine, and the state at power-on.
-use Rattle.std.specs.Prelude.{◌≡◌, ℕ, ◌+◌, ◌*◌, Bool, true, false, List, [], length, replicate, Option, None, unwrap_or}
+use Rattle.std.specs.Prelude.{ℕ, ◌+◌, ◌*◌, Bool, true, false, List, [], replicate, Option, None, unwrap_or}
 use Rattle.nj_ines.specs.Cartridge.{Cartridge}
 use Rattle.nj_board.specs.Nrom.{Memory, byte_at}
 use Rattle.nj_cpu.specs.declared.state.Cpu.{Cpu}
@@ -61,10 +61,12 @@ pub record Rom : Type 0 where
   pub chr_ram : Bool
   pub vertical : Bool
 
+-- pattern memory, where it is ROM
 abbrev pub pattern_rom : Bool → List ℕ → List ℕ
 pattern_rom true chr = []
 pattern_rom false chr = chr
 
+-- the same of a board and a mirroring
 abbrev pub rom_in : Memory → Bool → Rom
 rom_in board vertical =
     record { prg = board.prg; chr = pattern_rom board.chr_ram board.chr; chr_ram = board.chr_ram; vertical = vertical }

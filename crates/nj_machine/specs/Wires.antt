@@ -38,10 +38,11 @@ answer w at =
 unfoldable pub register_read : ℕ → Wired → Wired
 register_read reg w = record w { cells = (let c = w.cells in record c { screen = screen_after_read reg c.board.chr c.screen }) }
 
--- a read of a port
+-- a read of port 1
 unfoldable pub port_one_read : Wired → Wired
 port_one_read w = record w { cells = (let c = w.cells in record c { port_one = port_after_read c.port_one }) }
 
+-- a read of port 2
 unfoldable pub port_two_read : Wired → Wired
 port_two_read w = record w { cells = (let c = w.cells in record c { port_two = port_after_read c.port_two }) }
 
@@ -98,16 +99,17 @@ written w at value =
 unfoldable pub over : ℕ → Wired → Wired
 over byte w = record w { cells = (let c = w.cells in record c { bus_byte = byte; odd = not c.odd }) }
 
--- the cycle of a read: three dots, and then the access
+-- the byte of a read's cycle: three dots, and then the access
 unfoldable pub byte_read : Wired → ℕ → ℕ
 byte_read w at = answer (dots_run w) at
 
+-- what it leaves
 unfoldable pub after_read : Wired → ℕ → Wired
 after_read w at = over (byte_read w at) (answered (dots_run w) at)
 
--- the cycle of a write; the data bus has eight lines
+-- the cycle of a write
 unfoldable pub after_write : Wired → ℕ → ℕ → Wired
-after_write w at value = over (value % 256) (written (dots_run w) at (value % 256))
+after_write w at value = over value (written (dots_run w) at value)
 
 -- the page of a sprite copy is taken
 unfoldable pub page_taken : Wired → Wired

@@ -189,35 +189,25 @@ impl<P: Picture + Drop> Console<P> {
     fn rest_bytes(&self) -> [u8; 32]
         ensures { result ≡ rest_bytes self.now ++ replicate 7 0 }
     {
-        let Cpu {
-            a,
-            x,
-            y,
-            s,
-            pc,
-            flags,
-            note,
-            line,
-            jammed,
-        } = self.cpu;
+        let cpu = self.cpu;
         let one = self.cells.port_one;
         let two = self.cells.port_two;
         [
-            a,
-            x,
-            y,
-            s,
-            (pc % 256) as u8,
-            (pc / 256) as u8,
-            flag_byte(flags.n),
-            flag_byte(flags.v),
-            flag_byte(flags.d),
-            flag_byte(flags.i),
-            flag_byte(flags.z),
-            flag_byte(flags.c),
-            note_byte(note),
-            flag_byte(line),
-            flag_byte(jammed),
+            cpu.a,
+            cpu.x,
+            cpu.y,
+            cpu.s,
+            (cpu.pc % 256) as u8,
+            (cpu.pc / 256) as u8,
+            flag_byte(cpu.flags.n),
+            flag_byte(cpu.flags.v),
+            flag_byte(cpu.flags.d),
+            flag_byte(cpu.flags.i),
+            flag_byte(cpu.flags.z),
+            flag_byte(cpu.flags.c),
+            note_byte(cpu.note),
+            flag_byte(cpu.line),
+            flag_byte(cpu.jammed),
             flag_byte(one.strobe),
             one.latch,
             one.count,

@@ -1,5 +1,5 @@
 use Rattle.nj_machine.proofs.Begins.{begun_ready, begun_rom}
-use Rattle.nj_machine.proofs.Fuel.{frame_leaves, frames_leave, played}
+use Rattle.nj_machine.proofs.Fuel.{frame_leaves, played}
 use Rattle.nj_machine.proofs.laws.frames_keep_the_cartridge.Goals as goal
 
 pub returns-clause-begun : goal.returns-clause-begun

@@ -1,7 +1,7 @@
 -- The unit that ended the loop ends the frame that it is in.
-use Rattle.std.proofs.Common.{sym, refl, ◌∙◌}
+use Rattle.std.proofs.Common.{sym, ◌∙◌}
 use Rattle.nj_machine.proofs.Units.{end_tells}
-use Rattle.nj_machine.proofs.Fuel.{frame_ends, frame_goes_on, fewer_left}
+use Rattle.nj_machine.proofs.Fuel.{frame_ends}
 use Rattle.nj_machine.proofs.frames.Console.frame.Goals as goal
 
 pub returns-in-Some-clause-after : goal.returns-in-Some-clause-after

@@ -1,6 +1,4 @@
-use Rattle.std.proofs.Common.{◌≡◌}
-use Rattle.nj_machine.specs.State.{rom_of}
-use Rattle.nj_machine.specs.Frame.{frame, dots_left}
+use Rattle.nj_machine.specs.Frame.{dots_left}
 use Rattle.nj_machine.proofs.Fuel.{StillIn}
 use Rattle.nj_machine.proofs.frames.Console.frame.Given as goal
 

@@ -1,11 +1,11 @@
 -- The parts that are read are those of the image's state.
-use Rattle.std.proofs.Common.{◌≡◌, ◌+◌, ◌≤◌, List, [], length, true, refl, sym, ap, ◌∙◌, subst, arith}
+use Rattle.std.proofs.Common.{[], sym, ap, ◌∙◌, subst, arith}
 use Rattle.nj_machine.specs.State.{rom_of}
 use Rattle.nj_machine.specs.Frame.{IsReady}
-use Rattle.nj_machine.specs.Image.{of_image, IsImage}
+use Rattle.nj_machine.specs.Image.{of_image}
 use Rattle.nj_machine.proofs.ReadBack.{image-long}
 use Rattle.nj_machine.proofs.Saves.{with_ram}
-use Rattle.nj_machine.proofs.Loads.{holds_of, mirroring_of, Read, with_pattern, load_chain}
+use Rattle.nj_machine.proofs.Loads.{holds_of, mirroring_of, with_pattern, load_chain}
 use Rattle.nj_machine.proofs.frames.Console.load.Goals as goal
 
 pub rest_part-bytes-requires : goal.rest_part-bytes-requires

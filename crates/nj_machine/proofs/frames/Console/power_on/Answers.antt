@@ -1,8 +1,8 @@
 -- The fields that were made are those of the state at power-on.
-use Rattle.std.proofs.Common.{ap, ◌∙◌, [], List, ℕ}
+use Rattle.std.proofs.Common.{ap, ◌∙◌}
 use Rattle.nj_cpu.specs.Unit.{powered_on}
 use Rattle.nj_dots.specs.Screen.{power_on as screen_at_power_on}
-use Rattle.nj_machine.proofs.Begins.{Made, made_is, made_ready}
+use Rattle.nj_machine.proofs.Begins.{made_is, made_ready}
 use Rattle.nj_machine.proofs.frames.Console.power_on.Goals as goal
 
 pub invariant_of-result : goal.invariant_of-result

@@ -1,5 +1,5 @@
 -- The parts that are written are those of the image.
-use Rattle.std.proofs.Common.{◌≡◌, ◌+◌, ◌≤◌, List, [], length, true, refl, sym, ap, ◌∙◌, subst, arith}
+use Rattle.std.proofs.Common.{◌≡◌, [], length, sym, ap, ◌∙◌, subst, arith}
 use Rattle.nj_dots.specs.Image.{with_picture}
 use Rattle.nj_machine.specs.State.{rom_of}
 use Rattle.nj_machine.specs.Frame.{IsReady}
