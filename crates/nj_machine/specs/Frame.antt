@@ -1,5 +1,5 @@
 -- One frame, and the play of a movie.
-use Rattle.std.specs.Prelude.{◌≡◌, ℕ, zero, suc, ◌-◌, ◌<◌, nat_le, false, if◌then◌else◌, List, [], ◌∷◌, Option, Some, None}
+use Rattle.std.specs.Prelude.{◌≡◌, ℕ, zero, suc, ◌-◌, ◌<◌, nat_le, false, if◌then◌else◌, List, fold, Option, Some, None}
 use Rattle.nj_ines.specs.Cartridge.{Cartridge}
 use Rattle.nj_machine.specs.State.{State, power_on}
 use Rattle.nj_machine.specs.Unit.{unit}
@@ -33,14 +33,9 @@ units_until (suc n) s = or_on (unit_step s).0 (unit_step s).1 (units_until n)
 unfoldable pub frame : State → ℕ → State × FrameEnd
 frame s pad = units_until (dots_left s.dot) s
 
--- the state after one frame for each pad, from this one
-abbrev pub frames : State → List ℕ → State
-frames s [] = s
-frames s (pad ∷ pads) = frames (frame s pad).0 pads
-
--- the state after a movie, from power-on
-unfoldable pub play : Cartridge → List ℕ → State
-play cart movie = frames (power_on cart) movie
+-- the state after a movie: one frame for each pad, from power-on
+abbrev pub play : Cartridge → List ℕ → State
+play cart movie = fold (λ s pad. (frame s pad).0) (power_on cart) movie
 
 -- what a state between two frames keeps: its next dot is in the picture, and its mark is clear
 pub record IsReady (s : State) : Type 0 where

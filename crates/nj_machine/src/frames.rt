@@ -1,4 +1,4 @@
-ghost use Rattle.std.specs.Prelude.{◌≡◌, ◌+◌, ◌-◌, ◌^◌, ◌↔◌, ℕ, true, min, IfOk, length};
+ghost use Rattle.std.specs.Prelude.{◌≡◌, ◌+◌, ◌-◌, ◌^◌, ◌≤◌, ◌↔◌, ℕ, true, min, IfOk, length};
 ghost use Rattle.nj_machine.specs.State.{State, power_on, ram_of, is_jammed};
 ghost use Rattle.nj_machine.specs.Frame.{unit_step, frame, IsReady, IsFirstEnd};
 
@@ -44,6 +44,7 @@ impl Machine {
         ensures after { frame self.old pad ≡ (self.new, result) }
         ensures jammed { (result ≡ FrameEnd.Jammed) ↔ (is_jammed self.new ≡ true) }
         ensures counted { steps.new ≡ min (steps.old + 1) (2 ^ 64 - 1) }
+        ensures never_falls { steps.old ≤ steps.new }
     {
         steps.tick();
         loop {
