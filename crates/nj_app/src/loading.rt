@@ -1,4 +1,4 @@
-ghost use Rattle.std.specs.Prelude.{◌≡◌, ◌≤◌, Some, map, Contains, codes, length, IsErrOf};
+ghost use Rattle.std.specs.Prelude.{◌≡◌, ◌≢◌, ◌≤◌, Some, Err, map, Contains, codes, length, IsErrOf};
 ghost use Rattle.nj_outside.specs.Fnv.{fnv_of};
 ghost use Rattle.nj_outside.specs.Rise.{Rose};
 ghost use Rattle.nj_outside.specs.Told.{Files};
@@ -26,6 +26,7 @@ pub fn load_cart<S: Shelf>(alloc: Global, shelf: &mut S, name: &str) -> Result<C
     ensures fault { IsErrOf result Stop.ReadFault → Rose (S.read_faults shelf.old) (S.read_faults shelf.new) }
     ensures fault_name { IsErrOf result Stop.ReadFault → S.failed_read shelf.new ≡ fnv_of name.now }
 
+    ensures not_words { result ≢ Err Stop.Usage }
     ensures content { S.content shelf.new ≡ S.content shelf.old }
     ensures never_falls { S.read_faults shelf.old ≤ S.read_faults shelf.new }
 {
@@ -41,6 +42,7 @@ pub fn load_movie<S: Shelf>(alloc: Global, shelf: &mut S, name: &str) -> Result<
     ensures fault { IsErrOf result Stop.ReadFault → Rose (S.read_faults shelf.old) (S.read_faults shelf.new) }
     ensures fault_name { IsErrOf result Stop.ReadFault → Contains (map fnv_of (movie_file name.now)) (S.failed_read shelf.new) }
 
+    ensures not_words { result ≢ Err Stop.Usage }
     ensures content { S.content shelf.new ≡ S.content shelf.old }
     ensures never_falls { S.read_faults shelf.old ≤ S.read_faults shelf.new }
 {

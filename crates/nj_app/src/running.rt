@@ -127,7 +127,7 @@ fn carry_out<S: Shelf, L: Ledger>(
     ensures serves { (files : Files) → S.content shelf.old ≡ Some files →
         Serves files (work_of command.now) (S.failed_read shelf.new) result }
     ensures done { IfOk result (λ reply. reply.status ≡ 0) }
-    ensures command { result ≢ Err Stop.Usage }
+    ensures not_words { result ≢ Err Stop.Usage }
     ensures fault { IsErrOf result Stop.ReadFault → Rose (S.read_faults shelf.old) (S.read_faults shelf.new) }
     ensures fault_name { IsErrOf result Stop.ReadFault → Contains (map fnv_of (files_of command.now)) (S.failed_read shelf.new) }
     ensures frames { (files : Files) → S.content shelf.old ≡ Some files →
@@ -151,7 +151,7 @@ fn play<S: Shelf, L: Ledger>(
     ensures serves { (files : Files) → S.content shelf.old ≡ Some files →
         Serves files (play_work cart.now movie.now) (S.failed_read shelf.new) result }
     ensures done { IfOk result (λ reply. reply.status ≡ 0) }
-    ensures command { result ≢ Err Stop.Usage }
+    ensures not_words { result ≢ Err Stop.Usage }
     ensures fault { IsErrOf result Stop.ReadFault → Rose (S.read_faults shelf.old) (S.read_faults shelf.new) }
     ensures fault_name { IsErrOf result Stop.ReadFault → Contains (map fnv_of (cart.now ∷ movie_file movie.now)) (S.failed_read shelf.new) }
     ensures frames { (files : Files) → S.content shelf.old ≡ Some files →
