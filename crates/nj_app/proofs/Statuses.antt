@@ -1,7 +1,7 @@
 -- What a reply and a stop say of the answer, of `out` and of `err`.
-use Rattle.std.proofs.Common.{◌≡◌, ◌≢◌, ◌≤◌, ℕ, List, [], length, take, Option, Some, None, Result, Ok, Err, OnOk, OnErr, refl, sym, ap, ◌∙◌, subst}
+use Rattle.std.proofs.Common.{◌≡◌, ◌≢◌, ◌≤◌, ℕ, List, [], length, take, Option, Some, None, Result, Ok, Err, OnOk, OnErr, Contains, lit<, refl, sym, ap, ◌∙◌, subst}
 use Rattle.nj_outside.specs.Told.{Files, appended, appended-nothing}
-use Rattle.nj_app.specs.Causes.{IsPlain, IsAnswered, IsCutShort, line_for}
+use Rattle.nj_app.specs.Causes.{statuses, IsPlain, IsAnswered, IsCutShort, line_for}
 use Rattle.nj_app.specs.Refusals.{usage_line}
 use Rattle.nj_app.specs.Stops.{status_of, line_of, Ends, Serves, Replies}
 use Rattle.nj_app.specs.Work.{Answer, Work, given, Reaches, refused, done}
@@ -81,6 +81,14 @@ module _ (files : Files) (work : Work) (failed : ℕ) where
       line ≡ line_of stop → line ≡ line_for (given files work) status
   unfolding Serves
   stop_line stop status line serves is_status is_line = rw is_status (is_line ∙ line_of_stop stop serves)
+
+-- the status of a stop is one of those that there are
+pub stop_status : (stop : Stop) (status : ℕ) → status ≡ status_of stop → Contains statuses status
+stop_status stops.Usage status e = (1, lit< tt, rw e refl)
+stop_status (stops.Cartridge line) status e = (2, lit< tt, rw e refl)
+stop_status (stops.Movie line) status e = (3, lit< tt, rw e refl)
+stop_status stops.ReadFault status e = (4, lit< tt, rw e refl)
+stop_status stops.NoMemory status e = (6, lit< tt, rw e refl)
 
 -- what a call did where it did not fail
 pub unless_failed : {A E : Type 0} {P Q : Type 0} (result : Result A E) → OnOk result P → OnErr result Q → ¬ Q → P

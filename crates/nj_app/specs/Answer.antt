@@ -30,5 +30,5 @@ abbrev pub movie_file : List ℕ → List (List ℕ)
 movie_file name = if bytes_eq name (codes "-") then [] else name ∷ []
 
 -- the names of a command's files
-abbrev pub files_of : Command → List (List ℕ)
-files_of (Play cart movie) = cart ∷ movie_file movie
+abbrev pub file_names : Command → List (List ℕ)
+file_names (Play cart movie) = cart ∷ movie_file movie

@@ -1,18 +1,22 @@
 -- Which statuses come, when, and what stands on `out` and `err` then. Our own.
-use Rattle.std.specs.Prelude.{◌≡◌, ◌≢◌, ◌⊎◌, ℕ, ◌≤◌, ◌==◌, List, [], length, take, map, Contains, Option, Some, None, IsSomeAnd, if◌then◌else◌}
+use Rattle.std.specs.Prelude.{◌≡◌, ◌≢◌, ◌⊎◌, ℕ, ◌≤◌, ◌==◌, List, [], ◌∷◌, length, take, map, Contains, Option, Some, None, IsSomeAnd, if◌then◌else◌}
 use Rattle.nj_outside.specs.Fnv.{fnv_of}
 use Rattle.std.specs.Option.{option_map_or}
 use Rattle.nj_outside.specs.Told.{Files, appended}
 use Rattle.nj_app.specs.Refusals.{usage_line, read_fault_line, write_fault_line, no_memory_line}
 use Rattle.nj_app.specs.Work.{Answer, Work, given, Reaches}
 use Rattle.nj_app.specs.declared.words.Command.{Command}
-use Rattle.nj_app.specs.Answer.{files_of}
+use Rattle.nj_app.specs.Answer.{file_names}
 
 -- a status that tells of no fault: not a failed read, a failed write or want of memory
 pub record IsPlain (status : ℕ) : Type 0 where
   pub no_read_fault : status ≢ 7
   pub no_write_fault : status ≢ 8
   pub memory : status ≢ 9
+
+-- the statuses that there are
+abbrev pub statuses : List ℕ
+statuses = 0 ∷ 3 ∷ 4 ∷ 6 ∷ 7 ∷ 8 ∷ 9 ∷ []
 
 -- there is an answer, the status is its status, and its text was appended to what `out` held
 abbrev pub IsAnswered : Option Answer → ℕ → Option (List ℕ) → Option (List ℕ) → Type 0
@@ -47,4 +51,4 @@ line_for answer status = option_map_or (λ line. line) (fixed_line status) (opti
 
 -- the hash is that of a name among the command's files
 abbrev pub IsOfCommand : Option Command → ℕ → Type 0
-IsOfCommand command hash = IsSomeAnd command (λ c. Contains (map fnv_of (files_of c)) hash)
+IsOfCommand command hash = IsSomeAnd command (λ c. Contains (map fnv_of (file_names c)) hash)

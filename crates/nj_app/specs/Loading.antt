@@ -10,9 +10,11 @@ use Rattle.nj_app.specs.declared.stops.Stop.TheVariants.{Cartridge, Movie, ReadF
 abbrev pub IsRefusal : (List ℕ → Stop) → List ℕ → List ℕ → Stop → Type 0
 IsRefusal stop_with kind refusal stop = (stop ≡ NoMemory) ⊎ (stop ≡ stop_with (refusal_line kind refusal))
 
+-- the stop has the line of this refusal of a cartridge, or memory ran out
 abbrev pub IsCartRefusal : List ℕ → Stop → Type 0
 IsCartRefusal = IsRefusal (λ line. Cartridge line) (codes "cartridge")
 
+-- the stop has the line of this refusal of a movie, or memory ran out
 abbrev pub IsMovieRefusal : List ℕ → Stop → Type 0
 IsMovieRefusal = IsRefusal (λ line. Movie line) (codes "movie")
 

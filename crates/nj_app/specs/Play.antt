@@ -10,10 +10,11 @@ use Rattle.nj_machine.specs.Frame.{play}
 use Rattle.nj_app.specs.Refusals.{cart_refusal, movie_refusal, too_long}
 use Rattle.nj_app.specs.Work.{Answer, Work, Done, done, loaded, refusal_told, within}
 
--- the longest files that are read, in bytes
+-- the longest cartridge that is read, in bytes
 abbrev pub cart_limit : ℕ
 cart_limit = 1048576
 
+-- the longest movie that is read, in bytes
 abbrev pub movie_limit : ℕ
 movie_limit = 16777216
 

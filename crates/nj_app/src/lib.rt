@@ -7,7 +7,10 @@ mod playing;
 mod refusals;
 mod running;
 mod stops;
+#[cfg(test)]
+mod tests;
 mod words;
 
+pub use nj_outside::{Shelf, Sink};
+pub use nj_steps::Steps;
 pub use running::run_plain;
-pub use words::{Command, WordsRefused, read_words};

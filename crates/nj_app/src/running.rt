@@ -2,8 +2,8 @@ ghost use Rattle.std.specs.Prelude.{◌≡◌, ◌≢◌, ◌⊎◌, ◌≤◌, 
 ghost use Rattle.nj_outside.specs.Fnv.{fnv_of};
 ghost use Rattle.nj_outside.specs.Rise.{Rose};
 ghost use Rattle.nj_outside.specs.Told.{Files, appended};
-ghost use Rattle.nj_app.specs.Answer.{answer, frames_of, files_of, work_of, work_for, movie_file};
-ghost use Rattle.nj_app.specs.Causes.{IsAnswered, Settles, IsCutShort, IsOfCommand, fixed_line, line_for};
+ghost use Rattle.nj_app.specs.Answer.{answer, frames_of, file_names, work_of, work_for, movie_file};
+ghost use Rattle.nj_app.specs.Causes.{statuses, IsAnswered, Settles, IsCutShort, IsOfCommand, fixed_line, line_for};
 ghost use Rattle.nj_app.specs.Play.{play_work};
 ghost use Rattle.nj_app.specs.Stops.{Serves};
 ghost use Rattle.nj_app.specs.Work.{given, Reaches};
@@ -28,6 +28,8 @@ pub fn run_plain<S: Shelf, O: Sink, E: Sink, L: Ledger>(
     err: &mut E,
     steps: &mut Steps<L>,
 ) -> u8
+    ensures known { Contains statuses result }
+
     // no file changes
     ensures content { S.content shelf.new ≡ S.content shelf.old }
 
@@ -129,7 +131,7 @@ fn carry_out<S: Shelf, L: Ledger>(
     ensures done { IfOk result (λ reply. reply.status ≡ 0) }
     ensures not_words { result ≢ Err Stop.Usage }
     ensures fault { IsErrOf result Stop.ReadFault → Rose (S.read_faults shelf.old) (S.read_faults shelf.new) }
-    ensures fault_name { IsErrOf result Stop.ReadFault → Contains (map fnv_of (files_of command.now)) (S.failed_read shelf.new) }
+    ensures fault_name { IsErrOf result Stop.ReadFault → Contains (map fnv_of (file_names command.now)) (S.failed_read shelf.new) }
     ensures frames { (files : Files) → S.content shelf.old ≡ Some files →
         steps.new ≤ steps.old + frames_of (given files (work_of command.now)) }
     ensures never_falls { steps.old ≤ steps.new }

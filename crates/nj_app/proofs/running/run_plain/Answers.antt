@@ -1,8 +1,14 @@
 -- A reply is written, and a stop has its line.
-use Rattle.std.proofs.Common.{◌≡◌, List, ℕ, Some, Err, refl, ap, ◌∙◌}
+use Rattle.std.proofs.Common.{◌≡◌, List, ℕ, Some, Err, refl, lit<, ap, ◌∙◌}
 use Rattle.nj_outside.specs.Told.{appended}
-use Rattle.nj_app.proofs.Statuses.{reply_answers, reply_cut_short, stop_settles, stop_completes, stop_reaches, stop_line, unless_failed}
+use Rattle.nj_app.proofs.Statuses.{stop_status, reply_answers, reply_cut_short, stop_settles, stop_completes, stop_reaches, stop_line, unless_failed}
 use Rattle.nj_app.proofs.running.run_plain.Goals as goal
+
+pub returns-in-Ok-write_all-clause-known : goal.returns-in-Ok-write_all-clause-known
+returns-in-Ok-write_all-clause-known g c = (0, lit< tt, rw c.in-Ok.ensures.done refl)
+
+pub returns-clause-known : goal.returns-clause-known
+returns-clause-known g c = stop_status c.in-Err.stop c.status.result c.status.ensures
 
 pub returns-in-Ok-write_all-clause-settled : goal.returns-in-Ok-write_all-clause-settled
 returns-in-Ok-write_all-clause-settled g c = λ files told plain.
@@ -48,3 +54,6 @@ returns-clause-line g c = λ files told never.
     unless_failed c.write_all-in-Err.result c.write_all-in-Err.ensures.ok c.write_all-in-Err.ensures.fault never
     ∙ ap (λ bytes. appended (g.E.Sink.written c.args.err.now) bytes)
     (stop_line files _ _ c.in-Err.stop c.status.result c.line.result.now (c.in-Err.ensures.serves files told) c.status.ensures c.line.ensures)
+
+pub returns-in-Ok-clause-known : goal.returns-in-Ok-clause-known
+returns-in-Ok-clause-known g c = (5, lit< tt, refl)
