@@ -1,5 +1,5 @@
 -- What a file's reading says of the work that reads it.
-use Rattle.std.proofs.Common.{◌≡◌, ◌⊎◌, ◌<◌, ℕ, List, length, Bool, true, false, bytes_eq, codes, Option, option_and_then, IsSomeAnd, Some, None, Result, Ok, Err, refl, sym, ap, ◌∙◌, subst, inl, inr, if◌then◌else◌}
+use Rattle.std.proofs.Common.{◌≡◌, ◌<◌, ℕ, List, length, option_and_then, IsSomeAnd, Some, Result, Ok, Err, refl, sym, ap, ◌∙◌, subst, inl, inr}
 use Rattle.nj_outside.specs.Fnv.{fnv_of}
 use Rattle.nj_outside.specs.Told.{Files}
 use Rattle.nj_outside.specs.declared.reading.ReadRefused.{ReadRefused}
@@ -7,7 +7,7 @@ use Rattle.nj_outside.specs.declared.reading.ReadRefused.TheVariants as reads
 use Rattle.nj_app.specs.Loading.{IsRefusal, Reads, StopsUnread}
 use Rattle.nj_app.specs.Refusals.{refusal_line, too_long}
 use Rattle.nj_app.specs.Stops.{Ends, Leads, Loads}
-use Rattle.nj_app.specs.Work.{Answer, Work, Read, given, Reaches, refused, accepted, loaded}
+use Rattle.nj_app.specs.Work.{Work, given, Reaches, refused, accepted, loaded}
 use Rattle.nj_app.specs.declared.stops.Stop.{Stop}
 use Rattle.nj_app.specs.declared.stops.Stop.TheVariants.{ReadFault, NoMemory}
 

@@ -1,12 +1,12 @@
 -- How the loading of one file after another makes the answer of `play`.
-use Rattle.std.proofs.Common.{◌≡◌, ◌+◌, ◌∷◌, ℕ, List, length, Contains, add-one, arith, Option, Some, None, Result, Ok, Err, refl, sym, ap, ◌∙◌, subst}
+use Rattle.std.proofs.Common.{◌≡◌, ◌+◌, ◌∷◌, ℕ, List, length, Contains, add-one, arith, Some, Result, Ok, Err, sym, ◌∙◌, subst}
 use Rattle.nj_outside.specs.Told.{Files}
 use Rattle.nj_seq.specs.declared.texts.Text.{Text}
 use Rattle.nj_ines.specs.Cartridge.{Cartridge}
 use Rattle.nj_machine.specs.Frame.{play}
 use Rattle.nj_app.specs.Play.{play_work, play_text, with_cart, with_movie}
 use Rattle.nj_app.specs.Stops.{Ends, Leads, Loads, Serves, Replies}
-use Rattle.nj_app.specs.Work.{Answer, Work, Done, given, Reaches, done}
+use Rattle.nj_app.specs.Work.{Work, Done, given, done}
 use Rattle.nj_app.specs.declared.stops.Reply.{Reply}
 use Rattle.nj_app.specs.declared.stops.Stop.{Stop}
 use Rattle.nj_app.specs.declared.stops.Stop.TheVariants as stops

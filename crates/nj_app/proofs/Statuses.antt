@@ -1,10 +1,10 @@
 -- What a reply and a stop say of the answer, of `out` and of `err`.
-use Rattle.std.proofs.Common.{◌≡◌, ◌≢◌, ◌≤◌, ℕ, List, [], length, take, Option, Some, None, Result, Ok, Err, OnOk, OnErr, Contains, lit<, refl, sym, ap, ◌∙◌, subst}
+use Rattle.std.proofs.Common.{◌≡◌, ◌≢◌, ◌≤◌, ℕ, List, length, take, Option, Some, Result, Ok, Err, OnOk, OnErr, Contains, lit<, refl, sym, ap, ◌∙◌, subst}
 use Rattle.nj_outside.specs.Told.{Files, appended, appended-nothing}
 use Rattle.nj_app.specs.Causes.{statuses, IsPlain, IsAnswered, IsCutShort, line_for}
 use Rattle.nj_app.specs.Refusals.{usage_line}
 use Rattle.nj_app.specs.Stops.{status_of, line_of, Ends, Serves, Replies}
-use Rattle.nj_app.specs.Work.{Answer, Work, given, Reaches, refused, done}
+use Rattle.nj_app.specs.Work.{Work, given, Reaches, refused, done}
 use Rattle.nj_app.specs.declared.stops.Reply.{Reply}
 use Rattle.nj_app.specs.declared.stops.Stop.{Stop}
 use Rattle.nj_app.specs.declared.stops.Stop.TheVariants as stops

@@ -1,5 +1,5 @@
 -- Lists of three words, and command lines of another length.
-use Rattle.std.proofs.Common.{◌≡◌, ◌≢◌, ℕ, List, [], ◌∷◌, length, get_or, Option, None, map, refl, ap, arith}
+use Rattle.std.proofs.Common.{◌≡◌, ◌≢◌, ℕ, List, [], ◌∷◌, length, get_or, None, map, refl, ap, arith}
 use Rattle.nj_app.specs.Words.{command_of, play_of}
 
 -- a list of three members is they

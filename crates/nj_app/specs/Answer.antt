@@ -1,5 +1,5 @@
 -- What the program answers, as a function of its words and of the files. Our own.
-use Rattle.std.specs.Prelude.{ℕ, List, [], ◌∷◌, ◌++◌, Option, Some, None, bytes_eq, codes, if◌then◌else◌}
+use Rattle.std.specs.Prelude.{ℕ, List, [], ◌∷◌, Option, bytes_eq, codes, if◌then◌else◌}
 use Rattle.std.specs.Option.{option_map_or}
 use Rattle.nj_outside.specs.Told.{Files}
 use Rattle.nj_app.specs.Play.{play_work}

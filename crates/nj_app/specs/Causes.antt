@@ -1,10 +1,10 @@
 -- Which statuses come, when, and what stands on `out` and `err` then. Our own.
-use Rattle.std.specs.Prelude.{◌≡◌, ◌≢◌, ◌⊎◌, ℕ, ◌≤◌, ◌==◌, List, [], ◌∷◌, length, take, map, Contains, Option, Some, None, IsSomeAnd, if◌then◌else◌}
+use Rattle.std.specs.Prelude.{◌≡◌, ◌≢◌, ℕ, ◌≤◌, ◌==◌, List, [], ◌∷◌, length, take, map, Contains, Option, Some, None, IsSomeAnd, if◌then◌else◌}
 use Rattle.nj_outside.specs.Fnv.{fnv_of}
 use Rattle.std.specs.Option.{option_map_or}
-use Rattle.nj_outside.specs.Told.{Files, appended}
+use Rattle.nj_outside.specs.Told.{appended}
 use Rattle.nj_app.specs.Refusals.{usage_line, read_fault_line, write_fault_line, no_memory_line}
-use Rattle.nj_app.specs.Work.{Answer, Work, given, Reaches}
+use Rattle.nj_app.specs.Work.{Answer}
 use Rattle.nj_app.specs.declared.words.Command.{Command}
 use Rattle.nj_app.specs.Answer.{file_names}
 

@@ -1,5 +1,5 @@
 -- `play CART MOVIE`: the working memory after a movie. Our own.
-use Rattle.std.specs.Prelude.{ℕ, ◌+◌, ◌/◌, ◌%◌, ◌==◌, Bool, true, List, [], ◌∷◌, ◌++◌, length, Result, bytes_eq, codes, if◌then◌else◌}
+use Rattle.std.specs.Prelude.{ℕ, ◌/◌, ◌%◌, ◌==◌, Bool, true, List, [], ◌∷◌, ◌++◌, length, Result, bytes_eq, codes, if◌then◌else◌}
 use Rattle.std.specs.Fmt.{decimal, digit_glyph}
 use Rattle.std.specs.List.{flat_map, enumerate_from}
 use Rattle.nj_ines.specs.Cartridge.{Cartridge}
@@ -8,7 +8,7 @@ use Rattle.nj_movie.specs.Text.{movie_of}
 use Rattle.nj_machine.specs.State.{State, ram_of, is_jammed}
 use Rattle.nj_machine.specs.Frame.{play}
 use Rattle.nj_app.specs.Refusals.{cart_refusal, movie_refusal, too_long}
-use Rattle.nj_app.specs.Work.{Answer, Work, Done, done, loaded, refusal_told, within}
+use Rattle.nj_app.specs.Work.{Work, Done, done, loaded, refusal_told, within}
 
 -- the longest cartridge that is read, in bytes
 abbrev pub cart_limit : ℕ

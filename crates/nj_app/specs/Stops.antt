@@ -1,8 +1,8 @@
 -- What stops a command before its text, and what a stop or a reply says of the command's work. Our own.
-use Rattle.std.specs.Prelude.{◌≡◌, ◌⊎◌, ℕ, List, Option, Some, Result, Ok, Err}
+use Rattle.std.specs.Prelude.{◌≡◌, ℕ, List, Some, Result, Ok, Err}
 use Rattle.nj_outside.specs.Told.{Files}
 use Rattle.nj_app.specs.Refusals.{usage_line, read_fault_line, no_memory_line}
-use Rattle.nj_app.specs.Work.{Answer, Work, given, Reaches, refused, done}
+use Rattle.nj_app.specs.Work.{Work, given, Reaches, refused, done}
 use Rattle.nj_app.specs.declared.stops.Reply.{Reply}
 use Rattle.nj_app.specs.declared.stops.Stop.{Stop}
 use Rattle.nj_app.specs.declared.stops.Stop.TheVariants.{Usage, Cartridge, Movie, ReadFault, NoMemory}

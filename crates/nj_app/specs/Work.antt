@@ -1,5 +1,5 @@
 -- What a command does, as a term over the files that it comes to. Our own.
-use Rattle.std.specs.Prelude.{◌≡◌, ◌⊎◌, ℕ, nat_lt, List, [], length, Option, Some, None, option_and_then, IsSomeAnd, Result, Ok, Err, if◌then◌else◌}
+use Rattle.std.specs.Prelude.{◌≡◌, ◌⊎◌, ℕ, nat_lt, List, [], length, Option, Some, option_and_then, IsSomeAnd, Result, Ok, Err, if◌then◌else◌}
 use Rattle.nj_outside.specs.Fnv.{fnv_of}
 use Rattle.nj_outside.specs.Told.{Files}
 use Rattle.nj_app.specs.Refusals.{refusal_line}

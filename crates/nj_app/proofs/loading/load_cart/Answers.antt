@@ -1,8 +1,7 @@
 -- A cartridge's file is read as `cart_reading` says.
-use Rattle.std.proofs.Common.{◌≡◌, ◌≤◌, ◌<◌, ℕ, List, length, Result, Ok, Err, refl, ap, codes, arith, if◌then◌else◌, true, nat_lt}
+use Rattle.std.proofs.Common.{◌≡◌, ◌<◌, ℕ, List, length, Err, refl, ap, codes, arith, true, nat_lt}
 use Rattle.std.proofs.lemmas.Bool.Decides.{nat_tests}
 use Rattle.nj_outside.specs.Told.{Files}
-use Rattle.nj_app.specs.Loading.{IsCartRefusal}
 use Rattle.nj_app.specs.Play.{cart_reading, with_cart, cart_limit}
 use Rattle.nj_app.specs.Refusals.{too_long}
 use Rattle.nj_app.specs.Stops.{Ends}

@@ -1,12 +1,10 @@
 -- A movie's file is read as `movie_reading` says, and `-` is the empty movie.
-use Rattle.std.proofs.Common.{◌≡◌, ◌≤◌, ◌<◌, ℕ, List, [], length, Bool, true, false, bytes_eq, Result, Ok, Err, refl, sym, ap, subst, codes, arith, if◌then◌else◌, nat_lt}
+use Rattle.std.proofs.Common.{◌≡◌, ◌<◌, ℕ, List, [], length, true, false, bytes_eq, Ok, Err, refl, sym, ap, codes, arith, nat_lt}
 use Rattle.std.proofs.lemmas.Bool.Decides.{nat_tests}
 use Rattle.nj_outside.specs.Told.{Files}
 use Rattle.nj_app.specs.Play.{movie_reading, with_movie, movie_limit}
 use Rattle.nj_app.specs.Refusals.{too_long}
-use Rattle.nj_app.specs.Stops.{Ends, Leads, Loads}
-use Rattle.nj_app.specs.Work.{Work}
-use Rattle.nj_app.specs.declared.stops.Stop.{Stop}
+use Rattle.nj_app.specs.Stops.{Ends, Loads}
 use Rattle.nj_app.specs.declared.stops.Stop.TheVariants.{Movie}
 use Rattle.nj_app.proofs.Readers.{IsKind, loads_read, loads_unread}
 use Rattle.nj_app.proofs.loading.load_movie.Goals as goal

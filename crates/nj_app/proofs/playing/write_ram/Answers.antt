@@ -1,5 +1,5 @@
 -- One more byte moves its line from what is left to the text.
-use Rattle.std.proofs.Common.{◌≡◌, ◌+◌, ◌<◌, ◌≤◌, ◌++◌, ◌∷◌, ℕ, suc, List, [], length, drop, get_or, ap, sym, ◌∙◌, refl, append_assoc, add-one, drop-cons, arith}
+use Rattle.std.proofs.Common.{◌≡◌, ◌+◌, ◌<◌, ◌≤◌, ◌++◌, ℕ, List, [], length, drop, get_or, ap, sym, ◌∙◌, refl, append_assoc, add-one, drop-cons}
 use Rattle.std.proofs.lemmas.List.{append-nil, drop_all}
 use Rattle.nj_app.specs.Play.{ram_line, ram_lines}
 use Rattle.nj_app.proofs.playing.write_ram.Goals as goal

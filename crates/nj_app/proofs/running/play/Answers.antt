@@ -1,5 +1,5 @@
 -- The cartridge's stop and the movie's stop end the work, and what was played is its answer.
-use Rattle.std.proofs.Common.{◌≡◌, ◌≤◌, ◌+◌, ◌∙◌, ℕ, List, Some, Ok, Err, refl, ap, sym, arith}
+use Rattle.std.proofs.Common.{◌∙◌, Err, ap}
 use Rattle.std.proofs.lemmas.Result.{err_from_is_err_and}
 use Rattle.nj_app.proofs.Serving.{serves_stop, serves_reply, serves_no_memory, contains_after, same_stop, cart_stops, movie_stops, plays}
 use Rattle.nj_app.proofs.running.play.Goals as goal

@@ -1,15 +1,13 @@
 -- The work for the words is that of their command, or the refusal of words without a reading.
-use Rattle.std.proofs.Common.{◌≡◌, ◌⊎◌, inl, inr, ◌≤◌, ◌+◌, ℕ, List, Option, Some, None, Result, Err, refl, ap, sym, ◌∙◌, subst}
+use Rattle.std.proofs.Common.{◌≡◌, ◌⊎◌, inl, inr, ℕ, List, Some, None, Err, refl}
 use Rattle.nj_outside.specs.Told.{Files}
 use Rattle.nj_app.specs.Answer.{work_of, work_for}
 use Rattle.nj_app.specs.Stops.{Serves, Ends}
-use Rattle.nj_app.specs.Work.{Work, given}
+use Rattle.nj_app.specs.Work.{Work}
 use Rattle.nj_app.specs.Words.{command_of}
 use Rattle.nj_app.specs.declared.words.Command.{Command}
 use Rattle.nj_app.specs.declared.words.WordsRefused.{WordsRefused}
 use Rattle.nj_app.specs.declared.words.WordsRefused.TheVariants as words
-use Rattle.nj_app.specs.declared.stops.Reply.{Reply}
-use Rattle.nj_app.specs.declared.stops.Stop.{Stop}
 use Rattle.nj_app.specs.declared.stops.Stop.TheVariants as stops
 use Rattle.nj_app.proofs.running.reply_to.Goals as goal
 

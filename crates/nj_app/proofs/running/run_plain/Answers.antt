@@ -1,5 +1,5 @@
 -- A reply is written, and a stop has its line.
-use Rattle.std.proofs.Common.{◌≡◌, List, ℕ, Some, Err, refl, lit<, ap, ◌∙◌}
+use Rattle.std.proofs.Common.{Err, refl, lit<, ap, ◌∙◌}
 use Rattle.nj_outside.specs.Told.{appended}
 use Rattle.nj_app.proofs.Statuses.{stop_status, reply_answers, reply_cut_short, stop_settles, stop_completes, stop_reaches, stop_line, unless_failed}
 use Rattle.nj_app.proofs.running.run_plain.Goals as goal

@@ -1,5 +1,5 @@
 -- By the number of words: three are tried as `play`, and any other number has no reading.
-use Rattle.std.proofs.Common.{◌≡◌, ◌≢◌, List, ℕ, length, map, string_bytes, refl, inr, arith}
+use Rattle.std.proofs.Common.{◌≢◌, length, map, string_bytes, refl, inr}
 use Rattle.std.proofs.lemmas.List.{length-map}
 use Rattle.nj_app.proofs.Three.{three_words, not_three}
 use Rattle.nj_app.proofs.words.read_words.Goals as goal
