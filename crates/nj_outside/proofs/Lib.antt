@@ -1,0 +1,4 @@
+pub mod Beginnings
+pub mod Numbers
+pub mod Pairs
+pub mod Pieces

@@ -1,0 +1,6 @@
+pub mod Decimal
+pub mod Fnv
+pub mod Memory
+pub mod Real
+pub mod Rise
+pub mod Told

@@ -1,0 +1,31 @@
+//! The outside: files by name ([`Shelf`]) and a stream of bytes ([`Sink`]) as traits, with one pair of
+//! types over memory, whose answers are exact, and one over the system's files and streams, which tell
+//! nothing but their faults. Beside them whole readings and writings, FNV-1a and numbers in text.
+//!
+//! A shelf or sink may tell what it has. What is said of bytes holds where they are told; what is said
+//! of faults holds always: a call fails only where its object's count of faults rose in that call.
+#![tactic(auto)]
+
+mod decimals;
+mod file_shelf;
+mod hashing;
+mod memory_shelf;
+mod memory_sink;
+mod reading;
+mod shelves;
+mod sinks;
+mod stream_sink;
+#[cfg(test)]
+mod tests;
+mod writing;
+
+pub use decimals::read_decimal;
+pub use file_shelf::FileShelf;
+pub use hashing::{fnv, fnv_on};
+pub use memory_shelf::MemShelf;
+pub use memory_sink::MemSink;
+pub use reading::{ReadRefused, read_all};
+pub use shelves::{Failed, Shelf};
+pub use sinks::Sink;
+pub use stream_sink::StreamSink;
+pub use writing::{WriteFault, put_all, write_all};
