@@ -83,22 +83,29 @@ fn plays_and_refuses(rt: HostRuntime) -> Result<(), Fail> {
         ("play count movie", "", 0, "# play frames=0 state=run\n", ""),
         (
             "play count movie",
-            "\n",
+            "|..|........|\n",
             0,
             "# play frames=1 state=run\n0010 61\n",
             "",
         ),
         (
             "play count movie",
-            "\n\n",
+            "|..|........|\n|..|........|\n",
             0,
             "# play frames=2 state=run\n0010 EB\n",
             "",
         ),
-        ("play jam movie", "\n", 0, "# play frames=1 state=jam\n", ""),
         (
             "play jam movie",
-            "\n\n\n",
+            "|..|........|
+",
+            0,
+            "# play frames=1 state=jam\n",
+            "",
+        ),
+        (
+            "play jam movie",
+            "|..|........|\n|..|........|\n|..|........|\n",
             0,
             "# play frames=3 state=jam\n",
             "",
@@ -117,7 +124,7 @@ fn plays_and_refuses(rt: HostRuntime) -> Result<(), Fail> {
         ),
         (
             "play count movie",
-            "\n|..|R.......|",
+            "|..|........|\n|..|R.......|",
             6,
             "",
             "nj: movie 1 Line line=2\n",
@@ -141,7 +148,7 @@ fn faults(rt: HostRuntime) -> Result<(), Fail> {
         let (status, out, err) = outcome(
             rt.alloc(),
             "play count movie",
-            "\n",
+            "|..|........|\n",
             (&[call], &[], &[]),
         )?;
         let failed = call < 7;
@@ -161,7 +168,7 @@ fn faults(rt: HostRuntime) -> Result<(), Fail> {
         let (status, out, err) = outcome(
             rt.alloc(),
             "play count movie",
-            "\n",
+            "|..|........|\n",
             (&[], &[call], &[]),
         )?;
         assert_eq!(rt; status, 8);
