@@ -21,6 +21,10 @@ without end line = if ends_with nat_eq line end then take (length line - length 
 abbrev pub text_len : List ℕ → ℕ
 text_len line = position_or_len (λ byte. byte == 10) line
 
+-- there is no line feed
+abbrev pub IsPlain : List ℕ → Type 0
+IsPlain text = text_len text ≡ length text
+
 -- the first line feed is the last byte (POSIX.1, "Line")
 abbrev pub IsEnded : List ℕ → Type 0
 IsEnded line = text_len line + 1 ≡ length line

@@ -1,9 +1,11 @@
 //! The lines of a text of bytes, one at a time, each with its end.
 #![tactic(auto)]
 
-ghost use Rattle.std.specs.Prelude.{◌≡◌, ◌+◌, ◌<◌, ◌∷◌, ◌==◌, ℕ, List, length, min, position};
+ghost use Rattle.std.specs.Prelude.{◌≡◌, ◌+◌, ◌<◌, ◌∷◌, ◌++◌, ◌^◌, ◌==◌, ℕ, ℤ, FitsSigned, [], List, length, min, position};
 ghost use Rattle.std.specs.List.{concat};
-ghost use Rattle.nj_lines.specs.Lines.{lines, without, text_len, AreLines};
+ghost use Rattle.std.specs.Int.{w64};
+ghost use Rattle.std.specs.Fmt.{decimal, signed_decimal};
+ghost use Rattle.nj_lines.specs.Lines.{lines, without, text_len, IsPlain, IsEnded, AreLines};
 
 /// The first line with its end, and the bytes behind it.
 pub fn next_line(bytes: &[u8]) -> (&[u8], &[u8])
@@ -44,6 +46,14 @@ pub fn lines_are_the_bytes()
     ensures whole { (bytes : List ℕ) → concat (lines bytes) ≡ bytes }
     ensures each_ended { (bytes : List ℕ) → AreLines (lines bytes) }
     ensures only { (parts : List (List ℕ)) → AreLines parts → lines (concat parts) ≡ parts }
+{}
+
+/// Law: a text without line feeds and one behind it make an ended line, and printed numbers have no line feed.
+pub fn printed_numbers_have_no_line_feed()
+    ensures ended { (text : List ℕ) → IsPlain text → IsEnded (text ++ 10 ∷ []) }
+    ensures joined { (front back : List ℕ) → IsPlain front → IsPlain back → IsPlain (front ++ back) }
+    ensures unsigned { (n : ℕ) → n < 2 ^ 64 → IsPlain (decimal n) }
+    ensures signed { (n : ℤ) → FitsSigned w64 n → IsPlain (signed_decimal n) }
 {}
 
 #[cfg(test)]

@@ -1,0 +1,4 @@
+pub mod TextLemmas
+pub mod SaysLemmas
+pub mod ReadingLemmas
+pub mod WrittenLemmas
