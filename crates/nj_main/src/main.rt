@@ -4,18 +4,16 @@
 
 ghost use Rattle.std.specs.Prelude.{◌≡◌};
 
+use nj_app::run_plain;
+use nj_outside::{FileShelf, Shelf, Sink, StreamSink, write_all};
+use nj_steps::Steps;
 use std::alloc::Global;
-use std::env;
-use std::io;
 use std::io::ErrorKind;
 use std::marker::Brand;
 use std::process::ExitCode;
 use std::rt::Env;
 use std::sync::ledger::{Blank, Ledger};
-
-use nj_app::run_plain;
-use nj_outside::{FileShelf, Shelf, Sink, StreamSink, write_all};
-use nj_steps::Steps;
+use std::{env, io};
 
 const NO_MEMORY: u8 = 9;
 
