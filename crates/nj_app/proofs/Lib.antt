@@ -1,0 +1,4 @@
+pub mod Readers
+pub mod Serving
+pub mod Statuses
+pub mod Three

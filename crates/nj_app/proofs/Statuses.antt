@@ -1,0 +1,96 @@
+-- What a reply and a stop say of the answer, of `out` and of `err`.
+use Rattle.std.proofs.Common.{◌≡◌, ◌≢◌, ◌≤◌, ℕ, List, length, take, Option, Some, Result, Ok, Err, OnOk, OnErr, Contains, lit<, refl, sym, ap, ◌∙◌, subst}
+use Rattle.nj_outside.specs.Told.{Files, appended, appended-nothing}
+use Rattle.nj_app.specs.Causes.{statuses, IsPlain, IsAnswered, IsCutShort, line_for}
+use Rattle.nj_app.specs.Refusals.{usage_line}
+use Rattle.nj_app.specs.Stops.{status_of, line_of, Ends, Serves, Replies}
+use Rattle.nj_app.specs.Work.{Work, given, Reaches, refused, done}
+use Rattle.nj_app.specs.declared.stops.Reply.{Reply}
+use Rattle.nj_app.specs.declared.stops.Stop.{Stop}
+use Rattle.nj_app.specs.declared.stops.Stop.TheVariants as stops
+
+module _ (files : Files) (work : Work) (failed : ℕ) where
+  -- a reply whose text was written is answered
+  pub reply_answers : (reply : Reply) (old new : Option (List ℕ)) (bytes : List ℕ) → Serves files work failed (Ok reply) → bytes ≡ reply.text →
+      new ≡ appended old bytes → IsAnswered (given files work) reply.status old new
+  unfolding Serves Replies
+  reply_answers reply old new bytes serves is_text written =
+      (done reply.status reply.text serves.0, serves.1, refl, written ∙ ap (λ text. appended old text) is_text)
+
+  -- a reply whose text was written in part is cut short
+  pub reply_cut_short : (reply : Reply) (old new : Option (List ℕ)) (bytes : List ℕ) (count : ℕ) → Serves files work failed (Ok reply) →
+      bytes ≡ reply.text → count ≤ length bytes → new ≡ appended old (take count bytes) → IsCutShort (given files work) old new
+  unfolding Serves Replies
+  reply_cut_short reply old new bytes count serves is_text within written = record {
+    whole = done reply.status reply.text serves.0;
+    is_whole = serves.1;
+    accepted = refl;
+    count = count;
+    within = subst (λ text. count ≤ length text) is_text within;
+    written = written ∙ ap (λ text. appended old (take count text)) is_text;
+  }
+
+  -- a refusal is answered, and writes no text
+  refusal_answers : (status : ℕ) (line : List ℕ) (old : Option (List ℕ)) → given files work ≡ Some (refused status line) →
+      IsAnswered (given files work) status old old
+  refusal_answers status line old h = (refused status line, h, refl, sym (appended-nothing old))
+
+  -- a stop that is no failed read and no want of memory is answered
+  stop_answers : (stop : Stop) (old : Option (List ℕ)) → Ends files work failed stop → stop ≢ stops.ReadFault → stop ≢ stops.NoMemory →
+      IsAnswered (given files work) (status_of stop) old old
+  unfolding Ends
+  stop_answers stops.Usage old h reads memory = refusal_answers 3 usage_line old h
+  stop_answers (stops.Cartridge line) old h reads memory = refusal_answers 4 line old h
+  stop_answers (stops.Movie line) old h reads memory = refusal_answers 6 line old h
+  stop_answers stops.ReadFault old h reads memory = absurd (reads refl)
+  stop_answers stops.NoMemory old h reads memory = absurd (memory refl)
+
+  pub stop_settles : (stop : Stop) (status : ℕ) (old : Option (List ℕ)) → Serves files work failed (Err stop) → status ≡ status_of stop →
+      IsPlain status → IsAnswered (given files work) status old old
+  unfolding Serves
+  stop_settles stop status old serves is_status plain =
+      rw is_status (stop_answers stop old serves
+      (λ e. plain.no_read_fault (is_status ∙ ap status_of e)) (λ e. plain.memory (is_status ∙ ap status_of e)))
+
+  pub stop_completes : (stop : Stop) (status : ℕ) (old : Option (List ℕ)) → Serves files work failed (Err stop) → status ≡ status_of stop →
+      stop ≢ stops.ReadFault → status ≢ 9 → IsAnswered (given files work) status old old
+  unfolding Serves
+  stop_completes stop status old serves is_status reads memory =
+      rw is_status (stop_answers stop old serves reads (λ e. memory (is_status ∙ ap status_of e)))
+
+  -- status 7 comes with a read that the work comes to
+  pub stop_reaches : (stop : Stop) (status : ℕ) → Serves files work failed (Err stop) → status ≡ status_of stop → status ≡ 7 →
+      Reaches files work failed
+  unfolding Serves Ends
+  stop_reaches stops.Usage status serves is_status e = cc
+  stop_reaches (stops.Cartridge line) status serves is_status e = cc
+  stop_reaches (stops.Movie line) status serves is_status e = cc
+  stop_reaches stops.ReadFault status serves is_status e = serves
+  stop_reaches stops.NoMemory status serves is_status e = cc
+
+  -- the line of a stop is that of its status
+  line_of_stop : (stop : Stop) → Ends files work failed stop → line_of stop ≡ line_for (given files work) (status_of stop)
+  unfolding Ends
+  line_of_stop stops.Usage h = refl
+  line_of_stop (stops.Cartridge line) h = rw h refl
+  line_of_stop (stops.Movie line) h = rw h refl
+  line_of_stop stops.ReadFault h = refl
+  line_of_stop stops.NoMemory h = refl
+
+  pub stop_line : (stop : Stop) (status : ℕ) (line : List ℕ) → Serves files work failed (Err stop) → status ≡ status_of stop →
+      line ≡ line_of stop → line ≡ line_for (given files work) status
+  unfolding Serves
+  stop_line stop status line serves is_status is_line = rw is_status (is_line ∙ line_of_stop stop serves)
+
+-- the status of a stop is one of those that there are
+pub stop_status : (stop : Stop) (status : ℕ) → status ≡ status_of stop → Contains statuses status
+stop_status stops.Usage status e = (1, lit< tt, rw e refl)
+stop_status (stops.Cartridge line) status e = (2, lit< tt, rw e refl)
+stop_status (stops.Movie line) status e = (3, lit< tt, rw e refl)
+stop_status stops.ReadFault status e = (4, lit< tt, rw e refl)
+stop_status stops.NoMemory status e = (6, lit< tt, rw e refl)
+
+-- what a call did where it did not fail
+pub unless_failed : {A E : Type 0} {P Q : Type 0} (result : Result A E) → OnOk result P → OnErr result Q → ¬ Q → P
+unless_failed (Ok value) ok err never = ok
+unless_failed (Err e) ok err never = absurd (never err)

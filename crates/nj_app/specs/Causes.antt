@@ -1,0 +1,54 @@
+-- Which statuses come, when, and what stands on `out` and `err` then. Our own.
+use Rattle.std.specs.Prelude.{◌≡◌, ◌≢◌, ℕ, ◌≤◌, ◌==◌, List, [], ◌∷◌, length, take, map, Contains, Option, Some, None, IsSomeAnd, if◌then◌else◌}
+use Rattle.nj_outside.specs.Fnv.{fnv_of}
+use Rattle.std.specs.Option.{option_map_or}
+use Rattle.nj_outside.specs.Told.{appended}
+use Rattle.nj_app.specs.Refusals.{usage_line, read_fault_line, write_fault_line, no_memory_line}
+use Rattle.nj_app.specs.Work.{Answer}
+use Rattle.nj_app.specs.declared.words.Command.{Command}
+use Rattle.nj_app.specs.Answer.{file_names}
+
+-- a status that tells of no fault: not a failed read, a failed write or want of memory
+pub record IsPlain (status : ℕ) : Type 0 where
+  pub no_read_fault : status ≢ 7
+  pub no_write_fault : status ≢ 8
+  pub memory : status ≢ 9
+
+-- the statuses that there are
+abbrev pub statuses : List ℕ
+statuses = 0 ∷ 3 ∷ 4 ∷ 6 ∷ 7 ∷ 8 ∷ 9 ∷ []
+
+-- there is an answer, the status is its status, and its text was appended to what `out` held
+abbrev pub IsAnswered : Option Answer → ℕ → Option (List ℕ) → Option (List ℕ) → Type 0
+IsAnswered answer status old new = (x : Answer) × (answer ≡ Some x) × (status ≡ x.status) × (new ≡ appended old x.text)
+
+-- a plain status is the answer's
+abbrev pub Settles : Option Answer → ℕ → Option (List ℕ) → Option (List ℕ) → Type 0
+Settles answer status old new = IsPlain status → IsAnswered answer status old new
+
+-- the answer refuses nothing, and a front part of its text was appended to what `out` held
+pub record IsCutShort (answer : Option Answer) (old new : Option (List ℕ)) : Type 0 where
+  pub whole : Answer
+  pub is_whole : answer ≡ Some whole
+  pub accepted : whole.line ≡ []
+  pub count : ℕ
+  pub within : count ≤ length whole.text
+  pub written : new ≡ appended old (take count whole.text)
+
+-- the line that a status has whatever the files hold, if it is such a status
+abbrev pub fixed_line : ℕ → Option (List ℕ)
+fixed_line status =
+    if status == 0 then Some []
+    else if status == 3 then Some usage_line
+    else if status == 7 then Some read_fault_line
+    else if status == 8 then Some write_fault_line
+    else if status == 9 then Some no_memory_line
+    else None
+
+-- the line on `err`: the status's own, else the answer's
+abbrev pub line_for : Option Answer → ℕ → List ℕ
+line_for answer status = option_map_or (λ line. line) (fixed_line status) (option_map_or (λ x. x.line) answer [])
+
+-- the hash is that of a name among the command's files
+abbrev pub IsOfCommand : Option Command → ℕ → Type 0
+IsOfCommand command hash = IsSomeAnd command (λ c. Contains (map fnv_of (file_names c)) hash)

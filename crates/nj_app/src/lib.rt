@@ -1,0 +1,16 @@
+//! The top call: [`run_plain`] carries out one command line over a shelf of files, a sink for its text and a sink for
+//! its one line of refusal, and answers the exit status. What it answers is a function of the words and the files.
+#![tactic(auto)]
+
+mod loading;
+mod playing;
+mod refusals;
+mod running;
+mod stops;
+#[cfg(test)]
+mod tests;
+mod words;
+
+pub use nj_outside::{Shelf, Sink};
+pub use nj_steps::Steps;
+pub use running::run_plain;

@@ -1,0 +1,59 @@
+ghost use Rattle.std.specs.Prelude.{◌≡◌};
+ghost use Rattle.nj_app.specs.Stops.{status_of, line_of};
+
+use nj_seq::Text;
+use std::alloc::AllocError;
+
+/// Why a command ends before its text. A refused file has its whole line.
+#[derive(Debug, Drop)]
+pub enum Stop {
+    Usage,
+    Cartridge { line: Text },
+    Movie { line: Text },
+    ReadFault,
+    NoMemory,
+}
+
+/// A command that was carried out: its exit status and its text.
+#[derive(Debug, Drop)]
+pub struct Reply {
+    pub status: u8,
+    pub text: Text,
+}
+
+impl Stop {
+    pub fn status(&self) -> u8
+        ensures { result ≡ status_of self.now }
+    {
+        match self {
+            Stop::Usage => 3,
+            Stop::Cartridge { line: _ } => 4,
+            Stop::Movie { line: _ } => 6,
+            Stop::ReadFault => 7,
+            Stop::NoMemory => 9,
+        }
+    }
+
+    /// The line on `err`, with its end of line.
+    pub fn line(&self) -> &[u8]
+        ensures { result.now ≡ line_of self.now }
+    {
+        match self {
+            Stop::Usage => b"nj: usage\n",
+            Stop::Cartridge { line } => line.as_bytes(),
+            Stop::Movie { line } => line.as_bytes(),
+            Stop::ReadFault => b"nj: read fault\n",
+            Stop::NoMemory => b"nj: no memory\n",
+        }
+    }
+}
+
+impl From<AllocError> for Stop {
+    ghost use Rattle.nj_app.specs.declared.stops.Stop.TheVariants.{NoMemory};
+
+    ghost from_gives = { λ _ stop. stop ≡ NoMemory };
+
+    fn from(_error: AllocError) -> Stop {
+        Stop::NoMemory
+    }
+}
