@@ -1,0 +1,10 @@
+pub mod Begins
+pub mod Writes
+pub mod Dots
+pub mod Accesses
+pub mod Units
+pub mod Fuel
+pub mod First
+pub mod ReadBack
+pub mod Saves
+pub mod Loads

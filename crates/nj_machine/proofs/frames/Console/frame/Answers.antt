@@ -1,0 +1,15 @@
+-- The unit that ended the loop ends the frame that it is in.
+use Rattle.std.proofs.Common.{sym, ◌∙◌}
+use Rattle.nj_machine.proofs.Units.{end_tells}
+use Rattle.nj_machine.proofs.Fuel.{frame_ends}
+use Rattle.nj_machine.proofs.frames.Console.frame.Goals as goal
+
+pub returns-in-Some-clause-after : goal.returns-in-Some-clause-after
+returns-in-Some-clause-after g c =
+    sym c.loop-end.invariant.same_frame ∙ frame_ends _ _ _ _ c.in-Some.ensures.began c.in-Some.ensures.step
+
+pub returns-in-Some-clause-jammed : goal.returns-in-Some-clause-jammed
+returns-in-Some-clause-jammed g c = end_tells _ _ _ _ c.in-Some.ensures.step
+
+pub returns-in-Some-clause-cartridge : goal.returns-in-Some-clause-cartridge
+returns-in-Some-clause-cartridge g c = c.in-Some.ensures.cartridge ∙ c.loop-end.invariant.same_rom

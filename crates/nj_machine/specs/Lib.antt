@@ -1,0 +1,4 @@
+pub mod State
+pub mod Wires
+pub mod Frame
+pub mod Image

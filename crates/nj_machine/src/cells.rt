@@ -1,0 +1,107 @@
+//! What the processor is wired to.
+
+ghost use Rattle.std.specs.Prelude.{◌≡◌, ◌<◌, ◌*◌, ◌/◌, ◌+◌};
+ghost use Rattle.nj_machine.specs.State.{cells_of};
+ghost use Rattle.nj_machine.specs.Wires.{port_byte, wires, Wired};
+
+use nj_board::{Board, Nrom};
+use nj_dots::Picture;
+use nj_isa::Bus;
+use nj_pad::{Pad, Port};
+
+/// All that the machine holds beside its processor, and the pad of the frame.
+#[derive(Drop)]
+pub(crate) struct Cells<P> {
+    pub picture: P,
+    pub ram: [u8; 2048],
+    pub board: Nrom,
+    pub bus_byte: u8,
+    pub page: Option<u8>,
+    pub odd: bool,
+    pub port_one: Port,
+    pub port_two: Port,
+    pub pad: Pad,
+}
+
+/// A port gives bit 0; bits 5 to 7 stay on the data bus.
+#[inline]
+fn port_byte(bus_byte: u8, bit: u8) -> u8
+    requires { bit < 2 }
+    ensures { result ≡ port_byte bus_byte bit }
+{
+    bus_byte / 32 * 32 + bit
+}
+
+impl<P: Picture + Drop> Bus for Cells<P> {
+    ghost Held = { Wired };
+
+    ghost held = { λ c. record {
+      cells = cells_of (P.meaning c.picture c.board.chr) c.ram c.board c.bus_byte c.page c.odd c.port_one c.port_two;
+      pad = c.pad;
+    } };
+
+    ghost acts = { wires };
+
+    #[inline]
+    #[tactic(auto, unfolding(crate::specs::Wires::byte_read, crate::specs::Wires::after_read, crate::specs::Wires::dots_run, crate::specs::Wires::answer, crate::specs::Wires::answered, crate::specs::Wires::register_read, crate::specs::Wires::port_one_read, crate::specs::Wires::port_two_read, crate::specs::Wires::over))]
+    fn read(&mut self, at: u16) -> u8 {
+        self.picture.run(3, self.board.pattern());
+        let byte = if at < 0x2000 {
+            self.ram[at as usize % 2048]
+        } else if at < 0x4000 {
+            self.picture.read((at % 8) as u8, self.board.pattern())
+        } else if at == 0x4016 {
+            port_byte(self.bus_byte, self.port_one.read(self.pad))
+        } else if at == 0x4017 {
+            port_byte(self.bus_byte, self.port_two.read(Pad(0)))
+        } else if at < 0x4020 {
+            self.bus_byte
+        } else {
+            self.board.cpu_read(at).unwrap_or(self.bus_byte)
+        };
+        self.bus_byte = byte;
+        self.odd = !self.odd;
+        byte
+    }
+
+    #[inline]
+    #[tactic(auto, unfolding(crate::specs::Wires::after_write, crate::specs::Wires::dots_run, crate::specs::Wires::written, crate::specs::Wires::ram_put, crate::specs::Wires::register_put, crate::specs::Wires::copy_asked, crate::specs::Wires::ports_strobed, crate::specs::Wires::over))]
+    fn write(&mut self, at: u16, value: u8) {
+        self.picture.run(3, self.board.pattern());
+        if at < 0x2000 {
+            self.ram[at as usize % 2048] = value;
+        } else if at < 0x4000 {
+            if let Some((place, byte)) = self
+                .picture
+                .write((at % 8) as u8, value, self.board.pattern())
+            {
+                self.board.put_pattern(place, byte);
+            }
+        } else if at == 0x4014 {
+            self.page = Some(value);
+        } else if at == 0x4016 {
+            self.port_one.strobe(value, self.pad);
+            self.port_two.strobe(value, Pad(0));
+        } else if at >= 0x4020 {
+            self.board.cpu_write(at, value);
+        }
+        self.bus_byte = value;
+        self.odd = !self.odd;
+    }
+
+    #[inline]
+    fn nmi_line(&self) -> bool {
+        self.picture.nmi_line()
+    }
+
+    #[inline]
+    #[tactic(auto, unfolding(crate::specs::Wires::page_taken))]
+    fn take_dma(&mut self) -> Option<u8> {
+        self.page.take()
+    }
+
+    #[inline]
+    fn odd(&self) -> bool {
+        self.odd
+    }
+}

@@ -1,0 +1,147 @@
+//! The machine, frame by frame.
+
+ghost use Rattle.std.specs.Prelude.{◌≡◌, ◌+◌, ◌-◌, ◌^◌, ◌≤◌, ◌↔◌, ℕ, true, min, length, replicate, IfOk};
+ghost use Rattle.nj_board.specs.Nrom.{IsMemory};
+ghost use Rattle.nj_machine.specs.State.{State, power_on, ram_of, rom_of, is_jammed, memory_of, reset_vector};
+ghost use Rattle.nj_machine.specs.Frame.{unit_step, frame, IsReady, IsFirstEnd};
+
+use crate::FrameEnd;
+use crate::cells::Cells;
+use nj_board::{Board, Nrom};
+use nj_cpu::{Cpu, UnitEnd};
+use nj_dots::Picture;
+use nj_ines::Cart;
+use nj_pad::{Pad, Port};
+use nj_steps::Steps;
+use std::alloc::{AllocError, Global};
+use std::marker::Model;
+use std::sync::ledger::Ledger;
+
+/// The machine between two frames, over any picture.
+#[derive(Drop)]
+pub struct Console<P: Picture> {
+    pub(crate) cpu: Cpu,
+    pub(crate) cells: Cells<P>,
+}
+
+impl<P: Picture> Model for Console<P> {
+    ghost use Rattle.nj_machine.specs.State.{State, cells_of};
+    ghost use Rattle.nj_machine.specs.Frame.{IsReady};
+
+    ghost Value = { State };
+
+    ghost view = { λ m. record {
+      cpu = m.cpu;
+      cells = cells_of (P.meaning m.cells.picture m.cells.board.chr) m.cells.ram m.cells.board m.cells.bus_byte m.cells.page m.cells.odd m.cells.port_one m.cells.port_two;
+    } };
+
+    ghost invariant = { λ m. IsReady (record {
+      cpu = m.cpu;
+      cells = cells_of (P.meaning m.cells.picture m.cells.board.chr) m.cells.ram m.cells.board m.cells.bus_byte m.cells.page m.cells.odd m.cells.port_one m.cells.port_two;
+    }) };
+}
+
+// The memory at power-on.
+fn zeros() -> [u8; 2048]
+    ensures { result ≡ replicate 2048 0 }
+{
+    [0; 2048]
+}
+
+// The word at $FFFC of a board.
+#[tactic(auto, unfolding(crate::specs::State::reset_vector))]
+fn reset_vector(board: &Nrom) -> u16
+    ensures { result ≡ reset_vector board.now }
+{
+    let low = board.cpu_read(0xFFFC).unwrap_or(0);
+    let high = board.cpu_read(0xFFFD).unwrap_or(0);
+    u16::from(high) * 256 + u16::from(low)
+}
+
+// The board of a cartridge.
+fn board_of(alloc: Global, cart: &Cart) -> Result<Nrom, AllocError>
+    ensures board { IfOk result (λ board. board ≡ memory_of cart.now) }
+    ensures sized { IfOk result (λ board. IsMemory board) }
+{
+    let prg = Vec::from_slice(alloc, cart.prg())?;
+    let chr = Vec::from_slice(alloc, cart.chr())?;
+    Ok(Nrom::new(prg, chr, cart.chr_ram()))
+}
+
+impl<P: Picture + Drop> Console<P> {
+    /// The machine of a cartridge, before its first cycle.
+    #[tactic(auto, unfolding(crate::specs::State::power_on))]
+    pub fn power_on(alloc: Global, cart: &Cart) -> Result<Self, AllocError>
+        ensures begun { IfOk result (λ machine. machine ≡ power_on cart.now) }
+        ensures ready { IfOk result (λ machine. IsReady machine) }
+    {
+        let board = board_of(alloc, cart)?;
+        let cpu = nj_cpu::power_on(reset_vector(&board));
+        let cells = Cells {
+            picture: P::power_on(cart.vertical()),
+            ram: zeros(),
+            board,
+            bus_byte: 0,
+            page: None,
+            odd: false,
+            port_one: Port::new(),
+            port_two: Port::new(),
+            pad: Pad(0),
+        };
+        Ok(Console { cpu, cells })
+    }
+
+    /// One frame with this pad, which counts as one step. It ends with the first unit of the processor that runs the
+    /// picture's dot (241,1), or with a jam, also where the unit that jams runs that dot.
+    #[tactic(auto, using(crate::proofs::Fuel::frame_ends, crate::proofs::Fuel::frame_goes_on, crate::proofs::Fuel::fewer_left, crate::proofs::Units::end_tells))]
+    pub fn frame<L: Ledger>(&mut self, pad: Pad, steps: &mut Steps<L>) -> FrameEnd
+        ensures after { frame self.old pad ≡ (self.new, result) }
+        ensures jammed { (result ≡ FrameEnd.Jammed) ↔ (is_jammed self.new ≡ true) }
+        ensures ready { IsReady self.new }
+        ensures cartridge { rom_of self.new ≡ rom_of self.old }
+        ensures counted { steps.new ≡ min (steps.old + 1) (2 ^ 64 - 1) }
+        ensures never_falls { steps.old ≤ steps.new }
+    {
+        steps.tick();
+        loop {
+            if let Some(end) = self.unit_step(pad) {
+                return end;
+            }
+        }
+    }
+
+    /// The 2,048 bytes of working memory.
+    #[tactic(auto, unfolding(crate::specs::State::ram_of))]
+    pub fn ram(&self) -> &[u8]
+        ensures bytes { result.now ≡ ram_of self.now }
+        ensures len { length result.now ≡ 2048 }
+    {
+        &self.cells.ram
+    }
+
+    /// Whether the processor is jammed.
+    #[tactic(auto, unfolding(crate::specs::State::is_jammed))]
+    pub fn jammed(&self) -> bool
+        ensures { result ≡ is_jammed self.now }
+    {
+        self.cpu.jammed
+    }
+
+    /// One unit of the processor in a frame with this pad, and how it ended the frame, if it did.
+    #[inline]
+    #[tactic(auto, unfolding(crate::specs::Frame::unit_step))]
+    fn unit_step(&mut self, pad: Pad) -> Option<FrameEnd>
+        ensures step { unit_step pad self.old ≡ (self.new, result) }
+        ensures began { IsReady self.old }
+        ensures ready { IsReady self.new }
+        ensures cartridge { rom_of self.new ≡ rom_of self.old }
+    {
+        self.cells.pad = pad;
+        let end = nj_cpu::unit(&mut self.cpu, &mut self.cells);
+        let ended = self.cells.picture.take_end();
+        match end {
+            UnitEnd::Jammed => Some(FrameEnd::Jammed),
+            UnitEnd::Done => { if ended { Some(FrameEnd::Picture) } else { None } }
+        }
+    }
+}

@@ -1,0 +1,28 @@
+//! The whole machine: processor, picture, board and ports, from power-on, one frame for each pad. A frame ends with
+//! the unit of the processor that runs the picture's dot (241,1), or with a jam.
+#![tactic(auto)]
+
+mod cells;
+mod frames;
+mod images;
+mod laws;
+#[cfg(test)]
+mod tests;
+
+pub use frames::Console;
+pub use laws::{a_jam_stays, an_image_tells_its_state, frame_is_first, frames_keep_the_cartridge};
+pub use nj_dots::Picture;
+pub use nj_ines::Cart;
+pub use nj_pad::Pad;
+use nj_ppu::DotPicture;
+pub use nj_steps::Steps;
+
+/// The machine, over the picture that runs each dot as it comes.
+pub type Machine = Console<DotPicture>;
+
+/// How a frame ended: with the unit that ran the picture's dot (241,1), or with a jammed processor.
+#[derive(Clone, Copy, Debug, PartialEq, Eq)]
+pub enum FrameEnd {
+    Picture,
+    Jammed,
+}
