@@ -1,0 +1,3 @@
+pub mod Cartridge
+pub mod Header
+pub mod Reading

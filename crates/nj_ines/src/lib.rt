@@ -1,0 +1,468 @@
+//! The reader of cartridge files of the board NROM, in the formats iNES and NES 2.0. Source: NESdev Wiki, "iNES",
+//! "NES 2.0" and "NROM".
+#![tactic(auto)]
+
+ghost use Rattle.std.specs.Prelude.{◌≡◌, ◌+◌, ◌*◌, ◌/◌, ◌%◌, ◌<◌, ◌≤◌, ◌⊎◌, ◌==◌, ℕ, length, replicate, slice_index, slice_range, IsTrue, IfOk, MatchResult, None, Ok, Err, if◌then◌else◌};
+ghost use Rattle.std.specs.Int.{bit_at};
+ghost use Rattle.nj_ines.specs.Header.{is_named, is_nes_2, is_clean, mapper_of, prg_units_of, chr_units_of, timing_of};
+ghost use Rattle.nj_ines.specs.Reading.{refusals, first_refusal, IsReadable, contents_of, cartridge_of};
+
+use std::alloc::{AllocError, Global};
+use std::marker::Model;
+
+const HEADER_BYTES: usize = 16;
+
+const PRG_UNIT: usize = 16_384;
+
+const CHR_BYTES: usize = 8_192;
+
+/// Why a file is no cartridge that this machine takes. The variants stand in the order in which they are told.
+#[derive(Clone, Copy, Debug, PartialEq, Eq)]
+pub enum CartRefused {
+    /// One of the first four bytes that are there differs.
+    NotInes,
+    /// The header asks for a trainer.
+    Trainer,
+    /// The header asks for four-screen mirroring.
+    FourScreen,
+    /// The board is not NROM.
+    Mapper { number: u64 },
+    /// Not 1 or 2 units of 16 KiB of program memory.
+    PrgUnits { n: u64 },
+    /// Not 0 or 1 unit of 8 KiB of pattern memory.
+    ChrUnits { n: u64 },
+    /// The timing of PAL (1) or Dendy (3).
+    Timing { n: u64 },
+    /// The file has fewer bytes than the header, or than header and memories.
+    Short { need: u64, have: u64 },
+    /// Memory ran out.
+    NoMemory,
+}
+
+impl From<AllocError> for CartRefused {
+    ghost use Rattle.std.specs.Prelude.{◌≡◌};
+    ghost use Rattle.nj_ines.specs.declared.CartRefused.TheVariants.{NoMemory};
+
+    ghost from_gives = { λ _ refused. refused ≡ NoMemory };
+
+    fn from(_error: AllocError) -> Self {
+        CartRefused::NoMemory
+    }
+}
+
+// Whether the first four bytes, as many as there are, are those of the format.
+fn has_name(file: &[u8]) -> bool
+    ensures { result ≡ is_named file.now }
+{
+    b"NES\x1A".starts_with(&file[..file.len().min(4)])
+}
+
+// Whether a bit of a byte is set.
+fn has_bit(byte: u8, bit: u8) -> bool
+    requires { bit < 8 }
+    ensures { result ≡ (bit_at byte bit == 1) }
+{
+    byte >> bit & 1 == 1
+}
+
+// Whether the header is one of NES 2.0.
+#[tactic(auto, unfolding(crate::specs::Header::is_nes_2))]
+fn has_nes_2(file: &[u8]) -> bool
+    requires { 16 ≤ length file.now }
+    ensures { result ≡ is_nes_2 file.now }
+{
+    file[7] / 4 % 4 == 2
+}
+
+// Whether an older header may be read past byte 6.
+#[tactic(auto, unfolding(crate::specs::Header::is_clean))]
+fn has_clean_tail(file: &[u8]) -> bool
+    requires { 16 ≤ length file.now }
+    ensures { result ≡ is_clean file.now }
+{
+    file[7] / 4 % 4 == 0 && file[12..16].iter().all(|byte| *byte == 0)
+}
+
+// The mapper's number.
+#[tactic(auto, unfolding(crate::specs::Header::mapper_of))]
+fn mapper(file: &[u8]) -> u64
+    requires { 16 ≤ length file.now }
+    ensures { result ≡ mapper_of file.now }
+{
+    let high = if has_nes_2(file) || has_clean_tail(file) {
+        16 * u64::from(file[7] / 16)
+    } else {
+        0
+    };
+    let above = if has_nes_2(file) {
+        256 * u64::from(file[8] % 16)
+    } else {
+        0
+    };
+    u64::from(file[6] / 16) + high + above
+}
+
+// The count of units of program memory.
+#[tactic(auto, unfolding(crate::specs::Header::prg_units_of))]
+fn prg_units(file: &[u8]) -> u64
+    requires { 16 ≤ length file.now }
+    ensures units { result ≡ prg_units_of file.now }
+    ensures bound { result < 4096 }
+{
+    let above = if has_nes_2(file) {
+        256 * u64::from(file[9] % 16)
+    } else {
+        0
+    };
+    u64::from(file[4]) + above
+}
+
+// The count of units of pattern memory.
+#[tactic(auto, unfolding(crate::specs::Header::chr_units_of))]
+fn chr_units(file: &[u8]) -> u64
+    requires { 16 ≤ length file.now }
+    ensures units { result ≡ chr_units_of file.now }
+    ensures bound { result < 4096 }
+{
+    let above = if has_nes_2(file) {
+        256 * u64::from(file[9] / 16)
+    } else {
+        0
+    };
+    u64::from(file[5]) + above
+}
+
+// The timing.
+#[tactic(auto, unfolding(crate::specs::Header::timing_of))]
+fn timing(file: &[u8]) -> u64
+    requires { 16 ≤ length file.now }
+    ensures { result ≡ timing_of file.now }
+{
+    if has_nes_2(file) {
+        u64::from(file[12] % 4)
+    } else {
+        0
+    }
+}
+
+// The first refusal of a file, if there is one.
+#[tactic(auto, unfolding(crate::specs::Reading::refusals))]
+fn refusal(file: &[u8]) -> Option<CartRefused>
+    ensures first { result ≡ first_refusal (refusals file.now) }
+    ensures readable { result ≡ None → IsReadable file.now }
+{
+    let have = file.len() as u64;
+    if !has_name(file) {
+        return Some(CartRefused::NotInes);
+    }
+    if have < 16 {
+        return Some(CartRefused::Short { need: 16, have });
+    }
+    if has_bit(file[6], 2) {
+        return Some(CartRefused::Trainer);
+    }
+    if has_bit(file[6], 3) {
+        return Some(CartRefused::FourScreen);
+    }
+    let number = mapper(file);
+    if number != 0 {
+        return Some(CartRefused::Mapper { number });
+    }
+    let prg = prg_units(file);
+    if prg != 1 && prg != 2 {
+        return Some(CartRefused::PrgUnits { n: prg });
+    }
+    let chr = chr_units(file);
+    if chr != 0 && chr != 1 {
+        return Some(CartRefused::ChrUnits { n: chr });
+    }
+    let timing = timing(file);
+    if timing == 1 || timing == 3 {
+        return Some(CartRefused::Timing { n: timing });
+    }
+    let need = 16 + 16_384 * prg + 8_192 * chr;
+    if have < need {
+        return Some(CartRefused::Short { need, have });
+    }
+    None
+}
+
+// Pattern memory that is RAM.
+fn zeros(alloc: Global) -> Result<Vec<u8>, AllocError>
+    ensures { IfOk result (λ chr. chr.items ≡ replicate 8192 0) }
+{
+    vec![in alloc; 0; CHR_BYTES]
+}
+
+// The pattern memory of a file that is not refused: zeros where it is RAM.
+fn pattern_memory(
+    alloc: Global,
+    file: &[u8],
+    prg_end: usize,
+    ram: bool,
+) -> Result<Vec<u8>, AllocError>
+    requires { prg_end + 8192 ≤ length file.now ⊎ IsTrue ram }
+    ensures rom { IfOk result (λ chr. chr.items ≡ (if ram then replicate 8192 0 else slice_range file.now prg_end (prg_end + 8192))) }
+{
+    if ram {
+        zeros(alloc)
+    } else {
+        Vec::from_slice(alloc, &file[prg_end..prg_end + CHR_BYTES])
+    }
+}
+
+/// A cartridge of the board NROM.
+#[derive(Drop)]
+pub struct Cart {
+    prg: Vec<u8>,
+    chr: Vec<u8>,
+    chr_ram: bool,
+    vertical: bool,
+    mapper: u16,
+}
+
+impl Model for Cart {
+    ghost use Rattle.nj_ines.specs.Cartridge.{Cartridge, IsNrom};
+
+    ghost Value = { Cartridge };
+
+    ghost view = { λ c. record { prg = c.prg.items; chr = c.chr.items; chr_ram = c.chr_ram; vertical = c.vertical; mapper = c.mapper } };
+
+    ghost invariant = { λ c. IsNrom (record { prg = c.prg.items; chr = c.chr.items; chr_ram = c.chr_ram; vertical = c.vertical; mapper = c.mapper }) };
+}
+
+impl Cart {
+    /// Reads a cartridge file. What stands behind the memories is ignored.
+    #[tactic(auto, unfolding(crate::specs::Reading::cartridge_of))]
+    pub fn read(alloc: Global, file: &[u8]) -> Result<Self, CartRefused>
+        ensures { MatchResult result (λ cart. cartridge_of file.now ≡ Ok cart) (λ refused. (refused ≡ CartRefused.NoMemory) ⊎ (cartridge_of file.now ≡ Err refused)) }
+    {
+        match refusal(file) {
+            Some(refused) => Err(refused),
+            None => Ok(Cart::contents(alloc, file)?),
+        }
+    }
+
+    // The cartridge that a file holds of which nothing is refused.
+    fn contents(alloc: Global, file: &[u8]) -> Result<Self, AllocError>
+        requires { IsReadable file.now }
+        ensures { IfOk result (λ cart. cart ≡ contents_of file.now) }
+    {
+        let prg_end = HEADER_BYTES + PRG_UNIT * prg_units(file) as usize;
+        let chr_ram = chr_units(file) == 0;
+        let prg = Vec::from_slice(alloc, &file[HEADER_BYTES..prg_end])?;
+        let chr = pattern_memory(alloc, file, prg_end, chr_ram)?;
+        Ok(Cart {
+            prg,
+            chr,
+            chr_ram,
+            vertical: has_bit(file[6], 0),
+            mapper: 0,
+        })
+    }
+
+    /// The program memory, seen by the processor from $8000 on, repeated where it is 16 KiB.
+    pub fn prg(&self) -> &[u8]
+        ensures bytes { result.now ≡ self.now.prg }
+        ensures size { (length result.now ≡ 16384) ⊎ (length result.now ≡ 32768) }
+    {
+        self.prg.as_slice()
+    }
+
+    /// The pattern memory, seen by the picture from $0000 on.
+    pub fn chr(&self) -> &[u8]
+        ensures bytes { result.now ≡ self.now.chr }
+        ensures size { length result.now ≡ 8192 }
+        ensures ram_zeros { IsTrue self.now.chr_ram → result.now ≡ replicate 8192 0 }
+    {
+        self.chr.as_slice()
+    }
+
+    /// Whether the pattern memory is RAM.
+    pub fn chr_ram(&self) -> bool
+        ensures { result ≡ self.now.chr_ram }
+    {
+        self.chr_ram
+    }
+
+    /// Whether the nametables are mirrored vertically, that is, lie side by side.
+    pub fn vertical(&self) -> bool
+        ensures { result ≡ self.now.vertical }
+    {
+        self.vertical
+    }
+
+    /// The number of the board.
+    pub fn mapper(&self) -> u16
+        ensures number { result ≡ self.now.mapper }
+        ensures nrom { result ≡ 0 }
+    {
+        self.mapper
+    }
+}
+
+#[cfg(test)]
+mod tests {
+    use super::*;
+    use std::test::Fail;
+
+    // A file of this header, filled with zeros or cut to a length.
+    fn file_of(alloc: Global, header: [u8; 16], length: usize) -> Result<Vec<u8>, AllocError> {
+        let mut file = Vec::from_slice(alloc, &header)?;
+        file.resize(length, 0)?;
+        Ok(file)
+    }
+
+    const WHOLE: usize = 24_592;
+
+    // The refusals, their order and their numbers.
+    #[test]
+    fn refusals(rt: HostRuntime) -> Result<(), Fail> {
+        let n = b'N';
+        let e = b'E';
+        let s = b'S';
+        for (header, length, want) in [
+            (
+                [n, e, s, 0x1A, 1, 1, 0, 0, 0, 0, 0, 0, 0, 0, 0, 0],
+                15,
+                CartRefused::Short { need: 16, have: 15 },
+            ),
+            (
+                [n, e, s, 0x1B, 1, 1, 0, 0, 0, 0, 0, 0, 0, 0, 0, 0],
+                15,
+                CartRefused::NotInes,
+            ),
+            (
+                [b'P', e, s, 0x1A, 1, 1, 0, 0, 0, 0, 0, 0, 0, 0, 0, 0],
+                1,
+                CartRefused::NotInes,
+            ),
+            (
+                [n, e, s, 0x1A, 9, 9, 0xFC, 0, 0, 0, 0, 0, 0, 0, 0, 0],
+                WHOLE,
+                CartRefused::Trainer,
+            ),
+            (
+                [n, e, s, 0x1A, 9, 9, 0xF8, 0, 0, 0, 0, 0, 0, 0, 0, 0],
+                WHOLE,
+                CartRefused::FourScreen,
+            ),
+            (
+                [n, e, s, 0x1A, 9, 9, 0x10, 0x10, 0, 0, 0, 0, 0, 0, 0, 0],
+                WHOLE,
+                CartRefused::Mapper { number: 17 },
+            ),
+            (
+                [n, e, s, 0x1A, 9, 9, 0x10, 0x10, 0, 0, 0, 0, 0, 0, 0, 1],
+                WHOLE,
+                CartRefused::Mapper { number: 1 },
+            ),
+            (
+                [n, e, s, 0x1A, 1, 1, 0, 8, 15, 0, 0, 0, 3, 0, 0, 0],
+                WHOLE,
+                CartRefused::Mapper { number: 3840 },
+            ),
+            (
+                [n, e, s, 0x1A, 3, 9, 0, 0, 0, 0, 0, 0, 0, 0, 0, 0],
+                WHOLE,
+                CartRefused::PrgUnits { n: 3 },
+            ),
+            (
+                [n, e, s, 0x1A, 0, 1, 0, 0, 0, 0, 0, 0, 0, 0, 0, 0],
+                WHOLE,
+                CartRefused::PrgUnits { n: 0 },
+            ),
+            (
+                [n, e, s, 0x1A, 1, 1, 0, 8, 0xF0, 0xB9, 0, 0, 0, 0, 0, 0],
+                WHOLE,
+                CartRefused::PrgUnits { n: 2305 },
+            ),
+            (
+                [n, e, s, 0x1A, 1, 1, 0, 8, 0, 0xF0, 0, 0, 0, 0, 0, 0],
+                WHOLE,
+                CartRefused::ChrUnits { n: 3841 },
+            ),
+            (
+                [n, e, s, 0x1A, 2, 2, 0, 0, 0, 0, 0, 0, 0, 0, 0, 0],
+                WHOLE,
+                CartRefused::ChrUnits { n: 2 },
+            ),
+            (
+                [n, e, s, 0x1A, 1, 1, 0, 8, 0, 0, 0, 0, 1, 0, 0, 0],
+                16,
+                CartRefused::Timing { n: 1 },
+            ),
+            (
+                [n, e, s, 0x1A, 1, 1, 0, 8, 0, 0, 0, 0, 7, 0, 0, 0],
+                16,
+                CartRefused::Timing { n: 3 },
+            ),
+            (
+                [n, e, s, 0x1A, 1, 1, 0, 0, 0, 0, 0, 0, 0, 0, 0, 0],
+                24_591,
+                CartRefused::Short {
+                    need: 24_592,
+                    have: 24_591,
+                },
+            ),
+            (
+                [n, e, s, 0x1A, 2, 0, 0, 0, 0, 0, 0, 0, 0, 0, 0, 0],
+                32_783,
+                CartRefused::Short {
+                    need: 32_784,
+                    have: 32_783,
+                },
+            ),
+        ] {
+            let file = file_of(rt.alloc(), header, length)?;
+            assert_eq!(rt; Cart::read(rt.alloc(), file.as_slice()).err(), Some(want));
+        }
+        Ok(())
+    }
+
+    // Headers that are taken: text in bytes 7 to 15, either timing, bytes behind the memories.
+    #[test]
+    fn accepted(rt: HostRuntime) -> Result<(), Fail> {
+        let n = b'N';
+        let e = b'E';
+        let s = b'S';
+        for (header, length, prg, ram, vertical) in [
+            (
+                [
+                    n, e, s, 0x1A, 1, 1, 0, b'D', b'i', b's', b'k', b'D', b'u', b'd', b'e', b'!',
+                ],
+                WHOLE,
+                16_384,
+                false,
+                false,
+            ),
+            (
+                [n, e, s, 0x1A, 1, 1, 3, 8, 0, 0, 0, 0, 2, 0, 0, 0],
+                24_720,
+                16_384,
+                false,
+                true,
+            ),
+            (
+                [n, e, s, 0x1A, 2, 0, 0, 0, 0, 0, 0, 0, 0, 0, 0, 0],
+                32_784,
+                32_768,
+                true,
+                false,
+            ),
+        ] {
+            let mut file = file_of(rt.alloc(), header, length)?;
+            if let Some(first) = file.get_mut(16) {
+                *first = 0xA9;
+            }
+            let cart = Cart::read(rt.alloc(), file.as_slice())?;
+            assert_eq!(rt; cart.prg().len(), prg);
+            assert_eq!(rt; cart.prg()[0], 0xA9);
+            assert_eq!(rt; cart.chr().len(), 8_192);
+            assert_eq!(rt; cart.chr_ram(), ram);
+            assert_eq!(rt; cart.vertical(), vertical);
+            assert_eq!(rt; cart.mapper(), 0);
+        }
+        Ok(())
+    }
+}
