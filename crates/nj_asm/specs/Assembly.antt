@@ -1,10 +1,9 @@
 -- What a source means: first the labels' values, then its bytes or its first refusal by line and kind. Our own.
-use Rattle.std.specs.Prelude.{ℕ, ◌+◌, ◌-◌, ◌*◌, ◌/◌, ◌%◌, ◌==◌, Bool, true, false, ◌&&◌, ◌||◌, not, nat_lt, List, [], ◌∷◌, ◌++◌, length, map, sum_by, if◌then◌else◌, Option, Some, None, is_some, unwrap_or, Result, Ok, Err}
+use Rattle.std.specs.Prelude.{ℕ, String, ◌+◌, ◌-◌, ◌*◌, ◌/◌, ◌%◌, ◌==◌, Bool, true, false, ◌&&◌, ◌||◌, not, nat_lt, List, [], ◌∷◌, ◌++◌, length, map, sum_by, if◌then◌else◌, Option, Some, None, is_some, unwrap_or, Result, Ok, Err}
 use Rattle.std.specs.HashMap.{HashMap, get_by_text}
 use Rattle.std.specs.List.{list_any, flat_map}
 use Rattle.std.specs.Option.{option_map, option_or, option_map_or}
 use Rattle.std.specs.Str.{bytes_eq}
-use Rattle.std.specs.String.{String}
 use Rattle.nj_lines.specs.Lines.{lines}
 use Rattle.nj_asm.specs.declared.syntax.Value.{Value}
 use Rattle.nj_asm.specs.declared.syntax.Value.TheVariants.{Literal, Label, Low, High}

@@ -1,6 +1,6 @@
 -- The grammar of a source, line by line. Mnemonics, modes and opcodes are those of the NMOS 6502 (MOS Technology, MCS6500
 -- Family Programming Manual); the spelling of the rest is our own, after the usual assemblers.
-use Rattle.std.specs.Prelude.{ℕ, ◌+◌, ◌-◌, ◌*◌, ◌==◌, Bool, true, false, ◌&&◌, ◌||◌, not, nat_lt, List, [], ◌∷◌, ◌++◌, length, take, drop, map, codes, min, if◌then◌else◌, Option, Some, None, is_some}
+use Rattle.std.specs.Prelude.{ℕ, zero, suc, ◌+◌, ◌-◌, ◌*◌, ◌==◌, Bool, true, false, ◌&&◌, ◌||◌, not, nat_lt, List, [], ◌∷◌, ◌++◌, length, take, drop, map, codes, min, if◌then◌else◌, Option, Some, None, is_some}
 use Rattle.std.specs.Char.{is_digit, to_ascii_lowercase}
 use Rattle.std.specs.List.{list_all, position_or_len, slice_split}
 use Rattle.std.specs.Option.{option_map, option_or}

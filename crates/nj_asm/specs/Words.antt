@@ -2,7 +2,7 @@
 -- assemblers of the 6502.
 use Rattle.std.specs.Prelude.{ℕ, ◌+◌, ◌-◌, ◌==◌, Bool, ◌&&◌, ◌||◌, not, nat_eq, nat_lt, List, length, take, drop, slice_index, Option, Some, None, if◌then◌else◌}
 use Rattle.std.specs.Char.{is_ascii_alphanumeric, is_ascii_digit}
-use Rattle.std.specs.List.{list_all, prefix_len, suffix_len, position_or_len}
+use Rattle.std.specs.List.{list_all, suffix_len, position_or_len}
 use Rattle.std.specs.Str.{bytes_eq}
 
 -- a blank: a space or a tab
@@ -17,9 +17,13 @@ is_name_byte byte = is_ascii_alphanumeric byte || (byte == 95)
 unfoldable pub is_name : List ℕ → Bool
 is_name text = nat_lt 0 (length text) && not (is_ascii_digit (slice_index text 0)) && list_all is_name_byte text
 
+-- how many blanks a text begins with
+abbrev pub blanks_before : List ℕ → ℕ
+blanks_before text = position_or_len (λ b. not (is_blank b)) text
+
 -- the text without the blanks that it begins with
 abbrev pub without_start : List ℕ → List ℕ
-without_start text = drop (prefix_len is_blank text) text
+without_start text = drop (blanks_before text) text
 
 -- the text without the blanks that it ends with
 abbrev pub without_end : List ℕ → List ℕ

@@ -1,6 +1,6 @@
 //! The assembler.
 
-ghost use Rattle.std.specs.Prelude.{◌≡◌, ◌+◌, ◌<◌, ◌≤◌, ◌⊎◌, ◌++◌, ◌×◌, None, Some, Ok, Err, false, length, drop, IfOk, IfErr, MatchResult};
+ghost use Rattle.std.specs.Prelude.{◌≡◌, ◌+◌, ◌<◌, ◌≤◌, ◌⊎◌, ◌++◌, None, Some, Ok, Err, false, length, drop, IfOk, IfErr, MatchResult};
 ghost use Rattle.nj_asm.specs.Assembly.{homes, homes_of, origin_of, first_refused, bytes_from, read_lines, assembly_in, assembly_of};
 
 use std::alloc::Global;

@@ -1,9 +1,9 @@
 //! Where the labels of a source stand.
 
-ghost use Rattle.std.specs.Prelude.{◌≡◌, ◌+◌, ◌*◌, ◌%◌, ◌<◌, ◌≤◌, ℕ, List, length, sum_by, Some, None, IfOk, OnOk, if◌then◌else◌};
+ghost use Rattle.std.specs.Prelude.{◌≡◌, ◌+◌, ◌*◌, ◌%◌, ◌<◌, ◌≤◌, ℕ, List, length, sum_by, Some, None, IfOk, OnOk, unwrap_or, ◌^◌, if◌then◌else◌};
 ghost use Rattle.std.specs.HashMap.{get_by_text};
 ghost use Rattle.std.specs.Option.{option_or, option_map};
-ghost use Rattle.nj_asm.specs.Assembly.{cell_size, size_of, next_place, is_labelled, home_in, origin_of, homes, homes_of, number_in};
+ghost use Rattle.nj_asm.specs.Assembly.{cell_size, size_of, next_place, is_labelled, home_in, origin_by, origin_of, homes, homes_of, number_in};
 
 use std::alloc::{AllocError, Global};
 use std::collections::HashMap;
@@ -13,7 +13,7 @@ use nj_seq::Text;
 use crate::syntax::{Cell, Line, Statement, Value};
 
 /// The first line that has a label, counted from 0, and its address.
-#[derive(Clone, Copy, Debug, PartialEq, Eq)]
+#[derive(Clone, Copy)]
 pub struct Home {
     pub line: u64,
     pub place: u16,
@@ -25,7 +25,8 @@ pub type Labels = HashMap<String, Home>;
 const DEFAULT_ORIGIN: u16 = 0x8000;
 
 fn cell_size(cell: &Cell) -> u8
-    ensures { result ≡ cell_size cell.now }
+    ensures value { result ≡ cell_size cell.now }
+    ensures small { result ≤ 2 }
 {
     match cell {
         Cell::Word(_) => 2,

@@ -1,8 +1,8 @@
 //! The forms of operands, and the modes that they may mean.
 
-ghost use Rattle.std.specs.Prelude.{◌≡◌, ◌×◌, IfOk, option_copied};
+ghost use Rattle.std.specs.Prelude.{◌≡◌, IfOk, option_copied};
 ghost use Rattle.std.specs.Option.{option_map};
-ghost use Rattle.nj_asm.specs.Grammar.{shape_of, operand_of, modes_in, modes_of, is_narrow};
+ghost use Rattle.nj_asm.specs.Grammar.{value_of, shape_of, operand_of, modes_in, modes_of, is_narrow};
 
 use std::alloc::{AllocError, Global};
 

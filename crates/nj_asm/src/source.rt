@@ -64,7 +64,10 @@ fn statement_text(text: &[u8]) -> &[u8]
 fn is_text(bytes: &[u8]) -> bool
     ensures { result ≡ is_text bytes.now }
 {
-    str::from_utf8(bytes).is_ok()
+    match str::from_utf8(bytes) {
+        Ok(_) => true,
+        Err(_) => false,
+    }
 }
 
 #[tactic(auto, unfolding(crate::specs::Grammar::said_on))]

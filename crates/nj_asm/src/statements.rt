@@ -1,6 +1,6 @@
 //! Directives and instructions.
 
-ghost use Rattle.std.specs.Prelude.{◌≡◌, ◌∷◌, ◌==◌, [], ◌++◌, IfOk, length, take, drop, map};
+ghost use Rattle.std.specs.Prelude.{◌≡◌, ◌+◌, ◌<◌, ◌∷◌, ◌==◌, [], ◌++◌, IfOk, length, take, drop, map};
 ghost use Rattle.std.specs.List.{slice_split};
 ghost use Rattle.nj_asm.specs.Grammar.{value_of, operand_of, instruction_of, cell_in, cells_in, encoded, item_in, item_of, items_of, all_some, cells_or, origin_in, directive_of, said_by, statement_of};
 
@@ -79,6 +79,15 @@ fn item_of(alloc: Global, wide: bool, part: &[u8]) -> Result<Option<Cell>, Alloc
     }
 }
 
+// What stands before a place and behind it.
+fn parted(text: &[u8], place: usize) -> (&[u8], &[u8])
+    requires { place < length text.now }
+    ensures before { result.0.now ≡ take place text.now }
+    ensures behind { result.1.now ≡ drop (place + 1) text.now }
+{
+    (&text[..place], &text[place + 1..])
+}
+
 fn items_of(alloc: Global, wide: bool, text: &[u8]) -> Result<Option<Seq<Cell>>, AllocError>
     ensures { IfOk result (λ cells. cells ≡ items_of wide text.now) }
 {
@@ -86,11 +95,12 @@ fn items_of(alloc: Global, wide: bool, text: &[u8]) -> Result<Option<Seq<Cell>>,
     let mut rest = text;
     let mut end = length_before(b',', rest);
     while end < rest.len() {
-        match item_of(alloc, wide, &rest[..end])? {
+        let (part, after) = parted(rest, end);
+        match item_of(alloc, wide, part)? {
             Some(cell) => cells.push(cell)?,
             None => return Ok(None),
         }
-        rest = &rest[end + 1..];
+        rest = after;
         end = length_before(b',', rest);
     }
     match item_of(alloc, wide, rest)? {

@@ -3,7 +3,7 @@
 use nj_seq::{Seq, Text};
 
 /// A number as a source spells it.
-#[derive(Debug, Drop)]
+#[derive(Drop)]
 pub enum Value {
     /// A literal, clipped at 65,536, which is above every address.
     Literal(u32),
@@ -16,7 +16,7 @@ pub enum Value {
 }
 
 /// The signs around an operand's value.
-#[derive(Clone, Copy, Debug, PartialEq, Eq)]
+#[derive(Clone, Copy)]
 pub enum Form {
     /// `#n`
     Hash,
@@ -35,7 +35,7 @@ pub enum Form {
 }
 
 /// What stands behind a mnemonic.
-#[derive(Debug, Drop)]
+#[derive(Drop)]
 pub enum Operand {
     Nothing,
     /// `A` alone, the accumulator.
@@ -44,7 +44,7 @@ pub enum Operand {
 }
 
 /// One or two bytes of the output before its labels are known.
-#[derive(Debug, Drop)]
+#[derive(Drop)]
 pub enum Cell {
     Opcode(u8),
     Byte(Value),
@@ -55,7 +55,7 @@ pub enum Cell {
 }
 
 /// Why a line is refused.
-#[derive(Clone, Copy, Debug, PartialEq, Eq)]
+#[derive(Clone, Copy)]
 pub enum Fault {
     Syntax,
     UnknownOp,
@@ -67,7 +67,7 @@ pub enum Fault {
 }
 
 /// What a line says behind its label.
-#[derive(Debug, Drop)]
+#[derive(Drop)]
 pub enum Statement {
     Blank,
     /// `.org`; an origin above 65,535 is 65,536.
@@ -78,7 +78,7 @@ pub enum Statement {
 }
 
 /// A line of a source.
-#[derive(Debug, Drop)]
+#[derive(Drop)]
 pub struct Line {
     pub label: Option<Text>,
     pub statement: Statement,

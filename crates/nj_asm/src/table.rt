@@ -1,6 +1,6 @@
 //! The opcode of a mnemonic in a mode.
 
-ghost use Rattle.std.specs.Prelude.{◌≡◌, ◌-◌, ◌<◌, ◌≤◌, ◌==◌, ◌×◌, map, Some, option_copied, IfSome};
+ghost use Rattle.std.specs.Prelude.{◌≡◌, ◌-◌, ◌<◌, ◌≤◌, ◌==◌, map, Some, option_copied, IfSome};
 ghost use Rattle.nj_isa.specs.Names.{name_of};
 ghost use Rattle.nj_isa.specs.Table.{row_of};
 ghost use Rattle.nj_asm.specs.Grammar.{number_of, is_mode, is_spelled, is_row, opcode_of, is_mnemonic, coded};

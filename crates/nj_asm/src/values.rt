@@ -3,9 +3,9 @@
 ghost use Rattle.std.specs.Prelude.{◌≡◌, ◌+◌, ◌*◌, ◌<◌, ◌≤◌, ◌∷◌, ◌&&◌, length, min, IfOk, MatchOption};
 ghost use Rattle.std.specs.Char.{digit_value, is_digit};
 ghost use Rattle.std.specs.List.{list_all};
-ghost use Rattle.std.specs.Option.{option_map};
+ghost use Rattle.std.specs.Option.{option_map, option_or};
 ghost use Rattle.std.specs.Str.Parse.{digits_value};
-ghost use Rattle.nj_asm.specs.Grammar.{is_numeral, literal_of, value_of, is_narrow};
+ghost use Rattle.nj_asm.specs.Grammar.{is_numeral, literal_of, name_in, value_of, is_narrow};
 
 use std::alloc::{AllocError, Global};
 
@@ -25,10 +25,16 @@ fn digit_value(digit: u8) -> u32
     }
 }
 
+fn has_digits(radix: u32, text: &[u8]) -> bool
+    ensures { result ≡ list_all (λ digit. is_digit digit radix) text.now }
+{
+    text.iter().all(|digit| digit_value(*digit) < radix)
+}
+
 fn is_numeral(radix: u32, text: &[u8]) -> bool
     ensures { result ≡ is_numeral radix text.now }
 {
-    !text.is_empty() && text.iter().all(|digit| digit_value(*digit) < radix)
+    !text.is_empty() && has_digits(radix, text)
 }
 
 // The number that digits write, clipped at 65,536.

@@ -1,8 +1,8 @@
 //! The words of a source: blanks, names and the parts of a text.
 
-ghost use Rattle.std.specs.Prelude.{◌≡◌, ◌+◌, ◌-◌, ◌<◌, ◌≤◌, ◌==◌, ◌×◌, length, take, drop, not, position, nat_eq, option_copied, IfOk, IfSome, MatchOption};
-ghost use Rattle.std.specs.List.{prefix_len, suffix_len, position_or_len};
-ghost use Rattle.nj_asm.specs.Words.{is_blank, is_name_byte, is_name, without_start, without_end, length_before, between};
+ghost use Rattle.std.specs.Prelude.{◌≡◌, ◌+◌, ◌-◌, ◌<◌, ◌≤◌, ◌==◌, length, take, drop, not, position, nat_eq, option_copied, IfOk, IfSome, MatchOption};
+ghost use Rattle.std.specs.List.{list_all};
+ghost use Rattle.nj_asm.specs.Words.{is_blank, is_name_byte, is_name, blanks_before, without_start, without_end, length_before, between};
 ghost use Rattle.nj_asm.specs.Grammar.{name_in, word_len};
 
 use std::alloc::{AllocError, Global};
@@ -49,17 +49,30 @@ pub fn name_in(alloc: Global, text: &[u8]) -> Result<Option<Text>, AllocError>
     }
 }
 
+fn first_blank(text: &[u8]) -> Option<usize>
+    ensures { result ≡ position is_blank text.now }
+{
+    text.iter().position(|byte| is_blank(*byte))
+}
+
+fn first_other(text: &[u8]) -> Option<usize>
+    ensures { result ≡ position (λ b. not (is_blank b)) text.now }
+{
+    text.iter().position(|byte| !is_blank(*byte))
+}
+
+fn first_of(byte: u8, text: &[u8]) -> Option<usize>
+    ensures { result ≡ position (λ b. b == byte) text.now }
+{
+    text.iter().position(|b| *b == byte)
+}
+
 /// The place of the first blank, or the text's length.
 pub fn word_len(text: &[u8]) -> usize
     ensures value { result ≡ word_len text.now }
     ensures within { result ≤ length text.now }
 {
-    for (place, byte) in text.iter().enumerate() {
-        if is_blank(*byte) {
-            return place;
-        }
-    }
-    text.len()
+    first_blank(text).unwrap_or(text.len())
 }
 
 /// The place of the first such byte, or the text's length.
@@ -67,12 +80,7 @@ pub fn length_before(byte: u8, text: &[u8]) -> usize
     ensures value { result ≡ length_before byte text.now }
     ensures within { result ≤ length text.now }
 {
-    for (place, b) in text.iter().enumerate() {
-        if *b == byte {
-            return place;
-        }
-    }
-    text.len()
+    first_of(byte, text).unwrap_or(text.len())
 }
 
 /// The text without the blanks that it begins with.
@@ -84,15 +92,10 @@ pub fn without_start(text: &[u8]) -> &[u8]
 
 // How many blanks a text begins with.
 fn blanks_before(text: &[u8]) -> usize
-    ensures value { result ≡ prefix_len is_blank text.now }
+    ensures value { result ≡ blanks_before text.now }
     ensures within { result ≤ length text.now }
 {
-    for (place, byte) in text.iter().enumerate() {
-        if !is_blank(*byte) {
-            return place;
-        }
-    }
-    text.len()
+    first_other(text).unwrap_or(text.len())
 }
 
 /// The text without the blanks that it ends with.

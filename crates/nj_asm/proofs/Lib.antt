@@ -1,0 +1,5 @@
+pub mod TextLemmas
+pub mod TableLemmas
+pub mod StatementLemmas
+pub mod LineLemmas
+pub mod ListingLemmas

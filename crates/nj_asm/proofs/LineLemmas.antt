@@ -1,0 +1,2 @@
+-- Lemmas on the lines of a source.
+use Rattle.std.proofs.Common.{ℕ, ◌≡◌}

@@ -1,0 +1,2 @@
+-- Lemmas on listings.
+use Rattle.std.proofs.Common.{ℕ, ◌≡◌}
