@@ -46,21 +46,25 @@ with_front-cons : (front : List Cell) (cell : Cell) (cells : Option (List Cell))
 with_front-cons front cell None = refl
 with_front-cons front cell (Some cells) = ap (λ (xs : List Cell). Some xs) (sym (append_assoc front (cell ∷ []) cells))
 
+-- a text is cut at its first comma
+split_at_comma : (wide : Bool) (rest : List ℕ) (end : ℕ) → end ≡ length_before 44 rest → end < length rest →
+    items_of wide rest ≡ item_or (item_of wide (take end rest)) (items_of wide (drop (end + 1) rest))
+split_at_comma wide rest end at within = rw at (items_first wide rest (omega arith))
+
 -- one item more
 pub items_step : (wide : Bool) (rest : List ℕ) (end : ℕ) (front : List Cell) (cell : Cell) (goal : Option (List Cell)) →
     end ≡ length_before 44 rest → end < length rest → item_of wide (take end rest) ≡ Some cell → goal ≡ with_front front (items_of wide rest) →
     goal ≡ with_front (front ++ cell ∷ []) (items_of wide (drop (end + 1) rest))
 items_step wide rest end front cell goal at within item before =
     before
-    ∙ ap (with_front front) (items_first wide rest (omega arith) ∙ rw (← at) (ap (λ (o : Option Cell). item_or o (items_of wide (drop (end + 1) rest))) item))
+    ∙ ap (with_front front) (split_at_comma wide rest end at within ∙ ap (λ (o : Option Cell). item_or o (items_of wide (drop (end + 1) rest))) item)
     ∙ with_front-cons front cell (items_of wide (drop (end + 1) rest))
 
 -- a part that is no item
 pub items_stop : (wide : Bool) (rest : List ℕ) (end : ℕ) (front : List Cell) (goal : Option (List Cell)) →
     end ≡ length_before 44 rest → end < length rest → item_of wide (take end rest) ≡ None → goal ≡ with_front front (items_of wide rest) → goal ≡ None
 items_stop wide rest end front goal at within item before =
-    before
-    ∙ ap (with_front front) (items_first wide rest (omega arith) ∙ rw (← at) (ap (λ (o : Option Cell). item_or o (items_of wide (drop (end + 1) rest))) item))
+    before ∙ ap (with_front front) (split_at_comma wide rest end at within ∙ ap (λ (o : Option Cell). item_or o (items_of wide (drop (end + 1) rest))) item)
 
 -- the last item
 pub items_end : (wide : Bool) (rest : List ℕ) (front : List Cell) (item : Option Cell) (goal : Option (List Cell)) →

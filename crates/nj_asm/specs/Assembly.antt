@@ -41,7 +41,7 @@ next_place place statement = (place + size_of statement) % 65536
 -- a line has this label
 abbrev pub is_labelled : List ℕ → Option (List ℕ) → Bool
 is_labelled name None = false
-is_labelled name (Some label) = bytes_eq name label
+is_labelled name (Some label) = bytes_eq label name
 
 -- the first line that has a label, and its address
 abbrev pub home_in : List ℕ → ℕ → ℕ → List Line → Option Home
@@ -79,7 +79,7 @@ number_in homes (High name) = option_map (λ h. h.place / 256) (homes name)
 
 -- the offset of a branch that begins here, mod 65,536 (NMOS 6502 relative addressing)
 abbrev pub offset_to : ℕ → ℕ → ℕ
-offset_to at target = (target + 65536 - (at + 2) % 65536) % 65536
+offset_to at target = (target % 65536 + 65536 - (at + 2) % 65536) % 65536
 
 -- no offset from -128 to 127 goes there
 abbrev pub is_far : ℕ → ℕ → Bool

@@ -1,6 +1,6 @@
 //! What refuses a line, and the bytes that it gives.
 
-ghost use Rattle.std.specs.Prelude.{◌≡◌, ◌+◌, ◌-◌, ◌*◌, ◌/◌, ◌%◌, ◌<◌, ◌≤◌, ◌++◌, ◌∷◌, [], OnOk, unwrap_or, IfSome, length};
+ghost use Rattle.std.specs.Prelude.{◌≡◌, ◌+◌, ◌-◌, ◌*◌, ◌/◌, ◌%◌, ◌<◌, ◌≤◌, ◌++◌, ◌∷◌, [], OnOk, IfNone, unwrap_or};
 ghost use Rattle.std.specs.List.{list_any, flat_map};
 ghost use Rattle.nj_asm.specs.Assembly.{homes, size_of, number_in, offset_to, is_far, number_of_cell, is_beyond, is_out, is_unknown, cells_fault, statement_fault, is_late, is_said, is_twice, fault_of, number, cell_bytes, bytes_of};
 
@@ -8,21 +8,19 @@ use std::alloc::AllocError;
 
 use nj_seq::{Seq, Text};
 
-use crate::labels::{Labels, number_in, size_of};
+use crate::labels::{Labels, home_of, number_in, size_of};
 use crate::syntax::{Cell, Fault, Line, Statement, Value};
 
 /// A branch's offset is counted from the byte behind it.
 fn offset_to(at: u32, target: u32) -> u32
-    requires at_bound { at ≤ 65536 }
-    requires target_bound { target ≤ 65536 }
+    requires { at ≤ 65536 }
     ensures { result ≡ offset_to at target }
 {
-    (target + 65_536 - (at + 2) % 65_536) % 65_536
+    (target % 65_536 + 65_536 - (at + 2) % 65_536) % 65_536
 }
 
 fn is_far(at: u32, target: u32) -> bool
-    requires at_bound { at ≤ 65536 }
-    requires target_bound { target ≤ 65536 }
+    requires { at ≤ 65536 }
     ensures { result ≡ is_far at target }
 {
     let offset = offset_to(at, target);
@@ -66,15 +64,28 @@ fn is_unknown(labels: &Labels, cell: &Cell) -> bool
     number_of_cell(labels, cell).is_none()
 }
 
+fn has_out(labels: &Labels, at: u32, cells: &[Cell]) -> bool
+    requires { at ≤ 65536 }
+    ensures { result ≡ list_any (is_out (homes labels.now) at) cells.now }
+{
+    cells.iter().any(|cell| is_out(labels, at, cell))
+}
+
+fn has_unknown(labels: &Labels, cells: &[Cell]) -> bool
+    ensures { result ≡ list_any (is_unknown (homes labels.now)) cells.now }
+{
+    cells.iter().any(|cell| is_unknown(labels, cell))
+}
+
 #[tactic(auto, unfolding(crate::specs::Assembly::cells_fault))]
 fn cells_fault(labels: &Labels, at: u32, cells: &[Cell]) -> Option<Fault>
     requires { at ≤ 65536 }
     ensures { result ≡ cells_fault (homes labels.now) at cells.now }
 {
-    if cells.iter().any(|cell| is_out(labels, at, cell)) {
+    if has_out(labels, at, cells) {
         return Some(Fault::Range);
     }
-    if cells.iter().any(|cell| is_unknown(labels, cell)) {
+    if has_unknown(labels, cells) {
         return Some(Fault::UnknownLabel);
     }
     None
@@ -122,7 +133,7 @@ fn is_twice(labels: &Labels, index: u64, label: &Option<Text>) -> bool
 {
     match label {
         None => false,
-        Some(name) => match labels.get(name.as_str()) {
+        Some(name) => match home_of(labels, name) {
             Some(home) => home.line < index,
             None => false,
         },

@@ -103,7 +103,7 @@ fn note(
     let Some(name) = label else {
         return Ok(());
     };
-    if labels.get(name.as_str()).is_some() {
+    if home_of(labels, name).is_some() {
         return Ok(());
     }
     let key = String::from_str(alloc, name.as_str())?;
@@ -130,6 +130,13 @@ pub fn homes_of(alloc: Global, origin: u16, lines: &[Line]) -> Result<Labels, Al
     Ok(labels)
 }
 
+/// Where a label stands first.
+pub fn home_of(labels: &Labels, name: &Text) -> Option<Home>
+    ensures { result ≡ homes labels.now name.now }
+{
+    labels.get(name.as_str()).copied()
+}
+
 /// The number that a value is, if its label stands somewhere.
 pub fn number_in(labels: &Labels, value: &Value) -> Option<u32>
     ensures { result ≡ number_in (homes labels.now) value.now }
@@ -145,6 +152,6 @@ pub fn number_in(labels: &Labels, value: &Value) -> Option<u32>
 fn place_of(labels: &Labels, name: &Text) -> Option<u32>
     ensures { result ≡ option_map (λ h. h.place) (homes labels.now name.now) }
 {
-    let home = labels.get(name.as_str())?;
+    let home = home_of(labels, name)?;
     Some(u32::from(home.place))
 }
