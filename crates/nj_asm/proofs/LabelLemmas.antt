@@ -7,8 +7,8 @@ use Rattle.nj_asm.specs.declared.labels.Home.{Home}
 use Rattle.nj_asm.specs.Assembly.{is_labelled}
 
 pub none_is : (home : Option Home) → is_some home ≡ false → home ≡ None
-none_is None no = refl
-none_is (Some home) no = absurd cc
+none_is None absent = refl
+none_is (Some home) absent = absurd cc
 
 noted_by : (b : Bool) (before : Option Home) (home : Home) → (b ≡ true → before ≡ None) → cond b (Some home) before ≡ option_or before (cond b (Some home) None)
 noted_by true None home h = refl

@@ -1,7 +1,7 @@
 //! The assembler.
 
-ghost use Rattle.std.specs.Prelude.{◌≡◌, ◌+◌, ◌<◌, ◌≤◌, ◌⊎◌, ◌++◌, None, Some, Ok, Err, false, length, drop, IfOk, IfErr, MatchResult};
-ghost use Rattle.nj_asm.specs.Assembly.{homes, homes_of, origin_of, first_refused, bytes_from, read_lines, assembly_in, assembly_of};
+ghost use Rattle.std.specs.Prelude.{◌≡◌, ◌⊎◌, ◌||◌, ◌++◌, None, Some, Ok, Err, false, IfOk, IfErr, MatchResult};
+ghost use Rattle.nj_asm.specs.Assembly.{homes, is_said, origin_of, first_refused, bytes_from, read_lines, assembly_in, assembly_of};
 
 use std::alloc::Global;
 
@@ -11,13 +11,20 @@ use crate::emission::{fault_of, is_said, push_bytes};
 use crate::labels::{Labels, homes_of, origin_of, size_of};
 use crate::refusals::{AsmRefused, refused};
 use crate::source::read_lines;
-use crate::syntax::Line;
+use crate::syntax::{Line, Statement};
 
 /// The bytes of a source, and the address where they begin.
 #[derive(Debug, Drop)]
 pub struct Assembled {
     pub origin: u16,
     pub bytes: Seq<u8>,
+}
+
+// Whether a statement stands on this line or before it.
+fn has_begun(begun: bool, statement: &Statement) -> bool
+    ensures { result ≡ (begun || is_said statement.now) }
+{
+    begun || is_said(statement)
 }
 
 // The bytes of the lines, or the first refusal.
@@ -39,7 +46,7 @@ fn emitted(
         }
         push_bytes(&mut bytes, labels, at, &line.statement)?;
         at += size_of(&line.statement) as u32;
-        begun = begun || is_said(&line.statement);
+        begun = has_begun(begun, &line.statement);
     }
     Ok(bytes)
 }

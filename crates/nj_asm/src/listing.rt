@@ -73,18 +73,20 @@ pub fn list(alloc: Global, bytes: &[u8], origin: u16) -> Result<Vec<u8>, AllocEr
     let mut text = Vec::new(alloc);
     let mut at = u32::from(origin);
     let mut rest = bytes;
-    while let Some(opcode) = rest.first() {
-        let span = span_of(*opcode);
-        if is_jam(op_row(*opcode).op) {
-            push_byte(&mut text, at, *opcode)?;
+    while !rest.is_empty() {
+        let opcode = rest[0];
+        let span = span_of(opcode);
+        if is_jam(op_row(opcode).op) {
+            push_byte(&mut text, at, opcode)?;
             rest = &rest[1..];
             at = (at + 1) % 65_536;
         } else if rest.len() < span {
             push_bytes(&mut text, at, rest)?;
             rest = &rest[rest.len()..];
         } else {
-            push_instruction(&mut text, at, &rest[..span])?;
-            rest = &rest[span..];
+            let (shown, after) = rest.split_at(span);
+            push_instruction(&mut text, at, shown)?;
+            rest = after;
             at = (at + span as u32) % 65_536;
         }
     }
