@@ -1,9 +1,9 @@
 -- Lemmas on listings.
-use Rattle.std.proofs.Common.{ℕ, zero, suc, ◌≡◌, ◌≤◌, ◌<◌, ◌+◌, ◌-◌, ◌%◌, Bool, true, false, cond, ltb, List, [], ◌∷◌, ◌++◌, length, take, drop, get_or, refl, sym, ap, ◌∙◌, arith, append_assoc}
+use Rattle.std.proofs.Common.{ℕ, zero, suc, ◌≡◌, ◌≤◌, ◌<◌, ◌+◌, ◌-◌, ◌%◌, Bool, false, cond, ltb, List, [], ◌∷◌, ◌++◌, length, take, drop, get_or, refl, sym, ap, ◌∙◌, arith, append_assoc}
 use Rattle.std.proofs.lemmas.Bool.Decides.{nat_tests}
 use Rattle.nj_isa.specs.Table.{row_of}
 use Rattle.nj_isa.specs.Timing.{is_jam}
-use Rattle.nj_asm.specs.Listing.{listed, next_to, span_of, bytes_text, byte_text, instruction_text}
+use Rattle.nj_asm.specs.Listing.{listed, next_to, span_of, instruction_text}
 
 -- the bytes that a line shows are passed over
 listed-shown : (k at : ℕ) (bytes : List ℕ) → at < 65536 → listed at k bytes ≡ listed ((at + k) % 65536) 0 (drop k bytes)

@@ -1,5 +1,5 @@
 -- Lemmas on the look-ups of opcodes.
-use Rattle.std.proofs.Common.{ℕ, suc, ◌≡◌, ◌≤◌, ◌<◌, ◌+◌, ◌-◌, Bool, true, false, cond, List, [], ◌∷◌, length, drop, get_or, refl, sym, ap, ◌∙◌, arith, Option, Some, None, drop-cons, add-one}
+use Rattle.std.proofs.Common.{ℕ, suc, ◌≡◌, ◌≤◌, ◌<◌, ◌+◌, ◌-◌, Bool, true, false, cond, List, length, drop, get_or, ap, ◌∙◌, arith, Some, None, drop-cons, add-one}
 use Rattle.nj_isa.specs.declared.modes.Mode.{Mode}
 use Rattle.nj_asm.specs.Grammar.{first_code, coded, coded_or, opcode_of}
 

@@ -1,5 +1,5 @@
 -- What a source means: first the labels' values, then its bytes or its first refusal by line and kind. Our own.
-use Rattle.std.specs.Prelude.{ℕ, String, ◌+◌, ◌-◌, ◌*◌, ◌/◌, ◌%◌, ◌==◌, Bool, true, false, ◌&&◌, ◌||◌, not, nat_lt, List, [], ◌∷◌, ◌++◌, length, map, sum_by, if◌then◌else◌, Option, Some, None, is_some, unwrap_or, Result, Ok, Err}
+use Rattle.std.specs.Prelude.{ℕ, String, ◌+◌, ◌-◌, ◌/◌, ◌%◌, Bool, true, false, ◌&&◌, ◌||◌, not, nat_lt, List, [], ◌∷◌, ◌++◌, map, sum_by, if◌then◌else◌, Option, Some, None, is_some, unwrap_or, Result, Ok, Err}
 use Rattle.std.specs.HashMap.{HashMap, get_by_text}
 use Rattle.std.specs.List.{list_any, flat_map}
 use Rattle.std.specs.Option.{option_map, option_or, option_map_or}
@@ -145,9 +145,9 @@ unfoldable pub fault_of : Homes → Bool → ℕ → ℕ → Line → Option Fau
 fault_of homes begun at index l =
     if is_late begun l.statement then Some Syntax
     else option_or (statement_fault homes at l.statement)
-        (if is_twice homes index l.label then Some TwiceLabel
-        else if nat_lt 65536 (at + size_of l.statement) then Some TooLong
-        else None)
+    (if is_twice homes index l.label then Some TwiceLabel
+    else if nat_lt 65536 (at + size_of l.statement) then Some TooLong
+    else None)
 
 -- a refusal by kind and line, counted from 1
 abbrev pub refused : Fault → ℕ → AsmRefused

@@ -1,6 +1,6 @@
 -- The grammar of a source, line by line. Mnemonics, modes and opcodes are those of the NMOS 6502 (MOS Technology, MCS6500
 -- Family Programming Manual); the spelling of the rest is our own, after the usual assemblers.
-use Rattle.std.specs.Prelude.{ℕ, zero, suc, ◌+◌, ◌-◌, ◌*◌, ◌==◌, Bool, true, false, ◌&&◌, ◌||◌, not, nat_lt, List, [], ◌∷◌, ◌++◌, length, take, drop, map, codes, min, if◌then◌else◌, Option, Some, None, is_some}
+use Rattle.std.specs.Prelude.{ℕ, zero, suc, ◌+◌, ◌==◌, Bool, true, false, ◌&&◌, not, nat_lt, List, [], ◌∷◌, length, take, drop, map, codes, min, if◌then◌else◌, Option, Some, None, is_some}
 use Rattle.std.specs.Char.{is_digit, to_ascii_lowercase}
 use Rattle.std.specs.List.{list_all, position_or_len, slice_split}
 use Rattle.std.specs.Option.{option_map, option_or}
@@ -21,7 +21,6 @@ use Rattle.nj_asm.specs.declared.syntax.Operand.{Operand}
 use Rattle.nj_asm.specs.declared.syntax.Operand.TheVariants.{Nothing, LetterA, Valued}
 use Rattle.nj_asm.specs.declared.syntax.Cell.{Cell}
 use Rattle.nj_asm.specs.declared.syntax.Cell.TheVariants.{Opcode, Byte, Word, Branch}
-use Rattle.nj_asm.specs.declared.syntax.Fault.{Fault}
 use Rattle.nj_asm.specs.declared.syntax.Fault.TheVariants.{Syntax, UnknownOp, NoMode}
 use Rattle.nj_asm.specs.declared.syntax.Statement.{Statement}
 use Rattle.nj_asm.specs.declared.syntax.Statement.TheVariants.{Blank, Origin, Cells, Refused}

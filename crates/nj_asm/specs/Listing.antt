@@ -1,8 +1,7 @@
 -- The listing of bytes: address, bytes, mnemonic and operand, one line an instruction. The layout is our own; mnemonics and
 -- operands are spelled as in the MCS6500 Family Programming Manual.
-use Rattle.std.specs.Prelude.{ℕ, zero, suc, ◌+◌, ◌-◌, ◌*◌, ◌/◌, ◌%◌, ◌==◌, Bool, nat_lt, List, [], ◌∷◌, ◌++◌, length, take, drop, codes, slice_index, if◌then◌else◌}
+use Rattle.std.specs.Prelude.{ℕ, zero, suc, ◌+◌, ◌-◌, ◌*◌, ◌/◌, ◌%◌, ◌==◌, nat_lt, List, [], ◌∷◌, ◌++◌, length, take, codes, slice_index, if◌then◌else◌}
 use Rattle.std.specs.List.{flat_map}
-use Rattle.nj_isa.specs.declared.table.OpRow.{OpRow}
 use Rattle.nj_isa.specs.declared.modes.Mode.{Mode}
 use Rattle.nj_isa.specs.declared.modes.Mode.TheVariants.{Implied, Accumulator, Immediate, Zp, ZpX, ZpY, Abs, AbsX, AbsY, IndX, IndY, Indirect, Relative}
 use Rattle.nj_isa.specs.Names.{name_of, length_of}

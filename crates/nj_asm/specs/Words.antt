@@ -1,6 +1,6 @@
 -- The words of a source: blanks, names and the parts of a text. The form of a source is our own, after the usual
 -- assemblers of the 6502.
-use Rattle.std.specs.Prelude.{ℕ, ◌+◌, ◌-◌, ◌==◌, Bool, ◌&&◌, ◌||◌, not, nat_eq, nat_lt, List, length, take, drop, slice_index, Option, Some, None, if◌then◌else◌}
+use Rattle.std.specs.Prelude.{ℕ, ◌-◌, ◌==◌, Bool, ◌&&◌, ◌||◌, not, nat_lt, List, length, take, drop, slice_index, Option, Some, None, if◌then◌else◌}
 use Rattle.std.specs.Char.{is_ascii_alphanumeric, is_ascii_digit}
 use Rattle.std.specs.List.{list_all, suffix_len, position_or_len}
 use Rattle.std.specs.Str.{bytes_eq}
@@ -38,6 +38,6 @@ unfoldable pub between : List ℕ → List ℕ → List ℕ → Option (List ℕ
 between front back text =
     if bytes_eq (take (length front) text) front
     then (if bytes_eq (drop (length (drop (length front) text) - length back) (drop (length front) text)) back
-        then Some (take (length (drop (length front) text) - length back) (drop (length front) text))
-        else None)
+    then Some (take (length (drop (length front) text) - length back) (drop (length front) text))
+    else None)
     else None

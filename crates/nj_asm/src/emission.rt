@@ -4,12 +4,10 @@ ghost use Rattle.std.specs.Prelude.{◌≡◌, ◌+◌, ◌-◌, ◌*◌, ◌/�
 ghost use Rattle.std.specs.List.{list_any, flat_map};
 ghost use Rattle.nj_asm.specs.Assembly.{homes, size_of, number_in, offset_to, is_far, number_of_cell, is_beyond, is_out, is_unknown, cells_fault, statement_fault, is_late, is_said, is_twice, fault_of, number, cell_bytes, bytes_of};
 
-use std::alloc::AllocError;
-
-use nj_seq::{Seq, Text};
-
 use crate::labels::{Labels, home_of, number_in, size_of};
 use crate::syntax::{Cell, Fault, Line, Statement, Value};
+use nj_seq::{Seq, Text};
+use std::alloc::AllocError;
 
 /// A branch's offset is counted from the byte behind it.
 fn offset_to(at: u32, target: u32) -> u32
@@ -175,12 +173,7 @@ fn branch_byte(at: u32, target: u32) -> u8
     (offset_to(at, target) % 256) as u8
 }
 
-fn push_cell(
-    bytes: &mut Seq<u8>,
-    labels: &Labels,
-    at: u32,
-    cell: &Cell,
-) -> Result<(), AllocError>
+fn push_cell(bytes: &mut Seq<u8>, labels: &Labels, at: u32, cell: &Cell) -> Result<(), AllocError>
     requires { at ≤ 65536 }
     ensures { OnOk result (bytes.new ≡ bytes.old ++ cell_bytes (homes labels.now) at cell.now) }
 {

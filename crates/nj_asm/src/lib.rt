@@ -19,3 +19,6 @@ mod words;
 pub use assembling::{Assembled, assemble};
 pub use listing::list;
 pub use refusals::AsmRefused;
+
+#[cfg(test)]
+mod tests;

@@ -5,11 +5,9 @@ ghost use Rattle.nj_isa.specs.Table.{row_of};
 ghost use Rattle.nj_isa.specs.Timing.{is_jam};
 ghost use Rattle.nj_asm.specs.Listing.{instruction_text, byte_text, bytes_text, span_of, listed, listing_of};
 
-use std::alloc::{AllocError, Global};
-
-use nj_isa::{Op, mode_len, op_name, op_row};
-
 use crate::pieces::{push_hex2, push_operand, push_place};
+use nj_isa::{Op, mode_len, op_name, op_row};
+use std::alloc::{AllocError, Global};
 
 fn is_jam(op: Op) -> bool
     ensures { result ≡ is_jam op }

@@ -4,13 +4,11 @@ ghost use Rattle.std.specs.Prelude.{◌≡◌, IfOk, option_copied};
 ghost use Rattle.std.specs.Option.{option_map};
 ghost use Rattle.nj_asm.specs.Grammar.{value_of, shape_of, operand_of, modes_in, modes_of, is_narrow};
 
-use std::alloc::{AllocError, Global};
-
-use nj_isa::Mode;
-
 use crate::syntax::{Form, Operand};
 use crate::values::{is_narrow, value_of};
 use crate::words::between;
+use nj_isa::Mode;
+use std::alloc::{AllocError, Global};
 
 #[tactic(auto, unfolding(crate::specs::Grammar::shape_of))]
 fn shape_of(text: &[u8]) -> (Form, &[u8])

@@ -4,9 +4,8 @@ ghost use Rattle.std.specs.Prelude.{◌≡◌, ◌+◌, ◌-◌, ◌*◌, ◌/�
 ghost use Rattle.std.specs.List.{flat_map};
 ghost use Rattle.nj_asm.specs.Listing.{hex_digit, hex2, hex4, branch_target, operand_text, spaced, filling, place_text};
 
-use std::alloc::AllocError;
-
 use nj_isa::Mode;
+use std::alloc::AllocError;
 
 fn hex_digit(number: u8) -> u8
     requires { number < 16 }

@@ -3,9 +3,8 @@
 ghost use Rattle.std.specs.Prelude.{◌≡◌};
 ghost use Rattle.nj_asm.specs.Assembly.{refused};
 
-use std::alloc::AllocError;
-
 use crate::syntax::Fault;
+use std::alloc::AllocError;
 
 /// Why a source is refused. Of all refusals the one of the first refused line is told, and of that line's the first in
 /// this order. Lines count from 1.

@@ -6,14 +6,12 @@ ghost use Rattle.nj_asm.specs.Words.{length_before};
 ghost use Rattle.nj_asm.specs.Grammar.{content, code_of, has_label, label_of, statement_text, is_text, said_on, line_of};
 ghost use Rattle.nj_asm.specs.Assembly.{read_lines};
 
-use std::alloc::{AllocError, Global};
-
-use nj_lines::{next_line, without};
-use nj_seq::{Seq, Text};
-
 use crate::statements::statement_of;
 use crate::syntax::{Fault, Line, Statement};
 use crate::words::{is_name, length_before, name_in, without_end, without_start};
+use nj_lines::{next_line, without};
+use nj_seq::{Seq, Text};
+use std::alloc::{AllocError, Global};
 
 fn content(line: &[u8]) -> &[u8]
     ensures { result.now ≡ content line.now }

@@ -4,16 +4,14 @@ ghost use Rattle.std.specs.Prelude.{◌≡◌, ◌+◌, ◌<◌, ◌∷◌, ◌=
 ghost use Rattle.std.specs.List.{slice_split};
 ghost use Rattle.nj_asm.specs.Grammar.{value_of, operand_of, instruction_of, cell_in, cells_in, encoded, item_in, item_of, items_of, all_some, cells_or, origin_in, directive_of, said_by, statement_of};
 
-use std::alloc::{AllocError, Global};
-
-use nj_isa::Mode;
-use nj_seq::Seq;
-
 use crate::operands::{modes_of, operand_of};
 use crate::syntax::{Cell, Fault, Operand, Statement, Value};
 use crate::table::{coded, is_mnemonic};
 use crate::values::value_of;
 use crate::words::{is_name, length_before, without_start, word_len};
+use nj_isa::Mode;
+use nj_seq::Seq;
+use std::alloc::{AllocError, Global};
 
 fn cell_in(mode: Mode, value: Value) -> Cell
     ensures { result ≡ cell_in mode value }

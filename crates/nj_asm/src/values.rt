@@ -7,10 +7,9 @@ ghost use Rattle.std.specs.Option.{option_map, option_or};
 ghost use Rattle.std.specs.Str.Parse.{digits_value};
 ghost use Rattle.nj_asm.specs.Grammar.{is_numeral, literal_of, name_in, value_of, is_narrow};
 
-use std::alloc::{AllocError, Global};
-
 use crate::syntax::Value;
 use crate::words::name_in;
+use std::alloc::{AllocError, Global};
 
 // The value of a digit in either case, 36 where there is none.
 fn digit_value(digit: u8) -> u32

@@ -5,9 +5,8 @@ ghost use Rattle.std.specs.List.{list_all};
 ghost use Rattle.nj_asm.specs.Words.{is_blank, is_name_byte, is_name, blanks_before, without_start, without_end, length_before, between};
 ghost use Rattle.nj_asm.specs.Grammar.{name_in, word_len};
 
-use std::alloc::{AllocError, Global};
-
 use nj_seq::Text;
+use std::alloc::{AllocError, Global};
 
 /// A space or a tab.
 pub fn is_blank(byte: u8) -> bool

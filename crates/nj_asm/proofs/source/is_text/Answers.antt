@@ -1,5 +1,5 @@
 -- The bytes are UTF-8 as far as they go.
-use Rattle.std.proofs.Common.{◌≡◌, ◌<◌, length, sym, eq-eqb, arith}
+use Rattle.std.proofs.Common.{◌<◌, length, sym, eq-eqb, arith}
 use Rattle.std.specs.Str.Lossy.{utf8_valid_len}
 use Rattle.std.proofs.lemmas.Bool.Decides.{nat_tests}
 use Rattle.std.proofs.lemmas.Str.{utf8_valid_len-IsUtf8, utf8_valid_len-IsValidUpTo}

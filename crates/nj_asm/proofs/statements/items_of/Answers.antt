@@ -10,11 +10,12 @@ returns-in-None c =
     (sym (rw c.parted.ensures.before at c.in_ok-cell.ensures) ∙ c.in-None.is) c.loop-end.invariant.1)
 
 pub loop-end-preserved : goal.loop-end-preserved
-loop-end-preserved c =
-    (c.length_before-end-in-loop-end.ensures.value,
-    rw (c.in_ok-push-in-Some.ensures.items, c.parted.ensures.behind)
-    (items_step c.args.wide c.loop-end.rest.now c.loop-end.end c.loop-end.cells _ _ c.loop-end.invariant.0 c.loop-end-test.true
-    (sym (rw c.parted.ensures.before at c.in_ok-cell.ensures) ∙ c.in-Some.is) c.loop-end.invariant.1))
+loop-end-preserved c = (
+  c.length_before-end-in-loop-end.ensures.value,
+  rw (c.in_ok-push-in-Some.ensures.items, c.parted.ensures.behind)
+      (items_step c.args.wide c.loop-end.rest.now c.loop-end.end c.loop-end.cells _ _ c.loop-end.invariant.0 c.loop-end-test.true
+      (sym (rw c.parted.ensures.before at c.in_ok-cell.ensures) ∙ c.in-Some.is) c.loop-end.invariant.1),
+)
 
 pub returns-in-None-2 : goal.returns-in-None-2
 returns-in-None-2 c =

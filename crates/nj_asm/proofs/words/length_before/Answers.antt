@@ -1,6 +1,5 @@
 -- The place that the search finds, or the end.
-use Rattle.std.proofs.Common.{not, ◌==◌, arith}
-
+use Rattle.std.proofs.Common.{◌==◌, arith}
 use Rattle.nj_asm.proofs.TextLemmas.{first_or_end, first_within}
 use Rattle.nj_asm.proofs.words.length_before.Goals as goal
 
