@@ -4,3 +4,4 @@ pub mod StatementLemmas
 pub mod LabelLemmas
 pub mod LineLemmas
 pub mod ListingLemmas
+pub mod RefusalLemmas

@@ -5,6 +5,7 @@
 mod assembling;
 mod emission;
 mod labels;
+mod laws;
 mod listing;
 mod operands;
 mod pieces;
@@ -17,6 +18,7 @@ mod values;
 mod words;
 
 pub use assembling::{Assembled, assemble};
+pub use laws::the_first_refused_line_is_told;
 pub use listing::list;
 pub use refusals::AsmRefused;
 
