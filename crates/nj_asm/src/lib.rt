@@ -20,6 +20,7 @@ mod words;
 pub use assembling::{Assembled, assemble};
 pub use laws::the_first_refused_line_is_told;
 pub use listing::list;
+pub use nj_seq::Seq;
 pub use refusals::AsmRefused;
 
 #[cfg(test)]
