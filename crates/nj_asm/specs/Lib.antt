@@ -1,0 +1,5 @@
+pub mod Words
+pub mod Grammar
+pub mod Assembly
+pub mod Listing
+pub mod FirstRefused

@@ -1,0 +1,55 @@
+use super::*;
+use nj_isa::{Op, mode_len, op_row};
+use std::test::Fail;
+
+const FOUR_LINES: &str = ".org $8000\nSEI\nLDA #$80\nSTA $2000\nloop: JMP loop\n";
+
+const FOUR_LISTED: &str =
+    "8000 78       SEI\n8001 A9 80    LDA #$80\n8003 8D 00 20 STA $2000\n8006 4C 06 80 JMP $8006\n";
+
+#[test]
+fn a_source_is_listed(rt: HostRuntime) -> Result<(), Fail> {
+    let assembled = assemble(rt.alloc(), FOUR_LINES.as_bytes())?;
+    assert_eq!(rt; assembled.origin, 0x8000);
+    let text = list(rt.alloc(), assembled.bytes.as_slice(), assembled.origin)?;
+    assert_eq!(rt; text.as_slice(), FOUR_LISTED.as_bytes());
+    Ok(())
+}
+
+#[test]
+fn sources_are_refused(rt: HostRuntime) -> Result<(), Fail> {
+    for (source, refused) in [
+        (".org $8000\nFOO", AsmRefused::UnknownOp { line: 2 }),
+        ("BNE $9000", AsmRefused::Range { line: 1 }),
+        ("x:\nx:", AsmRefused::TwiceLabel { line: 2 }),
+        ("nop\r", AsmRefused::Syntax { line: 1 }),
+        ("NOP ; a\r\n.org $9000", AsmRefused::Syntax { line: 2 }),
+        ("STX x,Y\nx:", AsmRefused::NoMode { line: 1 }),
+        ("JMP y", AsmRefused::UnknownLabel { line: 1 }),
+        (".org $FFFE\nJMP $8000", AsmRefused::TooLong { line: 2 }),
+    ] {
+        assert_eq!(rt;
+            assemble(rt.alloc(), source.as_bytes()).err(),
+            Some(refused),
+            "of {source:?}"
+        );
+    }
+    Ok(())
+}
+
+#[test]
+fn each_official_opcode_is_listed_and_assembled_back(rt: HostRuntime) -> Result<(), Fail> {
+    for opcode in 0..=255u8 {
+        let row = op_row(opcode);
+        let bytes = [opcode, 0x80, 0x90];
+        let len = mode_len(row.mode) as usize;
+        if matches!(row.op, Op::Jam) || 3 < len {
+            continue;
+        }
+        let text = list(rt.alloc(), &bytes[..len], 0x8000)?;
+        assert!(rt; 14 < text.len());
+        let assembled = assemble(rt.alloc(), &text[14..])?;
+        assert_eq!(rt; assembled.bytes.as_slice(), &bytes[..len], "at {opcode}");
+    }
+    Ok(())
+}
