@@ -1,0 +1,17 @@
+pub mod Rules
+pub mod Filling
+pub mod Parsed
+pub mod Outcome
+pub mod Lookups
+pub mod Lexes
+pub mod Settles
+pub mod Binds
+pub mod Walks
+pub mod Loose
+pub mod Lone
+pub mod Adds
+pub mod Readings
+pub mod Values
+pub mod Taking
+pub mod Making
+pub mod Grammar

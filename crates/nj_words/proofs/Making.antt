@@ -1,0 +1,49 @@
+-- From what a form takes to a command, and from a command to the reading.
+use Rattle.std.proofs.Common.{◌≡◌, ◌∙◌, [], ◌∷◌, List, Some, None, String, ap, arith, codes, false, length, refl, string_bytes, sym}
+use Rattle.std.proofs.lemmas.Bool.{false_from_ne_true}
+use Rattle.std.specs.Prelude.{option_and_then}
+use Rattle.std.specs.Borrow.{Bor}
+use Rattle.std.specs.Str.{bytes_eq}
+use Rattle.nj_words.specs.Words.{Taken, Word, taken}
+use Rattle.nj_words.specs.Commands.{Row, command_of, play_row, reading, replay_row}
+use Rattle.nj_words.specs.Parser.{form_of, words_of}
+use Rattle.nj_words.proofs.Lookups.{same_word}
+
+-- the form takes nothing from the words
+pub none_made : (row : Row) (names options : List (Bor Word)) (words : List Word) → form_of names options ≡ row.form → taken (form_of names options) words ≡ None → command_of row words ≡ None
+unfolding command_of
+none_made row names options words same none = ap (option_and_then row.made) (ap (λ form. taken form words) (sym same) ∙ none)
+
+-- the command is made of what the form takes
+pub all_made : (row : Row) (names options : List (Bor Word)) (words : List Word) (given : Taken) → form_of names options ≡ row.form → taken (form_of names options) words ≡ Some given → command_of row words ≡ row.made given
+unfolding command_of
+all_made row names options words given same all = ap (option_and_then row.made) (ap (λ form. taken form words) (sym same) ∙ all)
+
+other_word : (word other : Word) → (word ≡ other → ⊥) → bytes_eq word other ≡ false
+other_word word other ne = false_from_ne_true _ (λ same. ne (same_word word other same))
+
+-- the words of a list that has a first one
+pub first_read : {Z : Type 0} (words : List (String Z)) (first : String Z) (rest : List (String Z)) (word bytes : Word) → words ≡ first ∷ rest → word ≡ string_bytes first → word ≡ bytes
+    → reading (words_of words) ≡ reading (bytes ∷ words_of rest)
+first_read words first rest word bytes split is spells = ap (λ ws. reading (words_of ws)) split ∙ ap (λ w. reading (w ∷ words_of rest)) (sym is ∙ spells)
+
+pub nothing_read : {Z : Type 0} (words : List (String Z)) → length words ≡ 0 → reading (words_of words) ≡ None
+unfolding reading
+nothing_read [] none = refl
+nothing_read (word ∷ words) none = absurd (omega arith)
+
+pub play_read : (words : List Word) → reading (codes "play" ∷ words) ≡ command_of play_row words
+unfolding reading
+play_read words = refl
+
+pub replay_read : (words : List Word) → reading (codes "replay" ∷ words) ≡ command_of replay_row words
+unfolding reading
+replay_read words = refl
+
+-- no command has this word
+pub other_read : (word : Word) (words : List Word) → (word ≡ codes "play" → ⊥) → (word ≡ codes "replay" → ⊥) → reading (word ∷ words) ≡ None
+unfolding reading
+other_read word words not_play not_replay =
+    let first = other_word word (codes "play") not_play in
+    let second = other_word word (codes "replay") not_replay in
+    rw (first, second) refl

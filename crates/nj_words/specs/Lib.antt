@@ -1,0 +1,5 @@
+pub mod Words
+pub mod Commands
+pub mod Options
+pub mod Parser
+pub mod Grammar

@@ -1,0 +1,61 @@
+//! The words of the command line, read through `clap` into a command.
+//!
+//! The rule on the words stands in `specs/Words.antt`, once more as a grammar in
+//! `specs/Grammar.antt`, and the table of commands in `specs/Commands.antt`. A command more is a
+//! row of that table, a variant of [`Command`], and a function as those of `commands`.
+#![tactic(auto)]
+
+ghost use Rattle.std.specs.Prelude.{◌≡◌, Err, IfOk, None, Some, map, string_bytes};
+ghost use Rattle.nj_words.specs.Commands.{reading};
+ghost use Rattle.nj_words.specs.Grammar.{PiecesAreSaid};
+ghost use Rattle.nj_words.specs.declared.refused.WordsRefused.TheVariants.{Usage};
+
+mod commands;
+mod parser;
+mod refused;
+
+use commands::{play, replay};
+pub use nj_seq::Text;
+pub use refused::WordsRefused;
+use std::alloc::Global;
+
+/// A command of the program, with the names and options that it was given.
+#[derive(Clone, Debug, Drop)]
+pub enum Command {
+    /// Plays a movie on a cartridge.
+    Play {
+        cart: Text,
+        movie: Text,
+    },
+    /// Plays a movie and judges it by a script, as a search from the start movie would.
+    Replay {
+        cart: Text,
+        script: Text,
+        start: Text,
+        movie: Text,
+    },
+}
+
+/// Reads the words that follow the program's name. Names are as they were given, so a lone `-` is
+/// a name of one byte.
+pub fn read_words(alloc: Global, words: &[String]) -> Result<Command, WordsRefused>
+    ensures read { IfOk result (λ command. reading (map string_bytes words.now) ≡ Some command) }
+    ensures usage { result ≡ Err Usage → reading (map string_bytes words.now) ≡ None }
+{
+    let Some((command, rest)) = words.split_first() else {
+        return Err(WordsRefused::Usage);
+    };
+    match command.as_str() {
+        "play" => play(alloc, rest),
+        "replay" => replay(alloc, rest),
+        _ => Err(WordsRefused::Usage),
+    }
+}
+
+/// Words are split into names and options as their grammar has it: a law over definitions alone.
+pub fn pieces_are_said()
+    ensures { PiecesAreSaid }
+{}
+
+#[cfg(test)]
+mod tests;
