@@ -1,0 +1,8 @@
+use Rattle.std.proofs.Common.{◌||◌}
+use Rattle.nj_rules.specs.Rules.{is_in, is_met, status_after}
+use Rattle.nj_rules.proofs.Sets.{is_in-set_below}
+use Rattle.nj_rules.proofs.laws.naming_is_one_level_deep.Goals as goal
+
+pub returns : goal.returns
+unfolding status_after is_met
+returns c = λ rules ram old k h. is_in-set_below 128 (λ n. is_in old n || is_met rules ram n) k h

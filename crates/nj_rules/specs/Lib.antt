@@ -1,0 +1,4 @@
+pub mod Rules
+pub mod Pads
+pub mod Key
+pub mod Limits

@@ -1,0 +1,4 @@
+-- Texts that are UTF-8, by the test.
+use Rattle.std.proofs.lemmas.Str.{IsUtf8-from_is_utf8, is_utf8-from_IsUtf8}
+
+pub ruleset texts = (IsUtf8-from_is_utf8, is_utf8-from_IsUtf8)

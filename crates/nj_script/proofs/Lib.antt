@@ -1,0 +1,7 @@
+pub mod Sizes
+pub mod Keys
+pub mod Refused
+pub mod Accepted
+pub mod Members
+pub mod InRange
+pub mod Json

@@ -1,0 +1,240 @@
+ghost use Rattle.std.specs.Prelude.{◌≡◌, ◌≤◌, ◌∷◌, [], List, map, length, codes, All, Some, None, IfOk, MatchResult, ◌⊎◌};
+ghost use Rattle.serde_json.specs.View.{view};
+ghost use Rattle.nj_property.specs.Property.{IsPlaced};
+ghost use Rattle.nj_rules.specs.Limits.{AreRulesInRange, AreSetsInRange, AreItemsInRange};
+ghost use Rattle.nj_rules.specs.Pads.{named_pads};
+ghost use Rattle.nj_script.specs.Reading.{Gives, GivesAs};
+ghost use Rattle.nj_script.specs.Script.{properties_in, items_in, sets_in, version_in, script_keys, head_in, json_of, script_in, script_of};
+
+use crate::fields::{list, natural_or, open, required, wrong_kind};
+use crate::lists::read_each;
+use crate::names::Named;
+use crate::naming::rules_in;
+use crate::properties::{ItemMember, PropertyMember};
+use crate::refusal::ScriptRefused;
+use crate::sets::SetMember;
+use nj_rules::{HashItem, HashItems, InputSet, InputSets, Rules, pad_count};
+use nj_seq::Seq;
+use serde_json::Value;
+use std::alloc::Global;
+use std::marker::Model;
+
+// ---- the lists of a script
+
+#[tactic(auto, unfolding(crate::specs::Script::properties_in))]
+fn read_properties(alloc: Global, object: &Value) -> Result<Vec<Named>, ScriptRefused>
+    ensures value { GivesAs (λ v. v.items) (properties_in (view object.now)) result }
+    ensures few { IfOk result (λ v. length v.items ≤ 64) }
+{
+    let items = list(alloc, object, "properties", 64)?;
+    read_each(alloc, items, &PropertyMember)
+}
+
+fn properties_in(alloc: Global, object: &Value) -> Result<Vec<Named>, ScriptRefused>
+    ensures value { GivesAs (λ v. v.items) (properties_in (view object.now)) result }
+    ensures few { IfOk result (λ v. length v.items ≤ 64) }
+    ensures placed { IfOk result (λ v. All (λ n. IsPlaced n.property) v.items) }
+{
+    let properties = read_properties(alloc, object)?;
+    Ok(properties)
+}
+
+#[tactic(auto, unfolding(crate::specs::Script::items_in))]
+fn items_in(
+    alloc: Global,
+    object: &Value,
+    properties: &[Named],
+) -> Result<Vec<HashItem>, ScriptRefused>
+    requires { All (λ n. IsPlaced n.property) properties.now }
+    ensures { GivesAs (λ v. v.items) (items_in properties.now (view object.now)) result }
+{
+    let items = list(alloc, object, "hash", 64)?;
+    read_each(alloc, items, &ItemMember { properties })
+}
+
+#[tactic(auto, unfolding(crate::specs::Script::sets_in))]
+fn sets_in(
+    alloc: Global,
+    object: &Value,
+    properties: &[Named],
+) -> Result<Vec<InputSet>, ScriptRefused>
+    ensures { GivesAs (λ v. v.items) (sets_in properties.now (view object.now)) result }
+{
+    let items = list(alloc, object, "inputs", 32)?;
+    read_each(alloc, items, &SetMember { properties })
+}
+
+// ---- the whole
+
+#[tactic(auto, unfolding(crate::specs::Script::version_in))]
+fn version_in(alloc: Global, object: &Value) -> Result<(), ScriptRefused>
+    ensures { GivesAs (λ _. tt) (version_in (view object.now)) result }
+{
+    let value = required(alloc, object, "version")?;
+    match value.as_i64() {
+        Some(1) => Ok(()),
+        Some(n) => Err(ScriptRefused::Version { n }),
+        None => Err(wrong_kind(alloc, "version")),
+    }
+}
+
+fn keys_of_script() -> &'static [&'static str]
+    ensures { map (λ s. s.now) result.now ≡ script_keys }
+{
+    &[
+        "version",
+        "properties",
+        "hash",
+        "hold",
+        "tolerance",
+        "inputs",
+        "rules",
+    ]
+}
+
+#[tactic(auto, unfolding(crate::specs::Script::head_in))]
+fn head_in(alloc: Global, value: &Value) -> Result<(), ScriptRefused>
+    ensures { GivesAs (λ _. tt) (head_in (view value.now)) result }
+{
+    if !value.is_object() {
+        return Err(wrong_kind(alloc, ""));
+    }
+    version_in(alloc, value)?;
+    open(alloc, value, "", keys_of_script())
+}
+
+// The JSON value of a text of bytes.
+#[tactic(auto, using(crate::proofs::Json::texts), unfolding(crate::specs::Script::json_of))]
+fn json_in(alloc: Global, bytes: &[u8]) -> Result<Value, ScriptRefused>
+    ensures { MatchResult result (λ value. json_of bytes.now ≡ Some (view value)) (λ e. (e ≡ ScriptRefused.NoMemory) ⊎ ((e ≡ ScriptRefused.NotJson) × (json_of bytes.now ≡ None))) }
+{
+    match Value::from_slice(alloc, bytes) {
+        Ok(value) => Ok(value),
+        Err(e) => {
+            if e.is_memory() {
+                Err(ScriptRefused::NoMemory)
+            } else {
+                Err(ScriptRefused::NotJson)
+            }
+        }
+    }
+}
+
+/// A script: what a search is told of a game.
+#[derive(Drop)]
+pub struct Script {
+    property_count: u32,
+    hash: HashItems,
+    hold: u32,
+    tolerance: u32,
+    inputs: InputSets,
+    rules: Rules,
+}
+
+impl Model for Script {
+    ghost use Rattle.nj_script.specs.Script.{Record, IsInRange};
+
+    ghost Value = { Record };
+
+    ghost view = { λ s. record { property_count = s.property_count; hash = s.hash; hold = s.hold; tolerance = s.tolerance; inputs = s.inputs; rules = s.rules } };
+
+    ghost invariant = { λ s. IsInRange (record { property_count = s.property_count; hash = s.hash; hold = s.hold; tolerance = s.tolerance; inputs = s.inputs; rules = s.rules }) };
+}
+
+#[tactic(auto, unfolding(crate::specs::Script::script_in))]
+fn script_in(alloc: Global, value: &Value) -> Result<Script, ScriptRefused>
+    ensures { Gives (script_in (view value.now)) result }
+{
+    head_in(alloc, value)?;
+    let named = properties_in(alloc, value)?;
+    let items = items_in(alloc, value, named.as_slice())?;
+    let hold = natural_or(alloc, value, "hold", 1, 60, 1)?;
+    let tolerance = natural_or(alloc, value, "tolerance", 0, 1_048_576, 0)?;
+    let sets = sets_in(alloc, value, named.as_slice())?;
+    let rules = rules_in(alloc, value, named.as_slice())?;
+    Ok(Script {
+        property_count: named.len() as u32,
+        hash: HashItems {
+            items: Seq::from_vec(items),
+        },
+        hold,
+        tolerance,
+        inputs: InputSets {
+            sets: Seq::from_vec(sets),
+        },
+        rules: Rules {
+            rules: Seq::from_vec(rules),
+        },
+    })
+}
+
+impl Script {
+    /// What the bytes of a file say, or the first refusal.
+    #[tactic(auto, unfolding(crate::specs::Script::script_of))]
+    pub fn read(alloc: Global, bytes: &[u8]) -> Result<Script, ScriptRefused>
+        ensures { Gives (script_of bytes.now) result }
+    {
+        let value = json_in(alloc, bytes)?;
+        script_in(alloc, &value)
+    }
+
+    pub fn rules(&self) -> &Rules
+        ensures value { result.now ≡ self.now.rules }
+        ensures in_range { AreRulesInRange result.now.rules }
+    {
+        &self.rules
+    }
+
+    pub fn inputs(&self) -> &InputSets
+        ensures value { result.now ≡ self.now.inputs }
+        ensures in_range { AreSetsInRange result.now.sets }
+    {
+        &self.inputs
+    }
+
+    pub fn hash(&self) -> &HashItems
+        ensures value { result.now ≡ self.now.hash }
+        ensures in_range { AreItemsInRange result.now.items }
+    {
+        &self.hash
+    }
+
+    /// The frames of one step.
+    pub fn hold(&self) -> u32
+        ensures value { result ≡ self.now.hold }
+        ensures low { 1 ≤ result }
+        ensures high { result ≤ 60 }
+    {
+        self.hold
+    }
+
+    /// The steps for which states of a lower level live on after a higher one was kept.
+    pub fn tolerance(&self) -> u32
+        ensures value { result ≡ self.now.tolerance }
+        ensures within { result ≤ 1048576 }
+    {
+        self.tolerance
+    }
+
+    pub fn property_count(&self) -> u32
+        ensures value { result ≡ self.now.property_count }
+        ensures within { result ≤ 64 }
+    {
+        self.property_count
+    }
+
+    pub fn rule_count(&self) -> u32
+        ensures value { result ≡ length self.now.rules.rules }
+        ensures within { result ≤ 128 }
+    {
+        self.rules.rules.len() as u32
+    }
+
+    /// How many different pads the input sets name, whatever their conditions.
+    pub fn input_count(&self) -> u64
+        ensures value { result ≡ length (named_pads self.now.inputs.sets) }
+        ensures within { result ≤ 256 }
+    {
+        pad_count(&self.inputs)
+    }
+}
