@@ -82,7 +82,6 @@ frames_leave s (pad ∷ pads) h =
     let first = frame_leaves s pad h in leaves-then s (frame s pad).0 (frames (frame s pad).0 pads) first (frames_leave (frame s pad).0 pads first.ready)
 
 pub played : (cart : Cartridge) (movie : List ℕ) → IsReady (power_on cart) → Leaves (power_on cart) (play cart movie)
-unfolding play
 played cart movie h = frames_leave (power_on cart) movie h
 
 -- within a frame: what is left of it is the frame that began, and the cartridge is the same

@@ -1,5 +1,5 @@
 -- One frame, and the play of a movie.
-use Rattle.std.specs.Prelude.{◌≡◌, ℕ, zero, suc, ◌+◌, ◌-◌, ◌*◌, ◌<◌, nat_le, Bool, false, if◌then◌else◌, List, [], ◌∷◌, length, Option, Some, None}
+use Rattle.std.specs.Prelude.{◌≡◌, ℕ, zero, suc, ◌+◌, ◌-◌, ◌*◌, ◌<◌, nat_le, Bool, false, if◌then◌else◌, List, fold, length, Option, Some, None}
 use Rattle.nj_ines.specs.Cartridge.{Cartridge}
 use Rattle.nj_board.specs.Nrom.{IsMemory}
 use Rattle.nj_cpu.specs.declared.state.UnitEnd.{UnitEnd}
@@ -53,11 +53,10 @@ frame s pad = units_until pad (dots_left s) s
 
 -- the state after one frame for each pad, from this one
 abbrev pub frames : State → List ℕ → State
-frames s [] = s
-frames s (pad ∷ pads) = frames (frame s pad).0 pads
+frames s pads = fold (λ s pad. (frame s pad).0) s pads
 
--- the state after a movie, from power-on
-unfoldable pub play : Cartridge → List ℕ → State
+-- the state after a movie: one frame for each pad, from power-on
+abbrev pub play : Cartridge → List ℕ → State
 play cart movie = frames (power_on cart) movie
 
 -- the memories have their sizes, and the picture's numbers their ranges

@@ -1,6 +1,6 @@
 //! The machine, frame by frame.
 
-ghost use Rattle.std.specs.Prelude.{◌≡◌, ◌+◌, ◌-◌, ◌^◌, ◌↔◌, ℕ, true, min, length, replicate, IfOk};
+ghost use Rattle.std.specs.Prelude.{◌≡◌, ◌+◌, ◌-◌, ◌^◌, ◌≤◌, ◌↔◌, ℕ, true, min, length, replicate, IfOk};
 ghost use Rattle.nj_board.specs.Nrom.{IsMemory};
 ghost use Rattle.nj_machine.specs.State.{State, power_on, ram_of, rom_of, is_jammed, memory_of, reset_vector};
 ghost use Rattle.nj_machine.specs.Frame.{unit_step, frame, IsReady, IsFirstEnd};
@@ -100,6 +100,7 @@ impl<P: Picture + Drop> Console<P> {
         ensures ready { IsReady self.new }
         ensures cartridge { rom_of self.new ≡ rom_of self.old }
         ensures counted { steps.new ≡ min (steps.old + 1) (2 ^ 64 - 1) }
+        ensures never_falls { steps.old ≤ steps.new }
     {
         steps.tick();
         loop {
