@@ -15,7 +15,7 @@ use Rattle.nj_replay.specs.declared.Replayed.{Replayed}
 use Rattle.nj_app.specs.Answer.{frames_of, movie_file}
 use Rattle.nj_app.specs.Loading.{IsReplayRefusal}
 use Rattle.nj_app.specs.Play.{with_cart, with_movie}
-use Rattle.nj_app.specs.Refusals.{replay_refusal, refusal_line}
+use Rattle.nj_app.specs.Refusals.{replay_refusal}
 use Rattle.nj_app.specs.Replay.{with_script, judged_work, replay_done, replay_line, replay_status, replay_work}
 use Rattle.nj_app.specs.Stops.{Leads, Loads, Serves, Replies, Ends}
 use Rattle.nj_app.specs.Work.{Work, given, accepted, done, refused, refusal_told}
@@ -73,10 +73,11 @@ module _ (files : Files) (failed : ℕ) (cart : Cartridge) (script : Record) (st
       IfOk result (λ reply. reply.status ≡ replay_status replayed.verdict) → IfOk result (λ reply. reply.text ≡ replay_line replayed) →
       MatchResult result (λ _. Unit {0}) (λ stop. stop ≡ stops.NoMemory) → Serves files (judged_work cart script start movie) failed result
   unfolding judged_work Serves Replies
-  judged_reply replayed (Ok reply) read status text memory =
-      (length movie,
-      ap (λ r. given files (accepted 6 (codes "movie") (replay_done (length movie)) (refusal_told replay_refusal r))) read
-      ∙ (λ i. Some (done (sym status i) (sym text i) (length movie))))
+  judged_reply replayed (Ok reply) read status text memory = (
+    length movie,
+    ap (λ r. given files (accepted 6 (codes "movie") (replay_done (length movie)) (refusal_told replay_refusal r))) read
+        ∙ (λ i. Some (done (sym status i) (sym text i) (length movie))),
+  )
   judged_reply replayed (Err stop) read status text memory = ends_free files (judged_work cart script start movie) failed stop memory
 
   -- a stop with the refusal of the replay is the answer

@@ -7,7 +7,6 @@ use Rattle.nj_rules.specs.declared.record.Verdict.{Verdict}
 use Rattle.nj_rules.specs.declared.record.Verdict.TheVariants.{Go, Win, Fail}
 use Rattle.nj_game.specs.Plan.{plan_of}
 use Rattle.nj_replay.specs.Replay.{replay_of}
-use Rattle.nj_replay.specs.declared.ReplayRefused.{ReplayRefused}
 use Rattle.nj_replay.specs.declared.Replayed.{Replayed}
 use Rattle.nj_app.specs.Play.{with_cart, with_movie}
 use Rattle.nj_app.specs.Refusals.{replay_refusal, script_refusal, too_long}

@@ -11,9 +11,8 @@ ghost use Rattle.nj_app.specs.Replay.{replay_work};
 ghost use Rattle.nj_words.specs.Commands.{reading};
 
 use crate::loading::{load_cart, load_movie, load_script};
-use crate::playing;
-use crate::replaying;
 use crate::stops::{Reply, Stop};
+use crate::{playing, replaying};
 use nj_outside::{Shelf, Sink, write_all};
 use nj_steps::Steps;
 use nj_words::{Command, WordsRefused, read_words};

@@ -53,16 +53,8 @@ fn shelf_with(alloc: Global, movie: &[u8], failing: &[u64]) -> Result<MemShelf, 
     files.push(named(alloc, "short", short)?)?;
     files.push(named(alloc, "jam", jam)?)?;
     files.push(named(alloc, "walk", cartridge(alloc, &WALK, 0x09)?)?)?;
-    files.push(named(
-        alloc,
-        "goal",
-        Vec::from_slice(alloc, GOAL.as_bytes())?,
-    )?)?;
-    files.push(named(
-        alloc,
-        "start",
-        Vec::from_slice(alloc, START.as_bytes())?,
-    )?)?;
+    files.push(named(alloc, "goal", Vec::from_slice(alloc, GOAL.as_bytes())?)?)?;
+    files.push(named(alloc, "start", Vec::from_slice(alloc, START.as_bytes())?)?)?;
     files.push(named(alloc, "movie", Vec::from_slice(alloc, movie)?)?)?;
     Ok(MemShelf::new(alloc, files, Vec::from_slice(alloc, failing)?, 10_000))
 }
@@ -189,7 +181,13 @@ fn plays_and_refuses(rt: HostRuntime) -> Result<(), Fail> {
             "",
             "nj: movie 3 NotStart frame=2\n",
         ),
-        ("replay walk movie start -", "", 5, "", "nj: script 1 NotJson\n"),
+        (
+            "replay walk movie start -",
+            "",
+            5,
+            "",
+            "nj: script 1 NotJson\n",
+        ),
         (
             "replay walk movie start -",
             "{\"version\":3}",

@@ -29,11 +29,11 @@ returns c = λ step frames reward pads steps_fit frames_fit reward_fits bytes fe
     let joined = c.printed_numbers_have_no_line_feed.ensures.joined in
     let unsigned = c.printed_numbers_have_no_line_feed.ensures.unsigned in
     let plain =
-        joined (codes " won step=") _ refl
-        (joined (decimal step) _ (unsigned step steps_fit)
-        (joined (codes " frames=") _ refl
-        (joined (decimal frames) _ (unsigned frames frames_fit)
-        (joined (codes " reward=") (signed_decimal reward) refl (c.printed_numbers_have_no_line_feed.ensures.signed reward reward_fits))))) in
+    joined (codes " won step=") _ refl
+    (joined (decimal step) _ (unsigned step steps_fit)
+    (joined (codes " frames=") _ refl
+    (joined (decimal frames) _ (unsigned frames frames_fit)
+    (joined (codes " reward=") (signed_decimal reward) refl (c.printed_numbers_have_no_line_feed.ensures.signed reward reward_fits))))) in
     let P : List ℕ → Type 0 = λ line. movie_of (line ++ movie_text pads) ≡ Ok pads in
     subst P (won_line step frames reward)
     (c.what_was_written_is_read.ensures.behind_one (won_words step frames reward) pads plain bytes few)
