@@ -303,8 +303,19 @@ impl Cart {
 
 #[cfg(test)]
 mod tests {
+    use super::CartRefused::{
+        ChrUnits, FourScreen, Mapper, NotInes, PrgUnits, Short, Timing, Trainer,
+    };
     use super::*;
     use std::test::Fail;
+
+    // A header of these counts of units, these bytes 6 to 9 and this byte 12.
+    fn header_of(prg: u8, chr: u8, flags: [u8; 4], timing: u8) -> [u8; 16] {
+        let [six, seven, eight, nine] = flags;
+        [
+            b'N', b'E', b'S', 0x1A, prg, chr, six, seven, eight, nine, 0, 0, timing, 0, 0, 0,
+        ]
+    }
 
     // A file of this header, filled with zeros or cut to a length.
     fn file_of(alloc: Global, header: [u8; 16], length: usize) -> Result<Vec<u8>, AllocError> {
@@ -313,143 +324,74 @@ mod tests {
         Ok(file)
     }
 
-    const WHOLE: usize = 24_592;
-
-    // The refusals, their order and their numbers.
+    // What is refused of a header, its order and its numbers.
     #[test]
-    fn refusals(rt: HostRuntime) -> Result<(), Fail> {
-        let n = b'N';
-        let e = b'E';
-        let s = b'S';
-        for (header, length, want) in [
-            (
-                [n, e, s, 0x1A, 1, 1, 0, 0, 0, 0, 0, 0, 0, 0, 0, 0],
-                15,
-                CartRefused::Short { need: 16, have: 15 },
-            ),
-            (
-                [n, e, s, 0x1B, 1, 1, 0, 0, 0, 0, 0, 0, 0, 0, 0, 0],
-                15,
-                CartRefused::NotInes,
-            ),
-            (
-                [b'P', e, s, 0x1A, 1, 1, 0, 0, 0, 0, 0, 0, 0, 0, 0, 0],
-                1,
-                CartRefused::NotInes,
-            ),
-            (
-                [n, e, s, 0x1A, 9, 9, 0xFC, 0, 0, 0, 0, 0, 0, 0, 0, 0],
-                WHOLE,
-                CartRefused::Trainer,
-            ),
-            (
-                [n, e, s, 0x1A, 9, 9, 0xF8, 0, 0, 0, 0, 0, 0, 0, 0, 0],
-                WHOLE,
-                CartRefused::FourScreen,
-            ),
-            (
-                [n, e, s, 0x1A, 9, 9, 0x10, 0x10, 0, 0, 0, 0, 0, 0, 0, 0],
-                WHOLE,
-                CartRefused::Mapper { number: 17 },
-            ),
-            (
-                [n, e, s, 0x1A, 9, 9, 0x10, 0x10, 0, 0, 0, 0, 0, 0, 0, 1],
-                WHOLE,
-                CartRefused::Mapper { number: 1 },
-            ),
-            (
-                [n, e, s, 0x1A, 1, 1, 0, 8, 15, 0, 0, 0, 3, 0, 0, 0],
-                WHOLE,
-                CartRefused::Mapper { number: 3840 },
-            ),
-            (
-                [n, e, s, 0x1A, 3, 9, 0, 0, 0, 0, 0, 0, 0, 0, 0, 0],
-                WHOLE,
-                CartRefused::PrgUnits { n: 3 },
-            ),
-            (
-                [n, e, s, 0x1A, 0, 1, 0, 0, 0, 0, 0, 0, 0, 0, 0, 0],
-                WHOLE,
-                CartRefused::PrgUnits { n: 0 },
-            ),
-            (
-                [n, e, s, 0x1A, 1, 1, 0, 8, 0xF0, 0xB9, 0, 0, 0, 0, 0, 0],
-                WHOLE,
-                CartRefused::PrgUnits { n: 2305 },
-            ),
-            (
-                [n, e, s, 0x1A, 1, 1, 0, 8, 0, 0xF0, 0, 0, 0, 0, 0, 0],
-                WHOLE,
-                CartRefused::ChrUnits { n: 3841 },
-            ),
-            (
-                [n, e, s, 0x1A, 2, 2, 0, 0, 0, 0, 0, 0, 0, 0, 0, 0],
-                WHOLE,
-                CartRefused::ChrUnits { n: 2 },
-            ),
-            (
-                [n, e, s, 0x1A, 1, 1, 0, 8, 0, 0, 0, 0, 1, 0, 0, 0],
-                16,
-                CartRefused::Timing { n: 1 },
-            ),
-            (
-                [n, e, s, 0x1A, 1, 1, 0, 8, 0, 0, 0, 0, 7, 0, 0, 0],
-                16,
-                CartRefused::Timing { n: 3 },
-            ),
-            (
-                [n, e, s, 0x1A, 1, 1, 0, 0, 0, 0, 0, 0, 0, 0, 0, 0],
-                24_591,
-                CartRefused::Short {
-                    need: 24_592,
-                    have: 24_591,
-                },
-            ),
-            (
-                [n, e, s, 0x1A, 2, 0, 0, 0, 0, 0, 0, 0, 0, 0, 0, 0],
-                32_783,
-                CartRefused::Short {
-                    need: 32_784,
-                    have: 32_783,
-                },
-            ),
+    fn refuses_headers(rt: HostRuntime) -> Result<(), Fail> {
+        for (header, want) in [
+            (header_of(9, 9, [0xFC, 0, 0, 0], 0), Trainer),
+            (header_of(9, 9, [0xF8, 0, 0, 0], 0), FourScreen),
+            (header_of(9, 9, [16, 16, 0, 0], 0), Mapper { number: 17 }),
+            (header_of(9, 9, [16, 16, 0, 0], 1), Mapper { number: 1 }),
+            (header_of(9, 9, [16, 20, 0, 0], 0), Mapper { number: 1 }),
+            (header_of(1, 1, [0, 8, 15, 0], 3), Mapper { number: 3840 }),
+            (header_of(3, 9, [0; 4], 0), PrgUnits { n: 3 }),
+            (header_of(0, 1, [0; 4], 0), PrgUnits { n: 0 }),
+            (header_of(1, 1, [0, 8, 0, 0xB9], 0), PrgUnits { n: 2305 }),
+            (header_of(1, 1, [0, 8, 0, 0xF0], 0), ChrUnits { n: 3841 }),
+            (header_of(2, 2, [0; 4], 0), ChrUnits { n: 2 }),
+            (header_of(1, 1, [0, 8, 0, 0], 1), Timing { n: 1 }),
+            (header_of(1, 1, [0, 8, 0, 0], 7), Timing { n: 3 }),
         ] {
-            let file = file_of(rt.alloc(), header, length)?;
+            let file = file_of(rt.alloc(), header, 16)?;
             assert_eq!(rt; Cart::read(rt.alloc(), file.as_slice()).err(), Some(want));
         }
         Ok(())
     }
 
-    // Headers that are taken: text in bytes 7 to 15, either timing, bytes behind the memories.
+    // Files that end too early.
     #[test]
-    fn accepted(rt: HostRuntime) -> Result<(), Fail> {
-        let n = b'N';
-        let e = b'E';
-        let s = b'S';
+    fn refuses_short_files(rt: HostRuntime) -> Result<(), Fail> {
+        for (prg, chr, length, need) in [
+            (1, 1, 15, 16),
+            (1, 1, 24_591, 24_592),
+            (2, 0, 32_783, 32_784),
+            (2, 1, 16, 40_976),
+        ] {
+            let file = file_of(rt.alloc(), header_of(prg, chr, [0; 4], 0), length)?;
+            let have = file.len() as u64;
+            let want = Short { need, have };
+            assert_eq!(rt; Cart::read(rt.alloc(), file.as_slice()).err(), Some(want));
+        }
+        Ok(())
+    }
+
+    // What is there of the first four bytes is looked at before the length.
+    #[test]
+    fn refuses_other_files(rt: HostRuntime) {
+        for other in [
+            b"P".as_slice(),
+            b"NES\x1B".as_slice(),
+            b"PK\x03\x04".as_slice(),
+        ] {
+            assert_eq!(rt; Cart::read(rt.alloc(), other).err(), Some(NotInes));
+        }
+        let empty = Cart::read(rt.alloc(), b"").err();
+        assert_eq!(rt; empty, Some(Short { need: 16, have: 0 }));
+    }
+
+    // Headers that are taken: a text from byte 7 on, either timing, and bytes behind the memories.
+    #[test]
+    fn accepts_headers(rt: HostRuntime) -> Result<(), Fail> {
         for (header, length, prg, ram, vertical) in [
+            (*b"NES\x1A\x01\x01\0DiskDude!", 24_592, 16_384, false, false),
             (
-                [
-                    n, e, s, 0x1A, 1, 1, 0, b'D', b'i', b's', b'k', b'D', b'u', b'd', b'e', b'!',
-                ],
-                WHOLE,
-                16_384,
-                false,
-                false,
-            ),
-            (
-                [n, e, s, 0x1A, 1, 1, 3, 8, 0, 0, 0, 0, 2, 0, 0, 0],
+                header_of(1, 1, [3, 8, 0, 0], 2),
                 24_720,
                 16_384,
                 false,
                 true,
             ),
-            (
-                [n, e, s, 0x1A, 2, 0, 0, 0, 0, 0, 0, 0, 0, 0, 0, 0],
-                32_784,
-                32_768,
-                true,
-                false,
-            ),
+            (header_of(2, 0, [0; 4], 0), 32_784, 32_768, true, false),
         ] {
             let mut file = file_of(rt.alloc(), header, length)?;
             if let Some(first) = file.get_mut(16) {

@@ -1,0 +1,4 @@
+pub mod Plays
+pub mod Jams
+pub mod Children
+pub mod Satisfied

@@ -1,0 +1,5 @@
+pub mod Leaving
+pub mod Holding
+pub mod Broken
+pub mod WordLemmas
+pub mod Standing

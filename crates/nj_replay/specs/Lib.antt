@@ -1,0 +1,4 @@
+pub mod Reading
+pub mod Replay
+pub use Rattle.nj_game.specs.Plan
+pub use Rattle.nj_game.specs.Words
