@@ -1,4 +1,4 @@
+pub mod Judging
 pub mod Readers
 pub mod Serving
 pub mod Statuses
-pub mod Three

@@ -12,7 +12,7 @@ use Rattle.nj_app.specs.declared.stops.Stop.{Stop}
 use Rattle.nj_app.specs.declared.stops.Stop.TheVariants.{ReadFault, NoMemory}
 
 -- want of memory ends any work
-ends_free : (files : Files) (work : Work) (failed : ℕ) (stop : Stop) → stop ≡ NoMemory → Ends files work failed stop
+pub ends_free : (files : Files) (work : Work) (failed : ℕ) (stop : Stop) → stop ≡ NoMemory → Ends files work failed stop
 unfolding Ends
 ends_free files work failed stop e = subst (λ s. Ends files work failed s) (sym e) tt
 

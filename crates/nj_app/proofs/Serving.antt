@@ -23,9 +23,36 @@ pub ends_then : (files : Files) (whole rest : Work) (failed : ℕ) (stop : Stop)
 unfolding Ends
 ends_then files whole rest failed stops.Usage leads h = leads.same ∙ h
 ends_then files whole rest failed (stops.Cartridge line) leads h = leads.same ∙ h
+ends_then files whole rest failed (stops.Script line) leads h = leads.same ∙ h
 ends_then files whole rest failed (stops.Movie line) leads h = leads.same ∙ h
 ends_then files whole rest failed stops.ReadFault leads h = leads.reaches failed h
 ends_then files whole rest failed stops.NoMemory leads h = tt
+
+-- a stop that was loaded ends any work that begins with the loading
+pub loads_stop : {A : Type 0} (files : Files) (work : (A → Work) → Work) (failed : ℕ) (stop : Stop) → Loads files work failed (Err stop) →
+    (next : A → Work) → Ends files (work next) failed stop
+unfolding Loads
+loads_stop files work failed stop loads next = loads next
+
+-- what was loaded is what any such work goes on with
+pub loads_lead : {A : Type 0} (files : Files) (work : (A → Work) → Work) (failed : ℕ) (value : A) → Loads files work failed (Ok value) →
+    (next : A → Work) → Leads files (work next) (next value)
+unfolding Loads
+loads_lead files work failed value loads next = loads next
+
+-- one part after another
+pub leads_then : (files : Files) (whole middle rest : Work) → Leads files whole middle → Leads files middle rest → Leads files whole rest
+leads_then files whole middle rest first second = record {
+  same = first.same ∙ second.same;
+  reaches = λ hash h. first.reaches hash (second.reaches hash h);
+}
+
+-- what serves the rest serves the whole
+pub serves_then : (files : Files) (whole rest : Work) (failed : ℕ) (result : Result Reply Stop) → Leads files whole rest →
+    Serves files rest failed result → Serves files whole failed result
+unfolding Serves Replies
+serves_then files whole rest failed (Ok reply) leads h = (h.0, leads.same ∙ h.1)
+serves_then files whole rest failed (Err stop) leads h = ends_then files whole rest failed stop leads h
 
 module _ (files : Files) (cart_name movie_name : List ℕ) where
   -- what is left of the work once the cartridge was read

@@ -1,7 +1,7 @@
 -- What a reply and a stop say of the answer, of `out` and of `err`.
-use Rattle.std.proofs.Common.{◌≡◌, ◌≢◌, ◌≤◌, ℕ, List, length, take, Option, Some, Result, Ok, Err, OnOk, OnErr, Contains, lit<, refl, sym, ap, ◌∙◌, subst}
+use Rattle.std.proofs.Common.{◌≡◌, ◌≢◌, ◌≤◌, ℕ, List, length, take, Option, Some, Result, Ok, Err, OnOk, OnErr, Contains, inl, inr, lit<, refl, sym, ap, ◌∙◌, subst}
 use Rattle.nj_outside.specs.Told.{Files, appended, appended-nothing}
-use Rattle.nj_app.specs.Causes.{statuses, IsPlain, IsAnswered, IsCutShort, line_for}
+use Rattle.nj_app.specs.Causes.{statuses, IsCarriedOut, IsPlain, IsAnswered, IsCutShort, line_for}
 use Rattle.nj_app.specs.Refusals.{usage_line}
 use Rattle.nj_app.specs.Stops.{status_of, line_of, Ends, Serves, Replies}
 use Rattle.nj_app.specs.Work.{Work, given, Reaches, refused, done}
@@ -41,6 +41,7 @@ module _ (files : Files) (work : Work) (failed : ℕ) where
   unfolding Ends
   stop_answers stops.Usage old h reads memory = refusal_answers 3 usage_line old h
   stop_answers (stops.Cartridge line) old h reads memory = refusal_answers 4 line old h
+  stop_answers (stops.Script line) old h reads memory = refusal_answers 5 line old h
   stop_answers (stops.Movie line) old h reads memory = refusal_answers 6 line old h
   stop_answers stops.ReadFault old h reads memory = absurd (reads refl)
   stop_answers stops.NoMemory old h reads memory = absurd (memory refl)
@@ -64,6 +65,7 @@ module _ (files : Files) (work : Work) (failed : ℕ) where
   unfolding Serves Ends
   stop_reaches stops.Usage status serves is_status e = cc
   stop_reaches (stops.Cartridge line) status serves is_status e = cc
+  stop_reaches (stops.Script line) status serves is_status e = cc
   stop_reaches (stops.Movie line) status serves is_status e = cc
   stop_reaches stops.ReadFault status serves is_status e = serves
   stop_reaches stops.NoMemory status serves is_status e = cc
@@ -73,6 +75,7 @@ module _ (files : Files) (work : Work) (failed : ℕ) where
   unfolding Ends
   line_of_stop stops.Usage h = refl
   line_of_stop (stops.Cartridge line) h = rw h refl
+  line_of_stop (stops.Script line) h = rw h refl
   line_of_stop (stops.Movie line) h = rw h refl
   line_of_stop stops.ReadFault h = refl
   line_of_stop stops.NoMemory h = refl
@@ -86,9 +89,15 @@ module _ (files : Files) (work : Work) (failed : ℕ) where
 pub stop_status : (stop : Stop) (status : ℕ) → status ≡ status_of stop → Contains statuses status
 stop_status stops.Usage status e = (1, lit< tt, rw e refl)
 stop_status (stops.Cartridge line) status e = (2, lit< tt, rw e refl)
-stop_status (stops.Movie line) status e = (3, lit< tt, rw e refl)
-stop_status stops.ReadFault status e = (4, lit< tt, rw e refl)
-stop_status stops.NoMemory status e = (6, lit< tt, rw e refl)
+stop_status (stops.Script line) status e = (3, lit< tt, rw e refl)
+stop_status (stops.Movie line) status e = (4, lit< tt, rw e refl)
+stop_status stops.ReadFault status e = (5, lit< tt, rw e refl)
+stop_status stops.NoMemory status e = (7, lit< tt, rw e refl)
+
+-- the status of a command that was carried out is one of those that there are
+pub carried_out_status : (status : ℕ) → IsCarriedOut status → Contains statuses status
+carried_out_status status (inl e) = (0, lit< tt, rw e refl)
+carried_out_status status (inr e) = (8, lit< tt, rw e refl)
 
 -- what a call did where it did not fail
 pub unless_failed : {A E : Type 0} {P Q : Type 0} (result : Result A E) → OnOk result P → OnErr result Q → ¬ Q → P

@@ -1,21 +1,23 @@
 -- What the program answers, as a function of its words and of the files. Our own.
-use Rattle.std.specs.Prelude.{ℕ, List, [], ◌∷◌, Option, bytes_eq, codes, if◌then◌else◌}
+use Rattle.std.specs.Prelude.{ℕ, List, [], ◌∷◌, ◌++◌, Option, bytes_eq, codes, if◌then◌else◌}
 use Rattle.std.specs.Option.{option_map_or}
 use Rattle.nj_outside.specs.Told.{Files}
 use Rattle.nj_app.specs.Play.{play_work}
 use Rattle.nj_app.specs.Refusals.{usage_line}
-use Rattle.nj_app.specs.Words.{command_of}
+use Rattle.nj_app.specs.Replay.{replay_work}
 use Rattle.nj_app.specs.Work.{Answer, Work, Done, given, refused}
-use Rattle.nj_app.specs.declared.words.Command.{Command}
-use Rattle.nj_app.specs.declared.words.Command.TheVariants.{Play}
+use Rattle.nj_words.specs.Commands.{reading}
+use Rattle.nj_words.specs.declared.Command.{Command}
+use Rattle.nj_words.specs.declared.Command.TheVariants.{Play, Replay}
 
 -- the work of a command
 unfoldable pub work_of : Command → Work
 work_of (Play cart movie) = play_work cart movie
+work_of (Replay cart script start movie) = replay_work cart script start movie
 
 -- the work of a command line: words without a reading are refused with status 3
 unfoldable pub work_for : List (List ℕ) → Work
-work_for words = option_map_or work_of (command_of words) (Done (refused 3 usage_line))
+work_for words = option_map_or work_of (reading words) (Done (refused 3 usage_line))
 
 -- the answer to a command line over these files, if every file that it comes to is there
 abbrev pub answer : List (List ℕ) → Files → Option Answer
@@ -32,3 +34,4 @@ movie_file name = if bytes_eq name (codes "-") then [] else name ∷ []
 -- the names of a command's files
 abbrev pub file_names : Command → List (List ℕ)
 file_names (Play cart movie) = cart ∷ movie_file movie
+file_names (Replay cart script start movie) = cart ∷ script ∷ (movie_file start ++ movie_file movie)

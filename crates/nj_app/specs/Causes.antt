@@ -1,11 +1,11 @@
 -- Which statuses come, when, and what stands on `out` and `err` then. Our own.
-use Rattle.std.specs.Prelude.{◌≡◌, ◌≢◌, ℕ, ◌≤◌, ◌==◌, List, [], ◌∷◌, length, take, map, Contains, Option, Some, None, IsSomeAnd, if◌then◌else◌}
+use Rattle.std.specs.Prelude.{◌≡◌, ◌≢◌, ◌⊎◌, ℕ, ◌≤◌, ◌==◌, List, [], ◌∷◌, length, take, map, Contains, Option, Some, None, IsSomeAnd, if◌then◌else◌}
 use Rattle.nj_outside.specs.Fnv.{fnv_of}
 use Rattle.std.specs.Option.{option_map_or}
 use Rattle.nj_outside.specs.Told.{appended}
 use Rattle.nj_app.specs.Refusals.{usage_line, read_fault_line, write_fault_line, no_memory_line}
 use Rattle.nj_app.specs.Work.{Answer}
-use Rattle.nj_app.specs.declared.words.Command.{Command}
+use Rattle.nj_words.specs.declared.Command.{Command}
 use Rattle.nj_app.specs.Answer.{file_names}
 
 -- a status that tells of no fault: not a failed read, a failed write or want of memory
@@ -16,7 +16,11 @@ pub record IsPlain (status : ℕ) : Type 0 where
 
 -- the statuses that there are
 abbrev pub statuses : List ℕ
-statuses = 0 ∷ 3 ∷ 4 ∷ 6 ∷ 7 ∷ 8 ∷ 9 ∷ []
+statuses = 0 ∷ 3 ∷ 4 ∷ 5 ∷ 6 ∷ 7 ∷ 8 ∷ 9 ∷ 10 ∷ []
+
+-- the statuses of a command that was carried out: it ended well, or a replay did not end in a win
+abbrev pub IsCarriedOut : ℕ → Type 0
+IsCarriedOut status = (status ≡ 0) ⊎ (status ≡ 10)
 
 -- there is an answer, the status is its status, and its text was appended to what `out` held
 abbrev pub IsAnswered : Option Answer → ℕ → Option (List ℕ) → Option (List ℕ) → Type 0
@@ -39,6 +43,7 @@ pub record IsCutShort (answer : Option Answer) (old new : Option (List ℕ)) : T
 abbrev pub fixed_line : ℕ → Option (List ℕ)
 fixed_line status =
     if status == 0 then Some []
+    else if status == 10 then Some []
     else if status == 3 then Some usage_line
     else if status == 7 then Some read_fault_line
     else if status == 8 then Some write_fault_line

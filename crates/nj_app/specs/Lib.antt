@@ -3,6 +3,6 @@ pub mod Causes
 pub mod Loading
 pub mod Play
 pub mod Refusals
+pub mod Replay
 pub mod Stops
-pub mod Words
 pub mod Work

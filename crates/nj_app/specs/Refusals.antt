@@ -1,10 +1,14 @@
 -- The lines on `err`: `nj: ` and what stopped the command. A refusal is its number, its name and each of its fields. Our own.
-use Rattle.std.specs.Prelude.{ℕ, List, [], ◌∷◌, ◌++◌, codes}
-use Rattle.std.specs.Fmt.{decimal}
+use Rattle.std.specs.Prelude.{ℕ, nat_le, ◌&&◌, List, [], ◌∷◌, ◌++◌, map, codes, if◌then◌else◌}
+use Rattle.std.specs.Fmt.{decimal, signed_decimal}
 use Rattle.nj_ines.specs.declared.CartRefused.{CartRefused}
 use Rattle.nj_ines.specs.declared.CartRefused.TheVariants as carts
 use Rattle.nj_movie.specs.declared.MovieRefused.{MovieRefused}
 use Rattle.nj_movie.specs.declared.MovieRefused.TheVariants as movies
+use Rattle.nj_replay.specs.declared.ReplayRefused.{ReplayRefused}
+use Rattle.nj_replay.specs.declared.ReplayRefused.TheVariants as replays
+use Rattle.nj_script.specs.declared.refusal.ScriptRefused.{ScriptRefused}
+use Rattle.nj_script.specs.declared.refusal.ScriptRefused.TheVariants as scripts
 
 -- a refused cartridge; want of memory is no refusal
 unfoldable pub cart_refusal : CartRefused → List ℕ
@@ -23,6 +27,33 @@ unfoldable pub movie_refusal : MovieRefused → List ℕ
 movie_refusal (movies.Line line) = codes "1 Line line=" ++ decimal line
 movie_refusal (movies.TooManyFrames line) = codes "2 TooManyFrames line=" ++ decimal line
 movie_refusal movies.NoMemory = []
+
+-- a movie that is not a start movie and whole steps behind it; want of memory is no refusal
+unfoldable pub replay_refusal : ReplayRefused → List ℕ
+replay_refusal (replays.NotStart frame) = codes "3 NotStart frame=" ++ decimal frame
+replay_refusal (replays.NotHeld frame) = codes "4 NotHeld frame=" ++ decimal frame
+replay_refusal replays.NoMemory = []
+
+-- a byte of a text in a refusal: one from space to ~ as it is, and any other as ?
+unfoldable pub shown_byte : ℕ → ℕ
+shown_byte byte = if nat_le 32 byte && nat_le byte 126 then byte else 63
+
+-- a text in a refusal
+abbrev pub shown : List ℕ → List ℕ
+shown text = map shown_byte text
+
+-- a refused script; want of memory is no refusal
+unfoldable pub script_refusal : ScriptRefused → List ℕ
+script_refusal scripts.NotJson = codes "1 NotJson"
+script_refusal (scripts.Missing key) = codes "2 Missing key=" ++ shown key
+script_refusal (scripts.UnknownKey key) = codes "3 UnknownKey key=" ++ shown key
+script_refusal (scripts.WrongKind key) = codes "4 WrongKind key=" ++ shown key
+script_refusal (scripts.OutOfRange key value) = codes "5 OutOfRange key=" ++ (shown key ++ (codes " value=" ++ signed_decimal value))
+script_refusal (scripts.UnknownName name) = codes "6 UnknownName name=" ++ shown name
+script_refusal (scripts.TwiceNamed name) = codes "7 TwiceNamed name=" ++ shown name
+script_refusal (scripts.TooMany key limit) = codes "8 TooMany key=" ++ (shown key ++ (codes " limit=" ++ decimal limit))
+script_refusal (scripts.Version n) = codes "9 Version n=" ++ signed_decimal n
+script_refusal scripts.NoMemory = []
 
 -- a file with more bytes than its limit, by the number that its kind of file gives this refusal
 abbrev pub too_long : List ℕ → ℕ → List ℕ

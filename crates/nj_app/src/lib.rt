@@ -2,15 +2,17 @@
 //! its one line of refusal, and answers the exit status. What it answers is a function of the words and the files.
 #![tactic(auto)]
 
+mod laws;
 mod loading;
 mod playing;
 mod refusals;
+mod replaying;
 mod running;
 mod stops;
 #[cfg(test)]
 mod tests;
-mod words;
 
+pub use laws::won_text_is_a_movie;
 pub use nj_outside::{Shelf, Sink};
 pub use nj_steps::Steps;
 pub use running::run_plain;

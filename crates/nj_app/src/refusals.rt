@@ -1,8 +1,10 @@
-ghost use Rattle.std.specs.Prelude.{◌≡◌, ◌∷◌, ◌++◌, IfOk, string_bytes};
-ghost use Rattle.nj_app.specs.Refusals.{cart_refusal, movie_refusal, too_long, refusal_line};
+ghost use Rattle.std.specs.Prelude.{◌≡◌, ◌≢◌, ◌<◌, ◌∷◌, ◌++◌, map, IfOk, string_bytes};
+ghost use Rattle.nj_app.specs.Refusals.{cart_refusal, movie_refusal, replay_refusal, script_refusal, shown, shown_byte, too_long, refusal_line};
 
 use nj_ines::CartRefused;
 use nj_movie::MovieRefused;
+use nj_replay::ReplayRefused;
+use nj_script::ScriptRefused;
 use nj_seq::Text;
 use std::alloc::{AllocError, Global};
 
@@ -51,5 +53,80 @@ pub fn movie_text(alloc: Global, refused: MovieRefused) -> Result<String, AllocE
         MovieRefused::Line { line } => format!(in alloc; "1 Line line={line}"),
         MovieRefused::TooManyFrames { line } => format!(in alloc; "2 TooManyFrames line={line}"),
         MovieRefused::NoMemory => Err(AllocError),
+    }
+}
+
+/// A movie that is no start movie with whole steps behind it. Want of memory has no text and stays that.
+#[tactic(auto, unfolding(crate::specs::Refusals::replay_refusal))]
+pub fn replay_text(alloc: Global, refused: ReplayRefused) -> Result<String, AllocError>
+    ensures text { IfOk result (λ text. string_bytes text ≡ replay_refusal refused) }
+    ensures memory { IfOk result (λ _. refused ≢ ReplayRefused.NoMemory) }
+{
+    match refused {
+        ReplayRefused::NotStart { frame } => format!(in alloc; "3 NotStart frame={frame}"),
+        ReplayRefused::NotHeld { frame } => format!(in alloc; "4 NotHeld frame={frame}"),
+        ReplayRefused::NoMemory => Err(AllocError),
+    }
+}
+
+// A byte that is shown as it is, or `?`.
+#[tactic(auto, unfolding(crate::specs::Refusals::shown_byte))]
+fn shown_char(byte: u8) -> char
+    ensures value { result ≡ shown_byte byte }
+    ensures ascii { result < 128 }
+{
+    if byte >= b' ' && byte <= b'~' {
+        char::from(byte)
+    } else {
+        '?'
+    }
+}
+
+fn shown_bytes(alloc: Global, text: &[u8]) -> Result<String, AllocError>
+    ensures { IfOk result (λ told. string_bytes told ≡ shown text.now) }
+{
+    let mut told = String::new(alloc);
+    for byte in text {
+        told.push(shown_char(*byte))?;
+    }
+    Ok(told)
+}
+
+fn shown_text(alloc: Global, text: &Text) -> Result<String, AllocError>
+    ensures { IfOk result (λ told. string_bytes told ≡ shown text.now) }
+{
+    shown_bytes(alloc, text.as_bytes())
+}
+
+// A refusal with one text.
+fn with_text(alloc: Global, refusal: &str, text: &Text) -> Result<String, AllocError>
+    ensures { IfOk result (λ told. string_bytes told ≡ refusal.now ++ shown text.now) }
+{
+    let text = shown_text(alloc, text)?;
+    format!(in alloc; "{refusal}{text}")
+}
+
+/// A refused script. Want of memory has no text and stays that.
+#[tactic(auto, unfolding(crate::specs::Refusals::script_refusal))]
+pub fn script_text(alloc: Global, refused: &ScriptRefused) -> Result<String, AllocError>
+    ensures { IfOk result (λ text. string_bytes text ≡ script_refusal refused.now) }
+{
+    match refused {
+        ScriptRefused::NotJson => String::from_str(alloc, "1 NotJson"),
+        ScriptRefused::Missing { key } => with_text(alloc, "2 Missing key=", key),
+        ScriptRefused::UnknownKey { key } => with_text(alloc, "3 UnknownKey key=", key),
+        ScriptRefused::WrongKind { key } => with_text(alloc, "4 WrongKind key=", key),
+        ScriptRefused::OutOfRange { key, value } => {
+            let key = shown_text(alloc, key)?;
+            format!(in alloc; "5 OutOfRange key={key} value={value}")
+        }
+        ScriptRefused::UnknownName { name } => with_text(alloc, "6 UnknownName name=", name),
+        ScriptRefused::TwiceNamed { name } => with_text(alloc, "7 TwiceNamed name=", name),
+        ScriptRefused::TooMany { key, limit } => {
+            let key = shown_text(alloc, key)?;
+            format!(in alloc; "8 TooMany key={key} limit={limit}")
+        }
+        ScriptRefused::Version { n } => format!(in alloc; "9 Version n={n}"),
+        ScriptRefused::NoMemory => Err(AllocError),
     }
 }

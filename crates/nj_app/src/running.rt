@@ -1,20 +1,21 @@
-ghost use Rattle.std.specs.Prelude.{◌≡◌, ◌≢◌, ◌⊎◌, ◌≤◌, ◌+◌, ◌∷◌, List, ℕ, Some, None, Err, map, string_bytes, Contains, IfOk, IsErrOf};
+ghost use Rattle.std.specs.Prelude.{◌≡◌, ◌≢◌, ◌⊎◌, ◌≤◌, ◌+◌, ◌∷◌, ◌++◌, List, ℕ, Some, None, Err, map, string_bytes, Contains, IfOk, IsErrOf};
 ghost use Rattle.nj_outside.specs.Fnv.{fnv_of};
 ghost use Rattle.nj_outside.specs.Rise.{Rose};
 ghost use Rattle.nj_outside.specs.Told.{Files, appended};
 ghost use Rattle.nj_app.specs.Answer.{answer, frames_of, file_names, work_of, work_for, movie_file};
-ghost use Rattle.nj_app.specs.Causes.{statuses, IsAnswered, Settles, IsCutShort, IsOfCommand, fixed_line, line_for};
+ghost use Rattle.nj_app.specs.Causes.{statuses, IsAnswered, Settles, IsCutShort, IsCarriedOut, IsOfCommand, fixed_line, line_for};
 ghost use Rattle.nj_app.specs.Play.{play_work};
 ghost use Rattle.nj_app.specs.Stops.{Serves};
 ghost use Rattle.nj_app.specs.Work.{given, Reaches};
-ghost use Rattle.nj_app.specs.Words.{command_of};
+ghost use Rattle.nj_app.specs.Replay.{replay_work};
+ghost use Rattle.nj_words.specs.Commands.{reading};
 
-use crate::loading::{load_cart, load_movie};
-use crate::playing;
+use crate::loading::{load_cart, load_movie, load_script};
 use crate::stops::{Reply, Stop};
-use crate::words::{Command, WordsRefused, read_words};
+use crate::{playing, replaying};
 use nj_outside::{Shelf, Sink, write_all};
 use nj_steps::Steps;
+use nj_words::{Command, WordsRefused, read_words};
 use std::alloc::Global;
 use std::sync::ledger::Ledger;
 
@@ -43,12 +44,12 @@ pub fn run_plain<S: Shelf, O: Sink, E: Sink, L: Ledger>(
         result ≢ 9 → IsAnswered (answer (map string_bytes words.now) files) result (O.written out.old) (O.written out.new) }
 
     // status 3 tells that the words have no reading, and such words have it unless memory ran out
-    ensures usage { result ≡ 3 → command_of (map string_bytes words.now) ≡ None }
-    ensures unread { command_of (map string_bytes words.now) ≡ None → (result ≡ 3) ⊎ (result ≡ 9) }
+    ensures usage { result ≡ 3 → reading (map string_bytes words.now) ≡ None }
+    ensures unread { reading (map string_bytes words.now) ≡ None → (result ≡ 3) ⊎ (result ≡ 9) }
 
     // a failed read: of a file of the command, each file before which was accepted
     ensures read_fault { result ≡ 7 → Rose (S.read_faults shelf.old) (S.read_faults shelf.new) }
-    ensures read_of_command { result ≡ 7 → IsOfCommand (command_of (map string_bytes words.now)) (S.failed_read shelf.new) }
+    ensures read_of_command { result ≡ 7 → IsOfCommand (reading (map string_bytes words.now)) (S.failed_read shelf.new) }
     ensures read_in_order { (files : Files) → S.content shelf.old ≡ Some files → result ≡ 7 →
         Reaches files (work_for (map string_bytes words.now)) (S.failed_read shelf.new) }
 
@@ -57,8 +58,8 @@ pub fn run_plain<S: Shelf, O: Sink, E: Sink, L: Ledger>(
     ensures cut_short { (files : Files) → S.content shelf.old ≡ Some files → result ≡ 8 →
         IsCutShort (answer (map string_bytes words.now) files) (O.written out.old) (O.written out.new) }
 
-    // no other status but 0 writes to `out`
-    ensures silent { result ≢ 0 → result ≢ 8 → O.written out.new ≡ O.written out.old }
+    // no other status but 0, 10 and 8 writes to `out`
+    ensures silent { result ≢ 0 → result ≢ 10 → result ≢ 8 → O.written out.new ≡ O.written out.old }
 
     // the line on `err`
     ensures line { (files : Files) → S.content shelf.old ≡ Some files → ¬ Rose (E.faults err.old) (E.faults err.new) →
@@ -69,7 +70,7 @@ pub fn run_plain<S: Shelf, O: Sink, E: Sink, L: Ledger>(
     // frames are run for an answer alone
     ensures frames { (files : Files) → S.content shelf.old ≡ Some files →
         steps.new ≤ steps.old + frames_of (answer (map string_bytes words.now) files) }
-    ensures no_frames { command_of (map string_bytes words.now) ≡ None → steps.new ≡ steps.old }
+    ensures no_frames { reading (map string_bytes words.now) ≡ None → steps.new ≡ steps.old }
     ensures never_falls { steps.old ≤ steps.new }
 {
     match reply_to(alloc, words, shelf, steps) {
@@ -100,14 +101,14 @@ fn reply_to<S: Shelf, L: Ledger>(
 ) -> Result<Reply, Stop>
     ensures serves { (files : Files) → S.content shelf.old ≡ Some files →
         Serves files (work_for (map string_bytes words.now)) (S.failed_read shelf.new) result }
-    ensures done { IfOk result (λ reply. reply.status ≡ 0) }
-    ensures usage { IsErrOf result Stop.Usage → command_of (map string_bytes words.now) ≡ None }
-    ensures unread { command_of (map string_bytes words.now) ≡ None → (result ≡ Err Stop.Usage) ⊎ (result ≡ Err Stop.NoMemory) }
+    ensures done { IfOk result (λ reply. IsCarriedOut reply.status) }
+    ensures usage { IsErrOf result Stop.Usage → reading (map string_bytes words.now) ≡ None }
+    ensures unread { reading (map string_bytes words.now) ≡ None → (result ≡ Err Stop.Usage) ⊎ (result ≡ Err Stop.NoMemory) }
     ensures fault { IsErrOf result Stop.ReadFault → Rose (S.read_faults shelf.old) (S.read_faults shelf.new) }
-    ensures fault_name { IsErrOf result Stop.ReadFault → IsOfCommand (command_of (map string_bytes words.now)) (S.failed_read shelf.new) }
+    ensures fault_name { IsErrOf result Stop.ReadFault → IsOfCommand (reading (map string_bytes words.now)) (S.failed_read shelf.new) }
     ensures frames { (files : Files) → S.content shelf.old ≡ Some files →
         steps.new ≤ steps.old + frames_of (answer (map string_bytes words.now) files) }
-    ensures no_frames { command_of (map string_bytes words.now) ≡ None → steps.new ≡ steps.old }
+    ensures no_frames { reading (map string_bytes words.now) ≡ None → steps.new ≡ steps.old }
     ensures never_falls { steps.old ≤ steps.new }
     ensures content { S.content shelf.new ≡ S.content shelf.old }
 {
@@ -128,7 +129,7 @@ fn carry_out<S: Shelf, L: Ledger>(
 ) -> Result<Reply, Stop>
     ensures serves { (files : Files) → S.content shelf.old ≡ Some files →
         Serves files (work_of command.now) (S.failed_read shelf.new) result }
-    ensures done { IfOk result (λ reply. reply.status ≡ 0) }
+    ensures done { IfOk result (λ reply. IsCarriedOut reply.status) }
     ensures not_words { result ≢ Err Stop.Usage }
     ensures fault { IsErrOf result Stop.ReadFault → Rose (S.read_faults shelf.old) (S.read_faults shelf.new) }
     ensures fault_name { IsErrOf result Stop.ReadFault → Contains (map fnv_of (file_names command.now)) (S.failed_read shelf.new) }
@@ -139,6 +140,20 @@ fn carry_out<S: Shelf, L: Ledger>(
 {
     match command {
         Command::Play { cart, movie } => play(alloc, cart.as_str(), movie.as_str(), shelf, steps),
+        Command::Replay {
+            cart,
+            script,
+            start,
+            movie,
+        } => replay(
+            alloc,
+            cart.as_str(),
+            script.as_str(),
+            start.as_str(),
+            movie.as_str(),
+            shelf,
+            steps,
+        ),
     }
 }
 
@@ -165,4 +180,33 @@ fn play<S: Shelf, L: Ledger>(
     let movie = load_movie(alloc, shelf, movie)?;
     let text = playing::play(alloc, &cart, &movie, steps)?;
     Ok(Reply { status: 0, text })
+}
+
+/// The reply to `replay`.
+fn replay<S: Shelf, L: Ledger>(
+    alloc: Global,
+    cart: &str,
+    script: &str,
+    start: &str,
+    movie: &str,
+    shelf: &mut S,
+    steps: &mut Steps<L>,
+) -> Result<Reply, Stop>
+    ensures serves { (files : Files) → S.content shelf.old ≡ Some files →
+        Serves files (replay_work cart.now script.now start.now movie.now) (S.failed_read shelf.new) result }
+    ensures done { IfOk result (λ reply. IsCarriedOut reply.status) }
+    ensures not_words { result ≢ Err Stop.Usage }
+    ensures fault { IsErrOf result Stop.ReadFault → Rose (S.read_faults shelf.old) (S.read_faults shelf.new) }
+    ensures fault_name { IsErrOf result Stop.ReadFault →
+        Contains (map fnv_of (cart.now ∷ script.now ∷ (movie_file start.now ++ movie_file movie.now))) (S.failed_read shelf.new) }
+    ensures frames { (files : Files) → S.content shelf.old ≡ Some files →
+        steps.new ≤ steps.old + frames_of (given files (replay_work cart.now script.now start.now movie.now)) }
+    ensures never_falls { steps.old ≤ steps.new }
+    ensures content { S.content shelf.new ≡ S.content shelf.old }
+{
+    let cart = load_cart(alloc, shelf, cart)?;
+    let script = load_script(alloc, shelf, script)?;
+    let start = load_movie(alloc, shelf, start)?;
+    let movie = load_movie(alloc, shelf, movie)?;
+    replaying::judge(alloc, &cart, &script, &start, &movie, steps)
 }

@@ -9,6 +9,7 @@ use std::alloc::AllocError;
 pub enum Stop {
     Usage,
     Cartridge { line: Text },
+    Script { line: Text },
     Movie { line: Text },
     ReadFault,
     NoMemory,
@@ -28,6 +29,7 @@ impl Stop {
         match self {
             Stop::Usage => 3,
             Stop::Cartridge { line: _ } => 4,
+            Stop::Script { line: _ } => 5,
             Stop::Movie { line: _ } => 6,
             Stop::ReadFault => 7,
             Stop::NoMemory => 9,
@@ -41,6 +43,7 @@ impl Stop {
         match self {
             Stop::Usage => b"nj: usage\n",
             Stop::Cartridge { line } => line.as_bytes(),
+            Stop::Script { line } => line.as_bytes(),
             Stop::Movie { line } => line.as_bytes(),
             Stop::ReadFault => b"nj: read fault\n",
             Stop::NoMemory => b"nj: no memory\n",

@@ -8,13 +8,31 @@ use std::marker::Brand;
 use std::sync::ledger::{Blank, Ledger};
 use std::test::Fail;
 
-// A cartridge of 16 KiB and 8 KiB whose program begins with the code, at the reset vector $8000.
-fn cartridge(alloc: Global, code: &[u8]) -> Result<Vec<u8>, AllocError> {
+// Lets NMIs come. Each counts at $11, reads the eight buttons, and counts at $10 where Right is held.
+const WALK: [u8; 36] = [
+    0x78, 0xA9, 0x80, 0x8D, 0x00, 0x20, 0x4C, 0x06, 0x80, 0xE6, 0x11, 0xA9, 0x01, 0x8D, 0x16, 0x40,
+    0xA9, 0x00, 0x8D, 0x16, 0x40, 0xA2, 0x08, 0xAD, 0x16, 0x40, 0xCA, 0xD0, 0xFA, 0x29, 0x01, 0xF0,
+    0x02, 0xE6, 0x10, 0x40,
+];
+
+// A point for each count at $10, and 100 more once it is 5, which wins.
+const GOAL: &str = r#"{"version":1,
+"properties":[{"name":"x","at":16,"kind":"u8"},{"name":"t","at":17,"kind":"u8"}],
+"hash":["x"],
+"inputs":[{"pads":["........","...R...."]}],
+"rules":[{"name":"go","weights":[{"property":"x","weight":1}]},
+{"name":"goal","when":[{"property":"x","op":"==","value":5}],"win":true,"reward":100}]}"#;
+
+// Three frames without a button.
+const START: &str = "|..|........|\n|..|........|\n|..|........|\n";
+
+// A cartridge of 16 KiB and 8 KiB whose program begins with the code, at the reset vector $8000; the NMI's is $80nn.
+fn cartridge(alloc: Global, code: &[u8], nmi: u8) -> Result<Vec<u8>, AllocError> {
     let mut file = Vec::from_slice(alloc, b"NES\x1A\x01\x01")?;
     file.resize(16, 0)?;
     file.extend_from_slice(code)?;
     file.resize(16 + 0x3FFA, 0)?;
-    file.extend_from_slice(&[0, 0x80, 0, 0x80, 0, 0x80])?;
+    file.extend_from_slice(&[nmi, 0x80, 0, 0x80, 0, 0x80])?;
     file.resize(24_592, 0)?;
     Ok(file)
 }
@@ -23,16 +41,20 @@ fn named(alloc: Global, name: &str, bytes: Vec<u8>) -> Result<(String, Vec<u8>),
     Ok((String::from_str(alloc, name)?, bytes))
 }
 
-// `count` counts turns of its loop at $10, `jam` jams at once, `short` ends inside its header.
+// `count` counts turns of its loop at $10, `jam` jams at once, `short` ends inside its header, `walk` is moved by Right,
+// and `goal` is its script.
 fn shelf_with(alloc: Global, movie: &[u8], failing: &[u64]) -> Result<MemShelf, AllocError> {
     let mut files = Vec::new(alloc);
-    let count = cartridge(alloc, &[0xE6, 0x10, 0x4C, 0x00, 0x80])?;
+    let count = cartridge(alloc, &[0xE6, 0x10, 0x4C, 0x00, 0x80], 0)?;
     let mut short = count.clone()?;
     short.truncate(15);
-    let jam = cartridge(alloc, &[0x02, 0x10, 0x4C, 0x00, 0x80])?;
+    let jam = cartridge(alloc, &[0x02, 0x10, 0x4C, 0x00, 0x80], 0)?;
     files.push(named(alloc, "count", count)?)?;
     files.push(named(alloc, "short", short)?)?;
     files.push(named(alloc, "jam", jam)?)?;
+    files.push(named(alloc, "walk", cartridge(alloc, &WALK, 0x09)?)?)?;
+    files.push(named(alloc, "goal", Vec::from_slice(alloc, GOAL.as_bytes())?)?)?;
+    files.push(named(alloc, "start", Vec::from_slice(alloc, START.as_bytes())?)?)?;
     files.push(named(alloc, "movie", Vec::from_slice(alloc, movie)?)?)?;
     Ok(MemShelf::new(alloc, files, Vec::from_slice(alloc, failing)?, 10_000))
 }
@@ -131,6 +153,56 @@ fn plays_and_refuses(rt: HostRuntime) -> Result<(), Fail> {
         ),
         ("play none movie", "", 7, "", "nj: read fault\n"),
         ("play count none", "", 7, "", "nj: read fault\n"),
+        (
+            "play count movie",
+            "# x\r\n|..|........|\r\n|..|...R....|",
+            0,
+            "# play frames=2 state=run\n0010 EB\n",
+            "",
+        ),
+        (
+            "replay walk goal start movie",
+            "|..|........|\n|..|........|\n|..|........|\n|..|...R....|\n|..|...R....|\n|..|...R....|\n|..|...R....|\n|..|...R....|\n",
+            0,
+            "# won step=5 frames=8 reward=105\n",
+            "",
+        ),
+        (
+            "replay walk goal start movie",
+            "# won\n|..|........|\n|..|........|\n|..|........|\n|..|...R....|\n|..|...R....|\n|..|...R....|\n|..|...R....|\n",
+            10,
+            "# notwon step=4 frames=7 reward=4\n",
+            "",
+        ),
+        (
+            "replay walk goal start movie",
+            "|..|........|\n|..|........|\n",
+            6,
+            "",
+            "nj: movie 3 NotStart frame=2\n",
+        ),
+        (
+            "replay walk movie start -",
+            "",
+            5,
+            "",
+            "nj: script 1 NotJson\n",
+        ),
+        (
+            "replay walk movie start -",
+            "{\"version\":3}",
+            5,
+            "",
+            "nj: script 9 Version n=3\n",
+        ),
+        (
+            "replay walk movie start -",
+            "{\"version\":1,\"\\u00e9\":2}",
+            5,
+            "",
+            "nj: script 3 UnknownKey key=??\n",
+        ),
+        ("replay walk goal start", "", 3, "", "nj: usage\n"),
     ] {
         let (answered, wrote, told) = outcome(rt.alloc(), line, movie, (&[], &[], &[]))?;
         assert_eq!(rt; answered, status, "{line}");

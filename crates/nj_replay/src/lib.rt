@@ -4,6 +4,7 @@
 ghost use Rattle.std.specs.Prelude.{◌≡◌, ◌≤◌, ◌+◌, ◌^◌, ◌⊎◌, length, MatchResult, Ok, Err};
 ghost use Rattle.nj_game.specs.Plan.{plan_of};
 ghost use Rattle.nj_replay.specs.Replay.{replay_of};
+ghost use Rattle.nj_replay.specs.declared.ReplayRefused.{ReplayRefused};
 
 mod laws;
 mod reading;
@@ -58,7 +59,7 @@ impl From<AllocError> for ReplayRefused {
 }
 
 /// What a movie comes to that begins as the start movie and holds each pad behind it for a step: the rules judge the state
-/// at the end of the start, and of each step.
+/// at the end of the start, and of each step. A movie that is refused runs no frame.
 pub fn replay<L: Ledger>(
     alloc: Global,
     cart: &Cart,
@@ -71,6 +72,7 @@ pub fn replay<L: Ledger>(
     ensures answer { MatchResult result (λ replayed. replay_of (plan_of cart.now script.now start.now) movie.now ≡ Ok replayed) (λ refused. (refused ≡ ReplayRefused.NoMemory) ⊎ (replay_of (plan_of cart.now script.now start.now) movie.now ≡ Err refused)) }
     ensures frames { steps.new ≤ steps.old + length movie.now }
     ensures never_falls { steps.old ≤ steps.new }
+    ensures refused { (refused : ReplayRefused) → replay_of (plan_of cart.now script.now start.now) movie.now ≡ Err refused → steps.new ≡ steps.old }
 {
     let hold = script.hold();
     let behind = read_word(hold, start.pads(), movie.pads())?;

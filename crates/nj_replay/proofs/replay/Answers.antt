@@ -1,10 +1,18 @@
-use Rattle.std.proofs.Common.{◌≡◌, ◌≤◌, Ok, Err, length, inr, sym, ◌∙◌, ap, arith}
+use Rattle.std.proofs.Common.{◌≡◌, ◌≤◌, ℕ, List, Ok, Err, length, inr, sym, ◌∙◌, ap, arith}
 use Rattle.std.proofs.lemmas.Result.{err_from_is_err_and}
-use Rattle.nj_game.specs.Plan.{plan_of}
+use Rattle.nj_search_defs.specs.Game.{Word}
+use Rattle.nj_game.specs.Plan.{Plan, plan_of}
 use Rattle.nj_replay.specs.Reading.{word_of, first_pads}
-use Rattle.nj_replay.specs.Replay.{IsAfter}
+use Rattle.nj_replay.specs.declared.ReplayRefused.{ReplayRefused}
+use Rattle.nj_replay.specs.Replay.{replay_of, told_of, IsAfter}
 use Rattle.nj_replay.proofs.Standing.{word_at, told, refused}
 use Rattle.nj_replay.proofs.replay.Goals as goal
+
+-- a movie that is a word's is not refused
+not_refused : (plan : Plan) (movie : List ℕ) (word : Word) (e : ReplayRefused) →
+    word_of plan.script.hold plan.start movie ≡ Ok word → replay_of plan movie ≡ Err e → ⊥
+unfolding replay_of
+not_refused plan movie word e read h = let is : told_of plan (Ok word) ≡ Err e = sym (ap (told_of plan) read) ∙ h in cc
 
 pub returns-in_err-behind-clause-answer : goal.returns-in_err-behind-clause-answer
 returns-in_err-behind-clause-answer g c =
@@ -29,3 +37,15 @@ returns-clause-answer g c =
     told plan c.args.movie.now word c.follow-step.new.self.judged c.follow-step.result _ some read c.follow-step.ensures.count
     (ap length c.pads-3.ensures.pads) ended.judged_is
     ∙ ap Ok (sym c.replayed.ensures)
+
+pub returns-in_err-run-clause-refused : goal.returns-in_err-run-clause-refused
+returns-in_err-run-clause-refused g c = λ e h.
+    let plan = plan_of c.args.cart.now c.args.script.now c.args.start.now in
+    absurd (not_refused plan c.args.movie.now _ e
+    (word_at c.hold-hold.ensures.value c.pads.ensures.pads c.pads-2.ensures.pads ∙ c.in_ok-behind.ensures.word) h)
+
+pub returns-clause-refused : goal.returns-clause-refused
+returns-clause-refused g c = λ e h.
+    let plan = plan_of c.args.cart.now c.args.script.now c.args.start.now in
+    absurd (not_refused plan c.args.movie.now _ e
+    (word_at c.hold-hold.ensures.value c.pads.ensures.pads c.pads-2.ensures.pads ∙ c.in_ok-behind.ensures.word) h)

@@ -33,7 +33,7 @@ pub returns-in-Ok-clause-loads : goal.returns-in-Ok-clause-loads
 returns-in-Ok-clause-loads g c = λ files told.
     loads_read files _ movie_reading 6 (codes "movie") c.args.name.now (λ line. Movie line) (with_movie c.args.name.now)
     (movie_kind files _ c.args.name.now (sym c.if-eq.ensures)) c.in-Ok.bytes.items c.read_pads.result (c.in-Ok.ensures.whole files told)
-    (rw c.deref.ensures.value at c.read_pads.ensures)
+    (rw c.deref.ensures.value at c.read_pads.ensures.reads)
 
 pub returns-in-Err-clause-loads : goal.returns-in-Err-clause-loads
 returns-in-Err-clause-loads g c = λ files told.

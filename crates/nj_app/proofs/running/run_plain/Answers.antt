@@ -1,11 +1,11 @@
 -- A reply is written, and a stop has its line.
 use Rattle.std.proofs.Common.{Err, refl, lit<, ap, ◌∙◌}
 use Rattle.nj_outside.specs.Told.{appended}
-use Rattle.nj_app.proofs.Statuses.{stop_status, reply_answers, reply_cut_short, stop_settles, stop_completes, stop_reaches, stop_line, unless_failed}
+use Rattle.nj_app.proofs.Statuses.{carried_out_status, stop_status, reply_answers, reply_cut_short, stop_settles, stop_completes, stop_reaches, stop_line, unless_failed}
 use Rattle.nj_app.proofs.running.run_plain.Goals as goal
 
 pub returns-in-Ok-write_all-clause-known : goal.returns-in-Ok-write_all-clause-known
-returns-in-Ok-write_all-clause-known g c = (0, lit< tt, rw c.in-Ok.ensures.done refl)
+returns-in-Ok-write_all-clause-known g c = carried_out_status c.in-Ok.reply.status c.in-Ok.ensures.done
 
 pub returns-clause-known : goal.returns-clause-known
 returns-clause-known g c = stop_status c.in-Err.stop c.status.result c.status.ensures
@@ -56,4 +56,4 @@ returns-clause-line g c = λ files told never.
     (stop_line files _ _ c.in-Err.stop c.status.result c.line.result.now (c.in-Err.ensures.serves files told) c.status.ensures c.line.ensures)
 
 pub returns-in-Ok-clause-known : goal.returns-in-Ok-clause-known
-returns-in-Ok-clause-known g c = (5, lit< tt, refl)
+returns-in-Ok-clause-known g c = (6, lit< tt, refl)
