@@ -1,6 +1,5 @@
 -- The words of a trail, from its last step back to its first words.
-use Rattle.std.proofs.Common.{◌≡◌, ℕ, zero, suc, ◌+◌, ◌<◌, ◌≤◌, List, [], ◌∷◌, ◌++◌, length, take, map, reverse, get_or, refl, sym, ap, ◌∙◌, subst, arith, Bool, true, false, ◌-◌, if◌then◌else◌}
-use Rattle.std.specs.List.{All}
+use Rattle.std.proofs.Common.{◌≡◌, ℕ, zero, suc, ◌+◌, ◌<◌, ◌≤◌, List, [], ◌∷◌, ◌++◌, length, take, reverse, get_or, refl, sym, ap, ◌∙◌, subst, arith, Bool, true, false, ◌-◌, if◌then◌else◌}
 use Rattle.std.proofs.lemmas.List.{take_more, take_all, append-nil, append_assoc, length-map, reverse-append, length_push, get_or_default}
 use Rattle.std.proofs.lemmas.List.Elements.{All-get_or}
 use Rattle.nj_pool.specs.declared.birth.Birth.{Birth}

@@ -1,5 +1,5 @@
 -- A pool of states: their images, their words or births, and what they need of the limit. The form is our own.
-use Rattle.std.specs.Prelude.{◌≡◌, ℕ, ◌+◌, ◌<◌, ◌≤◌, List, [], ◌∷◌, ◌++◌, length, sum_by}
+use Rattle.std.specs.Prelude.{◌≡◌, ℕ, ◌+◌, ◌≤◌, List, [], ◌∷◌, ◌++◌, length, sum_by}
 use Rattle.std.specs.List.{All}
 use Rattle.nj_pool.specs.declared.birth.Birth.{Birth}
 use Rattle.nj_pool.specs.Words.{child_words}
@@ -22,6 +22,7 @@ need image = length image + 16
 abbrev pub bytes_held : Front → ℕ
 bytes_held pool = sum_by need pool.images
 
+-- a pool of no states
 abbrev pub empty_front : ℕ → ℕ → Front
 empty_front size limit = record { size = size; limit = limit; images = []; words = []; depth = 0; born = [] }
 

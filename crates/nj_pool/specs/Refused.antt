@@ -2,7 +2,7 @@
 use Rattle.std.specs.Prelude.{◌≡◌, ℕ, ◌+◌, ◌<◌, ◌≤◌, List}
 use Rattle.nj_pool.specs.declared.refused.PushRefused.{PushRefused}
 use Rattle.nj_pool.specs.declared.refused.PushRefused.TheVariants.{PoolFull, NoMemory}
-use Rattle.nj_pool.specs.Front.{Front, need, bytes_held, HasRoom}
+use Rattle.nj_pool.specs.Front.{Front, need, bytes_held}
 
 -- for want of room: it tells the bytes held and the limit; for want of memory only where there is room
 abbrev pub RefusesBy : ℕ → ℕ → ℕ → PushRefused → Type 0

@@ -169,31 +169,48 @@ mod tests {
     use super::*;
     use std::test::Fail;
 
+    // A pool of one state with its word.
+    fn one_word(alloc: Global) -> Result<FrontPool, PushRefused>
+        ensures { IfOk result (λ pool. (length pool.images ≡ 1) × (length pool.words ≡ 1) × (pool.size ≡ 2)) }
+    {
+        let mut pool = FrontPool::new(alloc, &[8, 9], 20)?;
+        pool.push_word(alloc, &[8, 9], &[4])?;
+        Ok(pool)
+    }
+
+    // A pool of one state that was born of the first.
+    fn one_birth(alloc: Global) -> Result<FrontPool, PushRefused>
+        ensures { IfOk result (λ pool. pool.born ≡ record { parent = 0; pad = 128 } ∷ []) }
+    {
+        let mut pool = FrontPool::new(alloc, &[8, 9], 18)?;
+        pool.push(alloc, &[1, 2], 0, Pad(128))?;
+        Ok(pool)
+    }
+
     #[test]
-    fn words_go_back_over_two_steps(rt: HostRuntime) -> Result<(), Fail> {
-        let image = [8, 9, 10];
-        let mut front = FrontPool::new(rt.alloc(), &image, 40)?;
-        assert!(rt; front.push_word(rt.alloc(), &image, &[4]).is_ok());
-        assert!(rt; front.push_word(rt.alloc(), &[1, 2, 3], &[5]).is_ok());
-        assert_eq!(rt; front.bytes(), 38);
+    fn a_state_is_held(rt: HostRuntime) -> Result<(), Fail> {
+        let mut pool = one_word(rt.alloc())?;
+        let mut into = [0; 2];
+        pool.load(0, &mut into);
+        assert_eq!(rt; into, [8, 9]);
+        assert_eq!(rt; pool.len(), 1);
         let full = PushRefused::PoolFull {
-            bytes: 38,
-            limit: 40,
+            bytes: 18,
+            limit: 20,
         };
-        assert_eq!(rt; front.push(rt.alloc(), &image, 0, Pad(1)), Err(full));
-        for parent in [1u32, 0] {
-            let mut next = FrontPool::new(rt.alloc(), &image, 19)?;
-            assert!(rt; next.push(rt.alloc(), &[7, 7, 7], parent, Pad(128)).is_ok());
-            front.next_front(next)?;
-        }
-        assert_eq!(rt; front.len(), 1);
+        assert_eq!(rt; pool.push(rt.alloc(), &[1, 2], 0, Pad(1)), Err(full));
+        Ok(())
+    }
+
+    #[test]
+    fn a_word_grows_by_its_pad(rt: HostRuntime) -> Result<(), Fail> {
+        let mut front = one_word(rt.alloc())?;
+        front.next_front(one_birth(rt.alloc())?)?;
         assert_eq!(rt;
             front.word_of(rt.alloc(), 0)?.as_slice(),
-            [5, 128, 128].as_slice()
+            [4, 128].as_slice()
         );
-        let mut into = [0; 3];
-        front.load(0, &mut into);
-        assert_eq!(rt; into.as_slice(), [7, 7, 7].as_slice());
+        assert_eq!(rt; front.bytes(), 18);
         Ok(())
     }
 }

@@ -1,5 +1,5 @@
 -- A walk goes from a place to its parent's.
-use Rattle.std.proofs.Common.{◌≡◌, ◌-◌, ◌<◌, get_or, length, arith, subst, sym}
+use Rattle.std.proofs.Common.{◌<◌, length, arith, subst, sym}
 use Rattle.nj_pool.proofs.Trails.{birth_before, last_step, read_before}
 use Rattle.nj_pool.proofs.trail.walk_back.Goals as goal
 
