@@ -1,0 +1,49 @@
+-- A pool of states: their images, their words or births, and what they need of the limit. The form is our own.
+use Rattle.std.specs.Prelude.{◌≡◌, ℕ, ◌+◌, ◌≤◌, List, [], ◌∷◌, ◌++◌, length, sum_by}
+use Rattle.std.specs.List.{All}
+use Rattle.nj_pool.specs.declared.birth.Birth.{Birth}
+use Rattle.nj_pool.specs.Words.{child_words}
+
+-- a pool: the bytes of an image, the limit of the bytes held, the images, the words of a front, the number of
+-- steps that made them from whole words, and the births of a front to come
+pub record Front : Type 0 where
+  pub size : ℕ
+  pub limit : ℕ
+  pub images : List (List ℕ)
+  pub words : List (List ℕ)
+  pub depth : ℕ
+  pub born : List Birth
+
+-- what a state needs: the bytes of its image and 16 for its place in the trail
+abbrev pub need : List ℕ → ℕ
+need image = length image + 16
+
+-- the bytes that are held: the sum of the needs
+abbrev pub bytes_held : Front → ℕ
+bytes_held pool = sum_by need pool.images
+
+-- a pool of no states
+abbrev pub empty_front : ℕ → ℕ → Front
+empty_front size limit = record { size = size; limit = limit; images = []; words = []; depth = 0; born = [] }
+
+-- a pool with one state more, with its whole word
+abbrev pub with_word : List ℕ → List ℕ → Front → Front
+with_word image word pool = record pool { images = pool.images ++ image ∷ []; words = pool.words ++ word ∷ [] }
+
+-- a pool with one state more, born of a state of the front before
+abbrev pub with_birth : List ℕ → Birth → Front → Front
+with_birth image birth pool = record pool { images = pool.images ++ image ∷ []; born = pool.born ++ birth ∷ [] }
+
+-- the states of another pool, born of this front, as the front: each word is its parent's word and its pad
+abbrev pub next_front : Front → Front → Front
+next_front pool other = record other { words = child_words pool.words other.born; depth = pool.depth + 1; born = [] }
+
+-- a state with this image has room
+abbrev pub HasRoom : List ℕ → Front → Type 0
+HasRoom image pool = bytes_held pool + need image ≤ pool.limit
+
+-- what a pool's type keeps: all images are equally long, the counted bytes are those held, and within the limit
+pub record IsCounted (size limit bytes : ℕ) (images : List (List ℕ)) : Type 0 where
+  pub long : All (λ image. length image ≡ size) images
+  pub counted : bytes ≡ sum_by need images
+  pub within : bytes ≤ limit
