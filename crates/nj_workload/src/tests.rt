@@ -10,8 +10,9 @@ fn the_workload_of_0(rt: HostRuntime) -> Result<(), Fail> {
     let made = make_workload(rt.alloc(), 0)?;
     assert_eq!(rt; made.cart.len(), 24_592);
     assert_eq!(rt; *made.cart.at(272), 0x14);
-    assert_eq!(rt; *made.cart.at(528), 65);
-    assert_eq!(rt; *made.cart.at(783), 98);
+    assert_eq!(rt; *made.cart.at(527), 65);
+    assert_eq!(rt; *made.cart.at(528), 98);
+    assert_eq!(rt; *made.cart.at(783), 112);
     assert_eq!(rt; made.script.as_str(), SCRIPT_OF_0);
     assert_eq!(rt; made.start.len(), 2800);
     Ok(())
