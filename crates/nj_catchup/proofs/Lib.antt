@@ -1,0 +1,4 @@
+pub mod Sums
+pub mod Calm
+pub mod Ahead
+pub mod Idling
