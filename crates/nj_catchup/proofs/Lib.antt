@@ -2,3 +2,4 @@ pub mod Sums
 pub mod Calm
 pub mod Ahead
 pub mod Idling
+pub mod Marks

@@ -14,7 +14,7 @@ pub fn position_ahead(screen: &Screen, dots: u32) -> Position
     ensures { (p : List ℕ) → result ≡ (after_dots dots p screen.now).position }
 {
     let place = u32::from(screen.position.line) * 341 + u32::from(screen.position.dot);
-    let ahead = place_ahead(dots, place, screen.odd_frame && screen.is_rendering());
+    let ahead = place_ahead(dots, place, skips_dot(screen));
     Position {
         line: (ahead / 341) as u16,
         dot: (ahead % 341) as u16,
@@ -46,4 +46,11 @@ fn frame_dots(place: u32, skips: bool) -> u32
     } else {
         89342
     }
+}
+
+// The frame leaves its last dot out.
+fn skips_dot(screen: &Screen) -> bool
+    ensures { result ≡ (screen.now.odd_frame && is_rendering screen.now.mask) }
+{
+    screen.odd_frame && screen.is_rendering()
 }
