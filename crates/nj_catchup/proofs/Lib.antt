@@ -3,3 +3,4 @@ pub mod Calm
 pub mod Ahead
 pub mod Idling
 pub mod Marks
+pub mod Settled

@@ -23,3 +23,6 @@ dots-none p s = refl
 pub dots-one : (p : List ℕ) (s : Screen) → after_dots 1 p s ≡ dot_of p s
 unfolding after_dots
 dots-one p s = refl
+
+pub dots-zero : (n : ℕ) (p : List ℕ) (s : Screen) → n ≡ 0 → after_dots n p s ≡ s
+dots-zero n p s none = ap (λ k. after_dots k p s) none ∙ dots-none p s

@@ -26,7 +26,8 @@ pub fn position_ahead(screen: &Screen, dots: u32) -> Position
 fn place_ahead(dots: u32, place: u32, skips: bool) -> u32
     requires dots { dots ≤ 89342 }
     requires place { place < 89342 }
-    ensures { result ≡ place_ahead dots place skips }
+    ensures place { result ≡ place_ahead dots place skips }
+    ensures within { result ≤ 178684 }
 {
     let frame = frame_dots(place, skips);
     if place + dots < frame {
