@@ -1,10 +1,10 @@
 -- Where the picture is after some dots before the next event.
-use Rattle.std.proofs.Common.{◌≡◌, ◌≢◌, ℕ, zero, suc, ◌+◌, ◌-◌, ◌*◌, ◌/◌, ◌%◌, ◌<◌, ◌≤◌, Bool, true, false, ◌&&◌, if◌then◌else◌, nat_le, nat_lt, List, refl, ap, sym, ◌∙◌, arith, inl, inr, ◌⊎◌}
+use Rattle.std.proofs.Common.{◌≡◌, ℕ, zero, suc, ◌+◌, ◌/◌, ◌%◌, ◌<◌, ◌≤◌, Bool, true, false, ◌&&◌, List, refl, ap, sym, ◌∙◌, arith, inl, inr, ◌⊎◌}
 use Rattle.std.proofs.lemmas.Bool.{cases_Bool, true≢false, cases_eq, cases_lt}
 use Rattle.std.proofs.lemmas.Bool.Decides.{nat_tests}
 use Rattle.nj_dots.specs.declared.position.Position.{Position}
 use Rattle.nj_dots.specs.declared.screen.Screen.{Screen}
-use Rattle.nj_dots.specs.Screen.{IsPlaced, IsScreen, is_rendering}
+use Rattle.nj_dots.specs.Screen.{IsScreen, is_rendering}
 use Rattle.nj_dots.specs.Dots.{is_last_dot, dot_of, after_dots, to_event}
 use Rattle.nj_catchup.specs.Place.{frame_dots, place_ahead}
 use Rattle.nj_dots.proofs.Kept.{after_dots-fits}

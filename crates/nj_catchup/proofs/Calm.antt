@@ -1,13 +1,12 @@
 -- What dots before an event leave as it is: vertical blank, hold, end mark, registers and memories.
-use Rattle.std.proofs.Common.{◌≡◌, ℕ, zero, suc, ◌+◌, ◌<◌, Bool, true, false, List, refl, ap, sym, ◌∙◌, arith, inl, inr}
+use Rattle.std.proofs.Common.{◌≡◌, ℕ, zero, suc, ◌+◌, ◌<◌, false, List, refl, ap, sym, ◌∙◌, arith, inl, inr}
 use Rattle.nj_dots.specs.declared.screen.Screen.{Screen}
 use Rattle.nj_dots.specs.Screen.{IsScreen, is_next, nmi_line_of}
-use Rattle.nj_dots.specs.Dots.{raised, blank_begun, blank_ended, flagged, drawn, moved, dot_of, after_dots, to_event}
-use Rattle.nj_dots.specs.Laws.{IsEvent, IsNext}
+use Rattle.nj_dots.specs.Dots.{raised, flagged, drawn, dot_of, after_dots, to_event}
+use Rattle.nj_dots.specs.Laws.{IsEvent}
 use Rattle.nj_dots.proofs.Stays.{Stays, stays-drawn}
 use Rattle.nj_dots.proofs.Timing.{Moves, moves-moved}
 use Rattle.nj_dots.proofs.Moving.{if-false, not-next}
-use Rattle.nj_dots.proofs.Kept.{after_dots-fits}
 use Rattle.nj_dots.proofs.Events.{event-one, to_event-after}
 
 -- the first picture with what such dots may change, taken from the second

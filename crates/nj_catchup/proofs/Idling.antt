@@ -1,12 +1,11 @@
 -- Idle dots move the position alone.
-use Rattle.std.proofs.Common.{◌≡◌, ◌≢◌, ℕ, zero, suc, ◌+◌, ◌<◌, ◌≤◌, Bool, true, false, not, ◌&&◌, ◌||◌, ◌==◌, if◌then◌else◌, nat_le, nat_lt, List, refl, ap, sym, ◌∙◌, arith, inl, inr}
-use Rattle.std.proofs.lemmas.Bool.{cases_Bool, true≢false}
+use Rattle.std.proofs.Common.{◌≡◌, ℕ, zero, suc, ◌+◌, ◌<◌, ◌≤◌, Bool, true, false, ◌&&◌, ◌||◌, ◌==◌, if◌then◌else◌, nat_le, List, refl, ap, sym, ◌∙◌, arith, inl, inr}
+use Rattle.std.proofs.lemmas.Bool.{cases_Bool}
 use Rattle.std.proofs.lemmas.Bool.Decides.{nat_tests}
 use Rattle.nj_dots.specs.declared.scroll.Scroll.{Scroll}
 use Rattle.nj_dots.specs.declared.position.Position.{Position}
 use Rattle.nj_dots.specs.declared.screen.Screen.{Screen}
 use Rattle.nj_dots.specs.Screen.{is_next, is_rendering}
-use Rattle.nj_dots.specs.Scroll.{with_vertical}
 use Rattle.nj_dots.specs.Dots.{raised, flagged, is_drawn_line, vertical_copied, sprites_fetched, shown, hidden, drawn, is_last_dot, after_position, advanced, moved, dot_of, after_dots}
 use Rattle.nj_dots.proofs.Moving.{if-true, if-false}
 use Rattle.nj_catchup.specs.Idle.{is_idle_shown, is_idle_hidden, is_idle, is_cleared, at_dot}

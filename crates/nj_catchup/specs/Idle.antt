@@ -1,6 +1,6 @@
 -- Which dots do nothing but move the position on (NESdev Wiki, "PPU rendering", read for what is left of a dot when
 -- nothing is drawn; the words are this project's own).
-use Rattle.std.specs.Prelude.{ℕ, zero, suc, ◌+◌, Bool, not, ◌&&◌, ◌||◌, ◌==◌, nat_le, nat_lt, if◌then◌else◌}
+use Rattle.std.specs.Prelude.{ℕ, Bool, not, ◌&&◌, ◌||◌, ◌==◌, nat_le, nat_lt, if◌then◌else◌}
 use Rattle.nj_dots.specs.declared.screen.Screen.{Screen}
 
 -- with rendering on: the fetches of sprites once the OAM address is clear, and the fetches between two tiles of the

@@ -109,3 +109,6 @@ impl Picture for CatchUp {
 
     ghost fits = { λ s p. after_dots-fits s.pending p s.screen s.fits };
 }
+
+#[cfg(test)]
+mod tests;

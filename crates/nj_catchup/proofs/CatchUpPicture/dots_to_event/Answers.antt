@@ -1,5 +1,5 @@
 -- The pending dots are before the event.
-use Rattle.std.proofs.Common.{◌≡◌, ℕ, ◌+◌, List, arith}
+use Rattle.std.proofs.Common.{◌≡◌, ◌+◌, arith}
 use Rattle.nj_dots.specs.Dots.{after_dots, to_event}
 use Rattle.nj_dots.proofs.Events.{to_event-after}
 use Rattle.nj_catchup.proofs.CatchUpPicture.dots_to_event.Goals as goal

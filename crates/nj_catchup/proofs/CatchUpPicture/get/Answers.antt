@@ -1,5 +1,5 @@
 -- No dot changes the mirroring, and then none is pending.
-use Rattle.std.proofs.Common.{◌≡◌, ℕ, refl, sym, ◌∙◌}
+use Rattle.std.proofs.Common.{refl, ◌∙◌}
 use Rattle.nj_dots.proofs.Mirroring.{after_dots-vertical}
 use Rattle.nj_dots.proofs.Events.{to_event-positive}
 use Rattle.nj_catchup.proofs.Sums.{dots-none}

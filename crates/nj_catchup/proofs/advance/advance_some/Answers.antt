@@ -1,10 +1,7 @@
 -- Dots keep the ranges, and one dot is a dot.
-use Rattle.std.proofs.Common.{◌≡◌, ◌≤◌, ◌+◌, ap, sym, ◌∙◌, subst, arith}
-use Rattle.nj_dots.specs.declared.screen.Screen.{Screen}
+use Rattle.std.proofs.Common.{◌≤◌, sym, ◌∙◌, subst, arith}
 use Rattle.nj_dots.specs.Screen.{IsScreen}
-use Rattle.nj_dots.specs.Dots.{after_dots}
 use Rattle.nj_dots.proofs.Kept.{after_dots-fits}
-use Rattle.nj_catchup.specs.Idle.{at_dot}
 use Rattle.nj_catchup.proofs.Sums.{dots-one}
 use Rattle.nj_catchup.proofs.advance.advance_some.Goals as goal
 use Rattle.nj_catchup.proofs.advance.advance_some.Goals.{then-from-left, else-from-left}

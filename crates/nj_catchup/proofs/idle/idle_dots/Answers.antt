@@ -1,6 +1,5 @@
 -- Each of these dots is idle.
-use Rattle.std.proofs.Common.{◌≡◌, ◌≤◌, ℕ, ◌+◌, ◌<◌, true, List, ap, sym, ◌∙◌, arith}
-use Rattle.nj_dots.specs.declared.screen.Screen.{Screen}
+use Rattle.std.proofs.Common.{◌≡◌, ◌≤◌, ℕ, ◌+◌, ◌<◌, true, ap, sym, ◌∙◌, arith}
 use Rattle.nj_dots.specs.Screen.{is_rendering}
 use Rattle.nj_dots.specs.Dots.{after_dots, is_drawn_line}
 use Rattle.nj_catchup.specs.Idle.{at_dot, is_cleared, is_idle}

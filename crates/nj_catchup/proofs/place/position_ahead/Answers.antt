@@ -1,5 +1,5 @@
 -- The place is that of the picture after the dots.
-use Rattle.std.proofs.Common.{◌≡◌, ℕ, ◌+◌, ◌*◌, ◌/◌, ◌%◌, ap, ◌∙◌, arith}
+use Rattle.std.proofs.Common.{◌≡◌, ◌+◌, ◌*◌, ◌/◌, ◌%◌, ap, ◌∙◌, arith}
 use Rattle.nj_dots.specs.declared.position.Position.{Position}
 use Rattle.nj_dots.proofs.Moving.{place_of}
 use Rattle.nj_catchup.specs.Place.{place_ahead}
