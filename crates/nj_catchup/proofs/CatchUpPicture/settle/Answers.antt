@@ -1,0 +1,8 @@
+-- The pending dots have run.
+use Rattle.std.proofs.Common.{◌∙◌}
+use Rattle.nj_catchup.proofs.Sums.{dots-zero}
+use Rattle.nj_catchup.proofs.CatchUpPicture.settle.Goals as goal
+
+pub returns-clause-same : goal.returns-clause-same
+returns-clause-same c = λ p.
+    dots-zero c.catch_up.new.self.pending p c.catch_up.new.self.screen c.catch_up.ensures.pending ∙ c.catch_up.ensures.screen

@@ -1,0 +1,46 @@
+//! Many dots of a picture.
+
+ghost use Rattle.std.specs.Prelude.{◌≡◌, ◌≤◌, length};
+ghost use Rattle.nj_dots.specs.Screen.{IsScreen};
+ghost use Rattle.nj_dots.specs.Dots.{after_dots};
+
+use crate::idle::idle_dots;
+use nj_dots::Screen;
+
+/// Runs the next dots.
+pub fn advance(screen: &mut Screen, dots: u32, pattern: &[u8])
+    requires fits { IsScreen screen.old }
+    requires pattern { length pattern.now ≡ 8192 }
+    ensures dots { screen.new ≡ after_dots dots pattern.now screen.old }
+    ensures fits { IsScreen screen.new }
+{
+    let mut left = dots;
+    while left > 0 {
+        left -= advance_some(screen, left, pattern);
+    }
+}
+
+// Runs some of the next dots as one, one dot at least.
+fn advance_some(screen: &mut Screen, left: u32, pattern: &[u8]) -> u32
+    requires fits { IsScreen screen.old }
+    requires pattern { length pattern.now ≡ 8192 }
+    requires left { 1 ≤ left }
+    ensures dots { screen.new ≡ after_dots result pattern.now screen.old }
+    ensures some { 1 ≤ result }
+    ensures within { result ≤ left }
+    ensures fits { IsScreen screen.new }
+{
+    let idle = idle_dots(screen);
+    if idle > 0 {
+        let dots = if u32::from(idle) < left {
+            idle
+        } else {
+            left as u16
+        };
+        screen.position.dot += dots;
+        u32::from(dots)
+    } else {
+        screen.dot(pattern);
+        1
+    }
+}

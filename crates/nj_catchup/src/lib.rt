@@ -1,0 +1,114 @@
+//! The picture that catches up: dots stay pending until something asks what they did.
+#![tactic(auto)]
+
+mod advance;
+mod idle;
+mod place;
+
+ghost use Rattle.std.specs.Prelude.{◌≡◌, ◌<◌, ℕ, List, true, length};
+ghost use Rattle.nj_dots.specs.Screen.{IsScreen, power_on};
+ghost use Rattle.nj_dots.specs.Dots.{after_dots, to_event};
+
+use crate::advance::advance;
+use crate::place::position_ahead;
+use nj_dots::Screen;
+pub use nj_dots::{Picture, Position};
+
+/// A picture with dots pending: fewer than there are up to the next change of the vertical blank flag, and none once an
+/// end is marked.
+#[derive(Drop)]
+pub struct CatchUp {
+    screen: Screen,
+    pending: u32,
+    ghost fits: { IsScreen screen },
+    ghost before_event: { pending < to_event screen },
+    ghost unmarked: { screen.ended ≡ true → pending ≡ 0 },
+}
+
+impl CatchUp {
+    /// The picture at power-on, line 0 dot 0, for a cartridge of vertical or horizontal mirroring.
+    pub fn new(vertical: bool) -> CatchUp
+        ensures { (p : List ℕ) → ⟦<CatchUp as Picture>⟧.meaning result p ≡ power_on vertical }
+    {
+        CatchUp {
+            screen: Screen::power_on(vertical),
+            pending: 0,
+        }
+    }
+
+    // Runs the pending dots.
+    fn catch_up(&mut self, pattern: &[u8])
+        requires { length pattern.now ≡ 8192 }
+        ensures pending { self.new.pending ≡ 0 }
+        ensures screen { self.new.screen ≡ after_dots self.old.pending pattern.now self.old.screen }
+    {
+        advance(&mut self.screen, self.pending, pattern);
+        self.pending = 0;
+    }
+}
+
+impl Picture for CatchUp {
+    ghost use Rattle.nj_dots.specs.Dots.{after_dots};
+    ghost use Rattle.nj_dots.proofs.Kept.{after_dots-fits};
+
+    ghost meaning = { λ s p. after_dots s.pending p s.screen };
+
+    ghost settled = { λ s. s.pending ≡ 0 };
+
+    fn power_on(vertical: bool) -> CatchUp {
+        CatchUp::new(vertical)
+    }
+
+    fn run(&mut self, dots: u32, pattern: &[u8]) {
+        if dots < self.screen.dots_to_event() - self.pending && !self.screen.ended {
+            self.pending += dots;
+        } else {
+            self.catch_up(pattern);
+            advance(&mut self.screen, dots, pattern);
+        }
+    }
+
+    fn read(&mut self, reg: u8, pattern: &[u8]) -> u8 {
+        self.catch_up(pattern);
+        self.screen.read(reg, pattern)
+    }
+
+    fn write(&mut self, reg: u8, value: u8, pattern: &[u8]) -> Option<(u16, u8)> {
+        self.catch_up(pattern);
+        self.screen.write(reg, value)
+    }
+
+    fn nmi_line(&self) -> bool {
+        self.screen.nmi_line()
+    }
+
+    fn take_end(&mut self) -> bool {
+        self.screen.take_end()
+    }
+
+    fn position(&self) -> Position {
+        position_ahead(&self.screen, self.pending)
+    }
+
+    fn dots_to_event(&self) -> u32 {
+        self.screen.dots_to_event() - self.pending
+    }
+
+    fn settle(&mut self, pattern: &[u8]) {
+        self.catch_up(pattern);
+    }
+
+    fn put(&self, image: &mut [u8]) {
+        self.screen.put(image);
+    }
+
+    fn get(&mut self, image: &[u8]) {
+        self.pending = 0;
+        self.screen.get(image);
+    }
+
+    ghost fits = { λ s p. after_dots-fits s.pending p s.screen s.fits };
+}
+
+#[cfg(test)]
+mod tests;

@@ -1,0 +1,62 @@
+use super::*;
+
+const START_OF_BLANK: u32 = 241 * 341 + 1;
+
+// A picture that shows both layers and has sprite zero at a place, with the left columns hidden or not.
+fn with_sprite(
+    y: u8,
+    tile: u8,
+    attributes: u8,
+    x: u8,
+    left: bool,
+    pattern: &[u8; 8192],
+) -> CatchUp {
+    let mut picture = CatchUp::new(false);
+    picture.write(1, if left { 0x1E } else { 0x18 }, pattern);
+    picture.write(3, 0, pattern);
+    for byte in [y, tile, attributes, x] {
+        picture.write(4, byte, pattern);
+    }
+    picture
+}
+
+fn has_hit(picture: &mut CatchUp, pattern: &[u8; 8192]) -> bool {
+    picture.read(2, pattern) & 0x40 != 0
+}
+
+// A read just before dot (241,1) holds the flag; a read after it takes it.
+#[test]
+fn status_reads_race_with_vertical_blank(rt: HostRuntime) {
+    let pattern = [0u8; 8192];
+    let mut held = CatchUp::new(false);
+    held.write(0, 0x80, &pattern);
+    held.run(START_OF_BLANK, &pattern);
+    assert_eq!(rt; held.position(), Position { line: 241, dot: 1 });
+    assert_eq!(rt; held.dots_to_event(), 1);
+    assert_eq!(rt; held.read(2, &pattern) & 0x80, 0);
+    held.run(1, &pattern);
+    assert!(rt; !held.nmi_line());
+    assert_eq!(rt; held.read(2, &pattern) & 0x80, 0);
+
+    let mut taken = CatchUp::new(false);
+    taken.write(0, 0x80, &pattern);
+    assert_eq!(rt; taken.dots_to_event(), START_OF_BLANK + 1);
+    taken.run(START_OF_BLANK + 1, &pattern);
+    assert!(rt; taken.nmi_line());
+    assert!(rt; taken.take_end());
+    assert!(rt; !taken.take_end());
+    assert_eq!(rt; taken.read(2, &pattern) & 0x80, 0x80);
+    assert_eq!(rt; taken.read(2, &pattern) & 0x80, 0);
+}
+
+// A sprite at X 3 and Y 0, with the left columns hidden, first hits at pixel 8 of line 1: its flag rises at dot 10.
+#[test]
+fn the_first_hit_is_on_the_line_below(rt: HostRuntime) {
+    let pattern = [0xFFu8; 8192];
+    let mut picture = with_sprite(0, 0, 0, 3, false, &pattern);
+    picture.run(341 + 10, &pattern);
+    assert_eq!(rt; picture.position(), Position { line: 1, dot: 10 });
+    assert!(rt; !has_hit(&mut picture, &pattern));
+    picture.run(1, &pattern);
+    assert!(rt; has_hit(&mut picture, &pattern));
+}
