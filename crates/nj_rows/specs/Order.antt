@@ -7,6 +7,7 @@ use Rattle.nj_rows.specs.declared.Row.{Row}
 use Rattle.nj_rows.specs.declared.Verdict3.{Verdict3}
 use Rattle.nj_rows.specs.declared.Verdict3.TheVariants.{Go, Win, Fail}
 
+-- whether a verdict is a win
 abbrev pub is_win : Verdict3 → Bool
 is_win Go = false
 is_win Win = true

@@ -8,6 +8,7 @@ pub record Candidate : Type 0 where
   pub parent : Word
   pub pad : ℕ
 
+-- the word that a candidate is: its parent and its pad
 abbrev pub word_of : Candidate → Word
 word_of c = c.parent ++ c.pad ∷ []
 

@@ -1,6 +1,7 @@
 -- What the search asks of a game. A word is the list of the pads that follow the start movie, one a step.
 use Rattle.std.specs.Prelude.{ℕ, ℤ, List}
 
+-- the pads that follow the start movie, one a step
 abbrev pub Word : Type 0
 Word = List ℕ
 

@@ -10,6 +10,7 @@ abbrev pub gone_on : Outcome → (State → Outcome) → Outcome
 gone_on (LimitAt state) go_on = go_on state
 gone_on ended go_on = ended
 
+-- so the first a steps of a longer search are those of the shorter one
 abbrev pub LimitsAdd : Type 0
 LimitsAdd = (game : Game) (bounds : Bounds) (a b : ℕ) (state : State)
     → searched game bounds (a + b) state ≡ gone_on (searched game bounds a state) (searched game bounds b)
@@ -27,6 +28,7 @@ pub record IsChild (game : Game) (front : List Word) (word : Word) : Type 0 wher
   pub is_allowed : Contains (game.allowed parent) pad
   pub is : word ≡ parent ++ pad ∷ []
 
+-- the front after a step is made of such words
 abbrev pub ParentsStoodBefore : Type 0
 ParentsStoodBefore = (game : Game) (bounds : Bounds) (state new : State)
     → next game bounds state ≡ Goes new → All (IsChild game state.front) new.front
@@ -43,6 +45,7 @@ pub record IsBestWin (game : Game) (lives : List Candidate) (best : Candidate) :
   pub wins : (judged_of game best).verdict ≡ Win
   pub no_better : All (λ c. (judged_of game c).verdict ≡ Win → is_before game c best ≡ false) lives
 
+-- the winner of a step is the best of its live wins
 abbrev pub WinnerIsBest : Type 0
 WinnerIsBest = (game : Game) (lives : List Candidate) (best : Candidate)
     → winner game lives ≡ Some best → IsBestWin game lives best

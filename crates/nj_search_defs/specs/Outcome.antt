@@ -25,9 +25,11 @@ lives_of game state = live game state.mark (state.step + 1) (candidates game sta
 unfoldable pub seen_of : Bounds → State → Seen
 seen_of bounds state = forgotten bounds.slots (length state.front * bounds.inputs) state.seen
 
+-- the live candidates of the step whose keys are new
 unfoldable pub fresh_of : Game → Bounds → State → List Candidate
 fresh_of game bounds state = fresh game (seen_of bounds state) (lives_of game state)
 
+-- the fresh candidates that the step keeps, the most preferred first
 unfoldable pub kept_of : Game → Bounds → State → List Candidate
 kept_of game bounds state = kept game bounds.most (fresh_of game bounds state)
 
@@ -40,10 +42,12 @@ state_after game bounds state kept = record {
   mark = raised game (state.step + 1) bounds.tolerance kept state.mark;
 }
 
+-- won by the winner where there is one
 abbrev pub won_or : Option Candidate → Next → Next
 won_or (Some c) next = Won c
 won_or None next = next
 
+-- exhausted where nothing is kept
 abbrev pub exhausted_or : List Candidate → (List Candidate → State) → Next
 exhausted_or [] goes = Exhausted
 exhausted_or (c ∷ cs) goes = Goes (goes (c ∷ cs))
@@ -60,6 +64,7 @@ pub data Outcome : Type 0 where
   ExhaustedAt : ℕ → Outcome
   LimitAt : State → Outcome
 
+-- what a step ends the search with, or what the rest of it ends with
 abbrev pub then_go_on : ℕ → Next → (State → Outcome) → Outcome
 then_go_on step (Won c) go_on = WonAt step (word_of c)
 then_go_on step Exhausted go_on = ExhaustedAt step
@@ -80,6 +85,7 @@ opening game = record {
   mark = record { level = (game.judged []).level; until = 0 };
 }
 
+-- a start that wins or fails ends the search before its first step
 abbrev pub judged_first : Verdict → Outcome → Outcome
 judged_first Win searched = WonAt 0 []
 judged_first Fail searched = ExhaustedAt 0

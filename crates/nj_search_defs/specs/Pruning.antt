@@ -10,17 +10,21 @@ pub record Mark : Type 0 where
   pub level : ℕ
   pub until : ℕ
 
+-- whether a verdict is a win
 abbrev pub is_win : Verdict → Bool
 is_win Win = true
 is_win _ = false
 
+-- whether a verdict is a failure
 abbrev pub is_fail : Verdict → Bool
 is_fail Fail = true
 is_fail _ = false
 
+-- a candidate's judgement
 abbrev pub judged_of : Game → Candidate → Judged
 judged_of game c = game.judged (word_of c)
 
+-- a candidate's key
 abbrev pub key_of : Game → Candidate → ℕ
 key_of game c = game.key (word_of c)
 
@@ -32,6 +36,7 @@ is_live_judged mark step j = not (is_fail j.verdict) && (nat_le mark.level j.lev
 unfoldable pub live : Game → Mark → ℕ → List Candidate → List Candidate
 live game mark step candidates = filter (λ c. is_live_judged mark step (judged_of game c)) candidates
 
+-- one candidate is preferred to another
 abbrev pub is_before : Game → Candidate → Candidate → Bool
 is_before game a b = is_preferred (judged_of game a).reward a.number (judged_of game b).reward b.number
 
@@ -43,9 +48,11 @@ winner game lives = slice_get (in_order (is_before game) (filter (λ c. is_win (
 abbrev pub Seen : Type 0
 Seen = List (List ℕ)
 
+-- how many keys are seen
 abbrev pub key_count : Seen → ℕ
 key_count seen = sum_by length seen
 
+-- whether a key is in some generation
 abbrev pub is_seen : Seen → ℕ → Bool
 is_seen seen key = list_any (list_any (λ k. k == key)) seen
 
@@ -61,6 +68,7 @@ is_fresh game seen lives c =
     not (is_seen seen (key_of game c))
     && not (list_any (λ d. nat_lt d.number c.number && (key_of game d == key_of game c)) lives)
 
+-- the live candidates that are fresh, by rising number
 unfoldable pub fresh : Game → Seen → List Candidate → List Candidate
 fresh game seen lives = filter (is_fresh game seen lives) lives
 
