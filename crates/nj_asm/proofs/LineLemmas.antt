@@ -1,7 +1,7 @@
 -- Lemmas on the lines of a source.
 use Rattle.std.proofs.Common.{ℕ, suc, ◌≡◌, ◌+◌, ◌<◌, Bool, ◌||◌, List, ◌∷◌, ◌++◌, length, drop, get_or, refl, sym, ap, ◌∙◌, Option, Some, None, drop-cons, add-one, append_assoc}
-use Rattle.nj_asm.specs.declared.syntax.Fault.{Fault}
-use Rattle.nj_asm.specs.declared.syntax.Line.{Line}
+use Rattle.nj_asm_lines.specs.declared.syntax.Fault.{Fault}
+use Rattle.nj_asm_lines.specs.declared.syntax.Line.{Line}
 use Rattle.nj_asm.specs.Assembly.{Homes, size_of, is_said, fault_of, refused, refused_or, first_refused, bytes_of, bytes_from}
 
 -- the lines from a place on

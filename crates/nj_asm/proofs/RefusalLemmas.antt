@@ -3,8 +3,8 @@ use Rattle.std.proofs.Common.{ℕ, zero, suc, ◌≡◌, ◌+◌, ◌<◌, Bool,
 use Rattle.std.specs.Prelude.{sum_by}
 use Rattle.std.specs.List.{list_any}
 use Rattle.std.proofs.lemmas.List.Sums.{sum_by-cons}
-use Rattle.nj_asm.specs.declared.syntax.Fault.{Fault}
-use Rattle.nj_asm.specs.declared.syntax.Line.{Line}
+use Rattle.nj_asm_lines.specs.declared.syntax.Fault.{Fault}
+use Rattle.nj_asm_lines.specs.declared.syntax.Line.{Line}
 use Rattle.nj_asm.specs.declared.refusals.AsmRefused.{AsmRefused}
 use Rattle.nj_asm.specs.Assembly.{Homes, size_of, is_said, origin_of, homes_of, fault_of, refused, refused_or, first_refused, answer_of, bytes_from, assembly_in}
 use Rattle.nj_asm.specs.FirstRefused.{fault_at, IsFirstRefused}

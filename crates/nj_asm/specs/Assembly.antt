@@ -1,24 +1,23 @@
 -- What a source means: first the labels' values, then its bytes or its first refusal by line and kind. Our own.
-use Rattle.std.specs.Prelude.{ℕ, String, ◌+◌, ◌-◌, ◌/◌, ◌%◌, Bool, true, false, ◌&&◌, ◌||◌, not, nat_lt, List, [], ◌∷◌, ◌++◌, map, sum_by, if◌then◌else◌, Option, Some, None, is_some, unwrap_or, Result, Ok, Err}
+use Rattle.std.specs.Prelude.{ℕ, String, ◌+◌, ◌-◌, ◌/◌, ◌%◌, Bool, true, false, ◌&&◌, ◌||◌, not, nat_lt, List, [], ◌∷◌, ◌++◌, sum_by, if◌then◌else◌, Option, Some, None, is_some, unwrap_or, Result, Ok, Err}
 use Rattle.std.specs.HashMap.{HashMap, get_by_text}
 use Rattle.std.specs.List.{list_any, flat_map}
 use Rattle.std.specs.Option.{option_map, option_or, option_map_or}
 use Rattle.std.specs.Str.{bytes_eq}
-use Rattle.nj_lines.specs.Lines.{lines}
-use Rattle.nj_asm.specs.declared.syntax.Value.{Value}
-use Rattle.nj_asm.specs.declared.syntax.Value.TheVariants.{Literal, Label, Low, High}
-use Rattle.nj_asm.specs.declared.syntax.Cell.{Cell}
-use Rattle.nj_asm.specs.declared.syntax.Cell.TheVariants.{Opcode, Byte, Word, Branch}
-use Rattle.nj_asm.specs.declared.syntax.Fault.{Fault}
-use Rattle.nj_asm.specs.declared.syntax.Fault.TheVariants.{Syntax, UnknownOp, NoMode, Range, UnknownLabel, TwiceLabel, TooLong}
-use Rattle.nj_asm.specs.declared.syntax.Statement.{Statement}
-use Rattle.nj_asm.specs.declared.syntax.Statement.TheVariants.{Blank, Origin, Cells, Refused}
-use Rattle.nj_asm.specs.declared.syntax.Line.{Line}
+use Rattle.nj_asm_lines.specs.declared.syntax.Value.{Value}
+use Rattle.nj_asm_lines.specs.declared.syntax.Value.TheVariants.{Literal, Label, Low, High}
+use Rattle.nj_asm_lines.specs.declared.syntax.Cell.{Cell}
+use Rattle.nj_asm_lines.specs.declared.syntax.Cell.TheVariants.{Opcode, Byte, Word, Branch}
+use Rattle.nj_asm_lines.specs.declared.syntax.Fault.{Fault}
+use Rattle.nj_asm_lines.specs.declared.syntax.Fault.TheVariants.{Syntax, UnknownOp, NoMode, Range, UnknownLabel, TwiceLabel, TooLong}
+use Rattle.nj_asm_lines.specs.declared.syntax.Statement.{Statement}
+use Rattle.nj_asm_lines.specs.declared.syntax.Statement.TheVariants.{Blank, Origin, Cells, Refused}
+use Rattle.nj_asm_lines.specs.declared.syntax.Line.{Line}
 use Rattle.nj_asm.specs.declared.labels.Home.{Home}
 use Rattle.nj_asm.specs.declared.assembling.Assembled.{Assembled}
 use Rattle.nj_asm.specs.declared.refusals.AsmRefused.{AsmRefused}
 use Rattle.nj_asm.specs.declared.refusals.AsmRefused.TheVariants as refusal
-use Rattle.nj_asm.specs.Grammar.{line_of}
+use Rattle.nj_asm_lines.specs.Grammar.{read_lines}
 
 -- the bytes that a cell takes
 abbrev pub cell_size : Cell → ℕ
@@ -193,10 +192,6 @@ bytes_of homes at (Refused fault) = []
 abbrev pub bytes_from : Homes → ℕ → List Line → List ℕ
 bytes_from homes at [] = []
 bytes_from homes at (l ∷ ls) = bytes_of homes at l.statement ++ bytes_from homes (at + size_of l.statement) ls
-
--- the lines of a source as they are read
-unfoldable pub read_lines : List ℕ → List Line
-read_lines source = map line_of (lines source)
 
 -- where the labels of the lines stand
 unfoldable pub homes_of : List Line → Homes

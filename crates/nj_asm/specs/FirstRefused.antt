@@ -1,8 +1,8 @@
 -- The refusal of a source in other words: each line's own refusal, and the first line that has one. Our own.
 use Rattle.std.specs.Prelude.{◌≡◌, ℕ, ◌+◌, ◌<◌, Bool, List, length, take, sum_by, slice_index_or, Option, Some, None}
 use Rattle.std.specs.List.{list_any}
-use Rattle.nj_asm.specs.declared.syntax.Fault.{Fault}
-use Rattle.nj_asm.specs.declared.syntax.Line.{Line}
+use Rattle.nj_asm_lines.specs.declared.syntax.Fault.{Fault}
+use Rattle.nj_asm_lines.specs.declared.syntax.Line.{Line}
 use Rattle.nj_asm.specs.Assembly.{size_of, is_said, origin_of, homes_of, fault_of}
 
 -- the address at which a line begins

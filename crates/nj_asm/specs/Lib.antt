@@ -1,5 +1,3 @@
-pub mod Words
-pub mod Grammar
 pub mod Assembly
 pub mod Listing
 pub mod FirstRefused

@@ -1,13 +1,12 @@
 //! The assembler.
 
 ghost use Rattle.std.specs.Prelude.{◌≡◌, ◌⊎◌, ◌||◌, ◌++◌, None, Some, Ok, Err, false, IfOk, IfErr, MatchResult};
-ghost use Rattle.nj_asm.specs.Assembly.{homes, is_said, origin_of, first_refused, bytes_from, read_lines, assembly_in, assembly_of};
+ghost use Rattle.nj_asm.specs.Assembly.{homes, is_said, origin_of, first_refused, bytes_from, assembly_in, assembly_of};
 
 use crate::emission::{fault_of, is_said, push_bytes};
 use crate::labels::{Labels, homes_of, origin_of, size_of};
 use crate::refusals::{AsmRefused, refused};
-use crate::source::read_lines;
-use crate::syntax::{Line, Statement};
+use nj_asm_lines::{Line, Statement, read_lines};
 use nj_seq::Seq;
 use std::alloc::Global;
 

@@ -5,7 +5,7 @@ ghost use Rattle.std.specs.List.{list_any, flat_map};
 ghost use Rattle.nj_asm.specs.Assembly.{homes, size_of, number_in, offset_to, is_far, number_of_cell, is_beyond, is_out, is_unknown, cells_fault, statement_fault, is_late, is_said, is_twice, fault_of, number, cell_bytes, bytes_of};
 
 use crate::labels::{Labels, home_of, number_in, size_of};
-use crate::syntax::{Cell, Fault, Line, Statement, Value};
+use nj_asm_lines::{Cell, Fault, Line, Statement, Value};
 use nj_seq::{Seq, Text};
 use std::alloc::AllocError;
 

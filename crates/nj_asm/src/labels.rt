@@ -5,7 +5,7 @@ ghost use Rattle.std.specs.HashMap.{get_by_text};
 ghost use Rattle.std.specs.Option.{option_or, option_map};
 ghost use Rattle.nj_asm.specs.Assembly.{cell_size, size_of, next_place, is_labelled, home_in, origin_by, origin_of, homes, homes_of, number_in};
 
-use crate::syntax::{Cell, Line, Statement, Value};
+use nj_asm_lines::{Cell, Line, Statement, Value};
 use nj_seq::Text;
 use std::alloc::{AllocError, Global};
 use std::collections::HashMap;

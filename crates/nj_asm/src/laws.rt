@@ -1,9 +1,10 @@
 //! A law of refusals, as the contract of a function that does nothing.
 
 ghost use Rattle.std.specs.Prelude.{◌≡◌, ◌+◌, ℕ, List, Err};
-ghost use Rattle.nj_asm.specs.declared.syntax.Fault.{Fault};
+ghost use Rattle.nj_asm_lines.specs.declared.syntax.Fault.{Fault};
+ghost use Rattle.nj_asm_lines.specs.Grammar.{read_lines};
 ghost use Rattle.nj_asm.specs.declared.refusals.AsmRefused.{AsmRefused};
-ghost use Rattle.nj_asm.specs.Assembly.{refused, read_lines, assembly_of};
+ghost use Rattle.nj_asm.specs.Assembly.{refused, assembly_of};
 ghost use Rattle.nj_asm.specs.FirstRefused.{IsFirstRefused};
 
 /// Law: a source is refused exactly where one of its lines is, with the first such line's number, counted from 1, and with

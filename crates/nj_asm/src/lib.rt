@@ -1,4 +1,4 @@
-//! An assembler for the NMOS 6502 and the listing of assembled bytes. A source is read line by line, then its labels get
+//! An assembler for the NMOS 6502 and the listing of assembled bytes. The lines of a source are read, then its labels get
 //! their values, then its bytes are made, or its first refused line is told.
 #![tactic(auto)]
 
@@ -7,19 +7,13 @@ mod emission;
 mod labels;
 mod laws;
 mod listing;
-mod operands;
 mod pieces;
 mod refusals;
-mod source;
-mod statements;
-mod syntax;
-mod table;
-mod values;
-mod words;
 
 pub use assembling::{Assembled, assemble};
 pub use laws::the_first_refused_line_is_told;
 pub use listing::list;
+pub use nj_asm_lines::{Fault, Line};
 pub use nj_seq::Seq;
 pub use refusals::AsmRefused;
 

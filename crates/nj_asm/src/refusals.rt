@@ -3,7 +3,7 @@
 ghost use Rattle.std.specs.Prelude.{◌≡◌};
 ghost use Rattle.nj_asm.specs.Assembly.{refused};
 
-use crate::syntax::Fault;
+use nj_asm_lines::Fault;
 use std::alloc::AllocError;
 
 /// Why a source is refused. Of all refusals the one of the first refused line is told, and of that line's the first in

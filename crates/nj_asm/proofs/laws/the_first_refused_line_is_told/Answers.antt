@@ -1,5 +1,6 @@
 -- The first refused line is told.
-use Rattle.nj_asm.specs.Assembly.{read_lines, assembly_of}
+use Rattle.nj_asm_lines.specs.Grammar.{read_lines}
+use Rattle.nj_asm.specs.Assembly.{assembly_of}
 use Rattle.nj_asm.proofs.RefusalLemmas.{told, only}
 use Rattle.nj_asm.proofs.laws.the_first_refused_line_is_told.Goals as goal
 
