@@ -2,3 +2,10 @@ pub mod LabelLemmas
 pub mod LineLemmas
 pub mod ListingLemmas
 pub mod RefusalLemmas
+pub mod OpcodeLemmas
+pub mod DigitLemmas
+pub mod ReadingLemmas
+pub mod OperandLemmas
+pub mod InstructionLemmas
+pub mod ColumnLemmas
+pub mod AgainLemmas

@@ -26,7 +26,7 @@ passed (suc k) at byte bytes small some =
     let same : ((at + 1) % 65536 + k) % 65536 ≡ (at + suc k) % 65536 = omega arith in
     ap (λ (n : ℕ). listed (next_to at) n bytes) less ∙ listed-shown k (next_to at) bytes (omega arith) ∙ ap (λ (n : ℕ). listed n 0 (drop k bytes)) same
 
-listed-instruction : (at span : ℕ) (bytes : List ℕ) → at < 65536 → 0 < length bytes → span ≡ span_of (get_or bytes 0 0) → 0 < span → span ≤ length bytes →
+pub listed-instruction : (at span : ℕ) (bytes : List ℕ) → at < 65536 → 0 < length bytes → span ≡ span_of (get_or bytes 0 0) → 0 < span → span ≤ length bytes →
     is_jam (row_of (get_or bytes 0 0)).op ≡ false →
     listed at 0 bytes ≡ instruction_text at (take span bytes) ++ listed ((at + span) % 65536) 0 (drop span bytes)
 listed-instruction at span [] small some is positive whole runs = absurd (omega arith)

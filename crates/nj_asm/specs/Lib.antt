@@ -1,3 +1,4 @@
 pub mod Assembly
 pub mod Listing
 pub mod FirstRefused
+pub mod Instructions

@@ -11,7 +11,10 @@ mod pieces;
 mod refusals;
 
 pub use assembling::{Assembled, assemble};
-pub use laws::the_first_refused_line_is_told;
+pub use laws::{
+    every_official_opcode_is_reached, listed_instructions_assemble_again,
+    the_first_refused_line_is_told,
+};
 pub use listing::list;
 pub use nj_asm_lines::{Fault, Line};
 pub use nj_seq::Seq;

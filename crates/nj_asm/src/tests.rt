@@ -1,5 +1,4 @@
 use super::*;
-use nj_isa::{Op, mode_len, op_row};
 use std::test::Fail;
 
 const FOUR_LINES: &str = ".org $8000\nSEI\nLDA #$80\nSTA $2000\nloop: JMP loop\n";
@@ -33,23 +32,6 @@ fn sources_are_refused(rt: HostRuntime) -> Result<(), Fail> {
             Some(refused),
             "of {source:?}"
         );
-    }
-    Ok(())
-}
-
-#[test]
-fn each_official_opcode_is_listed_and_assembled_back(rt: HostRuntime) -> Result<(), Fail> {
-    for opcode in 0..=255u8 {
-        let row = op_row(opcode);
-        let bytes = [opcode, 0x80, 0x90];
-        let len = mode_len(row.mode) as usize;
-        if matches!(row.op, Op::Jam) || 3 < len {
-            continue;
-        }
-        let text = list(rt.alloc(), &bytes[..len], 0x8000)?;
-        assert!(rt; 14 < text.len());
-        let assembled = assemble(rt.alloc(), &text[14..])?;
-        assert_eq!(rt; assembled.bytes.as_slice(), &bytes[..len], "at {opcode}");
     }
     Ok(())
 }
