@@ -35,3 +35,15 @@ fn sources_are_refused(rt: HostRuntime) -> Result<(), Fail> {
     }
     Ok(())
 }
+
+// Each line has a label and jumps to another line's.
+#[test]
+fn many_labels_are_found(rt: HostRuntime) -> Result<(), Fail> {
+    let mut source = String::from_str(rt.alloc(), ".org 0\n")?;
+    for n in 0..20_000u32 {
+        source.push_str(&format!(in rt.alloc(); "line{n}: JMP line{}\n", 19_999 - n)?)?;
+    }
+    let assembled = assemble(rt.alloc(), source.as_bytes())?;
+    assert_eq!(rt; assembled.bytes.as_slice().len(), 60_000);
+    Ok(())
+}
