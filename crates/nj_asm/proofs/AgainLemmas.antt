@@ -2,6 +2,7 @@
 use Rattle.std.proofs.Common.{ℕ, zero, suc, ◌≡◌, ◌≤◌, ◌<◌, ◌+◌, ◌-◌, ◌*◌, ◌/◌, ◌%◌, Bool, true, false, cond, ◌&&◌, ◌||◌, ltb, List, [], ◌∷◌, ◌++◌, length, take, drop, map, get_or, refl, sym, ap, ◌∙◌, arith, Option, Some, None, Ok, length-append, append-nil}
 use Rattle.std.specs.Prelude.{codes, slice_index, sum_by}
 use Rattle.std.specs.List.{All, list_all, flat_map}
+use Rattle.std.proofs.lemmas.Bool.{le-ltb}
 use Rattle.std.proofs.lemmas.Bool.Decides.{nat_tests}
 use Rattle.std.proofs.lemmas.List.Elements.{All-head, All-tail, All-nil, All-cons, All-take}
 use Rattle.nj_lines.specs.Lines.{lines}
@@ -35,17 +36,14 @@ bare statement = record { label = None; statement = statement }
 abbrev listed_cells : Mode → ℕ → ℕ → ℕ → ℕ → List Cell
 listed_cells mode k at low high = Opcode k ∷ cells_in mode (operand_in mode at low high)
 
--- numbers that fit
-not_above : (bound n : ℕ) → n ≤ bound → ltb bound n ≡ false
-not_above bound n h = grind (arith, nat_tests)
-
+-- values that fit their cells
 byte_fits : (homes : Homes) (at k low : ℕ) → low < 256 → cells_fault homes at (Opcode k ∷ Byte (Literal low) ∷ []) ≡ None
 unfolding cells_fault
-byte_fits homes at k low l = rw (not_above 255 low (omega arith))
+byte_fits homes at k low l = rw (le-ltb 255 low (omega arith))
 
 word_fits : (homes : Homes) (at k word : ℕ) → word < 65536 → cells_fault homes at (Opcode k ∷ Word (Literal word) ∷ []) ≡ None
 unfolding cells_fault
-word_fits homes at k word l = rw (not_above 65535 word (omega arith))
+word_fits homes at k word l = rw (le-ltb 65535 word (omega arith))
 
 -- the offset of a listed target is the branch's byte, signed
 abbrev sign : ℕ → ℕ
@@ -71,7 +69,7 @@ near_is at low h l =
 
 branch_fits : (homes : Homes) (at k low : ℕ) → at < 65536 → low < 256 → cells_fault homes at (Opcode k ∷ Branch (Literal (branch_target at low)) ∷ []) ≡ None
 unfolding cells_fault
-branch_fits homes at k low h l = rw (not_above 65535 (branch_target at low) (omega arith), near_is at low h l)
+branch_fits homes at k low h l = rw (le-ltb 65535 (branch_target at low) (omega arith), near_is at low h l)
 
 -- no cell of a listed instruction is refused
 cells_fit : (mode : Mode) (homes : Homes) (k at low high : ℕ) → at < 65536 → low < 256 → high < 256 → cells_fault homes at (listed_cells mode k at low high) ≡ None
@@ -188,7 +186,7 @@ bytes_at homes at i is h =
 line_fits : (homes : Homes) (begun : Bool) (at index : ℕ) (cells : List Cell) → cells_fault homes at cells ≡ None → at + sum_by cell_size cells ≤ 65536 →
     fault_of homes begun at index (bare (Cells cells)) ≡ None
 unfolding fault_of
-line_fits homes begun at index cells none within = rw (none, not_above 65536 (at + sum_by cell_size cells) within)
+line_fits homes begun at index cells none within = rw (none, le-ltb 65536 (at + sum_by cell_size cells) within)
 
 -- no line of a listing is refused
 refused_step : (homes : Homes) (begun : Bool) (at index size : ℕ) (cells : List Cell) (line : Line) (rest : List Line) → line ≡ bare (Cells cells) → sum_by cell_size cells ≡ size →
@@ -260,13 +258,13 @@ org_read n h =
 org_none : (homes : Homes) (n : ℕ) (rest : List Line) → n < 65536 → first_refused homes true n 1 rest ≡ None → first_refused homes false n 0 (bare (Origin n) ∷ rest) ≡ None
 unfolding fault_of
 org_none homes n rest h after =
-    let fits : ltb 65535 n ≡ false = not_above 65535 n (omega arith) in
+    let fits : ltb 65535 n ≡ false = le-ltb 65535 n (omega arith) in
     let same : n + 0 ≡ n = omega arith in
-    let within : ltb 65536 n ≡ false = not_above 65536 n (omega arith) in
+    let within : ltb 65536 n ≡ false = le-ltb 65536 n (omega arith) in
     rw (fits, same, within) after
 
 org_first : (n : ℕ) (rest : List Line) → n < 65536 → origin_of (bare (Origin n) ∷ rest) ≡ n
-org_first n rest h = let fits : ltb 65535 n ≡ false = not_above 65535 n (omega arith) in rw fits
+org_first n rest h = let fits : ltb 65535 n ≡ false = le-ltb 65535 n (omega arith) in rw fits
 
 org_bytes : (homes : Homes) (n : ℕ) (rest : List Line) → bytes_from homes n (bare (Origin n) ∷ rest) ≡ bytes_from homes n rest
 org_bytes homes n rest = let same : n + 0 ≡ n = omega arith in ap (λ m. bytes_from homes m rest) same

@@ -3,6 +3,7 @@ use Rattle.std.proofs.Common.{ℕ, ◌≡◌, ◌<◌, ◌+◌, ◌*◌, ◌==�
 use Rattle.std.specs.Prelude.{codes}
 use Rattle.std.specs.Char.{is_ascii_digit}
 use Rattle.std.specs.List.{list_all, suffix_len, prefix_len}
+use Rattle.std.proofs.lemmas.Bool.{and_parts, lt-ltb}
 use Rattle.std.proofs.lemmas.Bool.Decides.{nat_tests, Decides-ltb}
 use Rattle.std.proofs.lemmas.List.{reverse-append, length-reverse}
 use Rattle.nj_isa.specs.declared.modes.Mode.{Mode}
@@ -116,20 +117,17 @@ by_width : (k : ℕ) (mode : Mode) (form : Form) (n : ℕ) (b : Bool) → ltb n 
 by_width k mode form n true e narrow wide = ap (λ b. coded (name_at k) (modes_in form b)) e ∙ narrow refl
 by_width k mode form n false e narrow wide = ap (λ b. coded (name_at k) (modes_in form b)) e ∙ wide refl
 
-narrow_is : (low : ℕ) → low < 256 → ltb low 256 ≡ true
-narrow_is low h = (Decides-ltb low 256).1 h
-
 pub coded_in : (mode : Mode) (k at low high : ℕ) → IsListed k mode low high → coded (name_at k) (modes_of (operand_in mode at low high)) ≡ Some (k, mode)
 coded_in Implied k at low high is = ap (λ o. coded_or Implied o None) (found k Implied low high is)
 coded_in Accumulator k at low high is = ap (λ o. coded_or Accumulator o None) (found k Accumulator low high is)
 coded_in Immediate k at low high is = ap (λ o. coded_or Immediate o None) (found k Immediate low high is)
 coded_in Zp k at low high is =
-    ap (λ b. coded (name_at k) (modes_in Plain b)) (narrow_is low is.low_byte)
+    ap (λ b. coded (name_at k) (modes_in Plain b)) (lt-ltb low 256 is.low_byte)
     ∙ (λ i. coded_or Relative (other_than_branch k Zp low high is refl i) (coded_or Zp (found k Zp low high is i) (coded (name_at k) (Abs ∷ []))))
 coded_in ZpX k at low high is =
-    ap (λ b. coded (name_at k) (modes_in CommaX b)) (narrow_is low is.low_byte) ∙ ap (λ o. coded_or ZpX o (coded (name_at k) (AbsX ∷ []))) (found k ZpX low high is)
+    ap (λ b. coded (name_at k) (modes_in CommaX b)) (lt-ltb low 256 is.low_byte) ∙ ap (λ o. coded_or ZpX o (coded (name_at k) (AbsX ∷ []))) (found k ZpX low high is)
 coded_in ZpY k at low high is =
-    ap (λ b. coded (name_at k) (modes_in CommaY b)) (narrow_is low is.low_byte) ∙ ap (λ o. coded_or ZpY o (coded (name_at k) (AbsY ∷ []))) (found k ZpY low high is)
+    ap (λ b. coded (name_at k) (modes_in CommaY b)) (lt-ltb low 256 is.low_byte) ∙ ap (λ o. coded_or ZpY o (coded (name_at k) (AbsY ∷ []))) (found k ZpY low high is)
 coded_in Abs k at low high is =
     by_width k Abs Plain (low + 256 * high) (ltb (low + 256 * high) 256) refl
     (λ narrow i. coded_or Relative (other_than_branch k Abs low high is refl i) (coded_or Zp (no_shorter k Abs Zp low high is refl narrow i) (coded_or Abs (found k Abs low high is i) None)))
@@ -200,14 +198,6 @@ letters_plain a b c p q r = rw (upper_plain a p, upper_plain b q, upper_plain c 
 letters_shown : (a b c : ℕ) → is_upper c ≡ true → suffix_len is_blank (a ∷ b ∷ c ∷ []) ≡ 0
 letters_shown a b c r = rw (upper_shown c r)
 
-and_left : (a b : Bool) → (a && b) ≡ true → a ≡ true
-and_left true b h = refl
-and_left false b h = h
-
-and_right : (a b : Bool) → (a && b) ≡ true → b ≡ true
-and_right true b h = h
-and_right false b h = absurd cc
-
 -- a statement's text ends with no blank
 operand_shown : (name : List ℕ) → suffix_len is_blank name ≡ 0 → (mode : Mode) (at low high : ℕ) → suffix_len is_blank (name ++ operand_text mode at low high) ≡ 0
 unfolding operand_text
@@ -240,16 +230,9 @@ three_by [] h = absurd (cc)
 three_by (a ∷ []) h = absurd (cc)
 three_by (a ∷ b ∷ []) h = absurd (cc)
 three_by (a ∷ b ∷ c ∷ []) h =
-    let all = h in
-    record {
-      a = a;
-      b = b;
-      c = c;
-      letters = refl;
-      first = and_left (is_upper a) (is_upper b && (is_upper c && true)) all;
-      second = and_left (is_upper b) (is_upper c && true) (and_right (is_upper a) (is_upper b && (is_upper c && true)) all);
-      third = and_left (is_upper c) true (and_right (is_upper b) (is_upper c && true) (and_right (is_upper a) (is_upper b && (is_upper c && true)) all));
-    }
+    let one = and_parts (is_upper a) (is_upper b && (is_upper c && true)) h in
+    let two = and_parts (is_upper b) (is_upper c && true) one.1 in
+    record { a = a; b = b; c = c; letters = refl; first = one.0; second = two.0; third = (and_parts (is_upper c) true two.1).0 }
 three_by (a ∷ b ∷ c ∷ d ∷ rest) h =
     let long : (length (a ∷ b ∷ c ∷ d ∷ rest) == 3) ≡ false = grind (arith, nat_tests) in
     let none : true ≡ false = sym h ∙ ap (λ t. t && list_all is_upper (a ∷ b ∷ c ∷ d ∷ rest)) long in

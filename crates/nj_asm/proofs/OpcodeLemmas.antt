@@ -4,6 +4,7 @@ use Rattle.std.specs.Prelude.{codes}
 use Rattle.std.specs.Char.{to_ascii_lowercase}
 use Rattle.std.specs.List.{range_with_len, position_or_len, list_all}
 use Rattle.std.specs.Option.{is_some}
+use Rattle.std.proofs.lemmas.Bool.{and_parts, and_from}
 use Rattle.std.proofs.lemmas.Bool.Decides.{eqb_tells, Decides-eqb}
 use Rattle.std.proofs.lemmas.List.FromFn.{get_or-map-range_with_len}
 use Rattle.std.proofs.lemmas.Slice.Eq.{bytes_eq-Decides}
@@ -186,30 +187,18 @@ first_code_some test at (suc left) k low high passes =
     first_code_some_by at (first_code test (at + 1) left) (test at)
     (λ h. first_code_some test (at + 1) left k (later test at k low h passes) (omega arith) passes)
 
-both_true : (a b : Bool) → a ≡ true → b ≡ true → (a && b) ≡ true
-both_true a b p q = rw (p, q)
-
-and_left : (a b : Bool) → (a && b) ≡ true → a ≡ true
-and_left true b h = refl
-and_left false b h = h
-
-and_right : (a b : Bool) → (a && b) ≡ true → b ≡ true
-and_right true b h = h
-and_right false b h = absurd cc
-
 spelled_itself : (word : List ℕ) → is_spelled word word ≡ true
 spelled_itself word = (bytes_eq-Decides (lowered word) (lowered word)).1 refl
 
 row_itself : (k : ℕ) → is_row (name_at k) (Some (row_of k).mode) (row_of k) ≡ true
-row_itself k = both_true _ _ (spelled_itself (name_at k)) ((Decides-eqb (number_of (row_of k).mode) (number_of (row_of k).mode)).1 refl)
+row_itself k = and_from _ _ (spelled_itself (name_at k)) ((Decides-eqb (number_of (row_of k).mode) (number_of (row_of k).mode)).1 refl)
 
 -- a row with the mnemonic and the mode
 row_names : (word : List ℕ) (m : Mode) (row : OpRow) → is_row word (Some m) row ≡ true →
     (lowered word ≡ lowered (name_of row.op)) × (number_of m ≡ number_of row.mode)
-row_names word m row h = (
-  (bytes_eq-Decides (lowered word) (lowered (name_of row.op))).0 (and_left (is_spelled word (name_of row.op)) (number_of m == number_of row.mode) h),
-  (Decides-eqb (number_of m) (number_of row.mode)).0 (and_right (is_spelled word (name_of row.op)) (number_of m == number_of row.mode) h),
-)
+row_names word m row h =
+    let parts = and_parts (is_spelled word (name_of row.op)) (number_of m == number_of row.mode) h in
+    ((bytes_eq-Decides (lowered word) (lowered (name_of row.op))).0 parts.0, (Decides-eqb (number_of m) (number_of row.mode)).0 parts.1)
 
 -- the opcode of an official mnemonic in its mode
 pub opcode_found : (k : ℕ) → k < 256 → is_jam (row_of k).op ≡ false → opcode_of (name_at k) (Some (row_of k).mode) ≡ Some k
@@ -273,6 +262,6 @@ no_mode k m h none =
 pub known : (k : ℕ) → k < 256 → is_jam (row_of k).op ≡ false → is_mnemonic (name_at k) ≡ true
 unfolding is_mnemonic opcode_of
 known k h official =
-    both_true _ _
-    (first_code_some (λ c. is_row (name_at k) None (row_of c)) 0 256 k (omega arith) h (both_true _ true (spelled_itself (name_at k)) refl))
+    and_from _ _
+    (first_code_some (λ c. is_row (name_at k) None (row_of c)) 0 256 k (omega arith) h (and_from _ true (spelled_itself (name_at k)) refl))
     (ap not (jam_at k h ∙ official))

@@ -1,9 +1,10 @@
 -- Lemmas on the reading of a line that has neither label nor comment.
-use Rattle.std.proofs.Common.{ℕ, suc, ◌≡◌, ◌<◌, ◌-◌, ◌==◌, Bool, true, false, ◌&&◌, List, [], ◌∷◌, ◌++◌, length, take, refl, ap, ◌∙◌, arith, None, length-append, eq-eqb}
+use Rattle.std.proofs.Common.{ℕ, suc, ◌≡◌, ◌<◌, ◌-◌, ◌==◌, true, false, ◌&&◌, List, [], ◌∷◌, ◌++◌, length, take, refl, ap, ◌∙◌, arith, None, length-append, eq-eqb}
 use Rattle.std.specs.Prelude.{nat_eq}
 use Rattle.std.specs.List.{list_all, position_or_len, suffix_len, ends_with}
 use Rattle.std.specs.Str.{IsAscii}
 use Rattle.std.specs.Str.Lossy.{utf8_valid_len}
+use Rattle.std.proofs.lemmas.Bool.{and_parts}
 use Rattle.std.proofs.lemmas.Bool.Decides.{nat_tests}
 use Rattle.std.proofs.lemmas.List.{take_all, take_at}
 use Rattle.std.proofs.lemmas.List.Folds.{list_all-append}
@@ -15,19 +16,11 @@ use Rattle.nj_asm_lines.specs.Words.{is_blank, without_start, without_end, lengt
 use Rattle.nj_asm_lines.specs.Grammar.{content, code_of, has_label, label_of, statement_text, said_on, line_of, statement_of}
 use Rattle.nj_asm.proofs.DigitLemmas.{is_plain}
 
-and_left : (a b : Bool) → (a && b) ≡ true → a ≡ true
-and_left true b h = refl
-and_left false b h = h
-
-and_right : (a b : Bool) → (a && b) ≡ true → b ≡ true
-and_right true b h = h
-and_right false b h = absurd cc
-
 head_plain : (byte : ℕ) (bytes : List ℕ) → list_all is_plain (byte ∷ bytes) ≡ true → is_plain byte ≡ true
-head_plain byte bytes h = and_left (is_plain byte) (list_all is_plain bytes) h
+head_plain byte bytes h = (and_parts (is_plain byte) (list_all is_plain bytes) h).0
 
 tail_plain : (byte : ℕ) (bytes : List ℕ) → list_all is_plain (byte ∷ bytes) ≡ true → list_all is_plain bytes ≡ true
-tail_plain byte bytes h = and_right (is_plain byte) (list_all is_plain bytes) h
+tail_plain byte bytes h = (and_parts (is_plain byte) (list_all is_plain bytes) h).1
 
 -- what a plain byte is not
 plain_no_feed : (b : ℕ) → is_plain b ≡ true → (b == 10) ≡ false
