@@ -1,5 +1,5 @@
 -- The commands of the program, and the reading of a whole command line.
-use Rattle.std.specs.Prelude.{ℕ, List, [], ◌∷◌, Option, Some, None, codes, find, option_and_then}
+use Rattle.std.specs.Prelude.{◌≤◌, ℕ, List, [], ◌∷◌, Option, Some, None, codes, find, option_and_then}
 use Rattle.std.specs.Prelude.{option_map, slice_get, unwrap_or}
 use Rattle.std.specs.Str.{bytes_eq}
 use Rattle.nj_outside.specs.Decimal.{decimal_of}
@@ -111,6 +111,24 @@ asm_row = record { word = codes "asm"; form = asm_form; made = asm_of }
 -- the commands that there are; our own
 abbrev pub table : List Row
 table = play_row ∷ search_row ∷ replay_row ∷ check_row ∷ workload_row ∷ asm_row ∷ []
+
+-- the numbers of a search are in their ranges; our own
+pub record AreInRange (options : SearchOptions) : Type 0 where
+  pub some_budget : 1 ≤ options.budget
+  pub most_budget : options.budget ≤ 2147483648
+  pub some_steps : 1 ≤ options.steps
+  pub most_steps : options.steps ≤ 16777215
+  pub least_exponent : 10 ≤ options.exponent
+  pub most_exponent : options.exponent ≤ 25
+
+-- the numbers of a command are in their ranges; our own
+unfoldable pub IsInRange : Command → Type 0
+IsInRange (Search cart script start options) = AreInRange options
+IsInRange (Play cart movie) = Unit {0}
+IsInRange (Replay cart script start movie) = Unit {0}
+IsInRange (Check cart script) = Unit {0}
+IsInRange (Workload number) = Unit {0}
+IsInRange (Asm source) = Unit {0}
 
 -- what the words after the command's own make of it, or none; our own
 unfoldable pub command_of : Row → List Word → Option Command

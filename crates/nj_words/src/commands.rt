@@ -1,6 +1,6 @@
 //! Each command, with its names and options.
-ghost use Rattle.std.specs.Prelude.{◌≡◌, ◌≤◌, length, Err, IfOk, None, Some};
-ghost use Rattle.nj_words.specs.Commands.{asm_row, check_row, command_of, play_row, replay_row};
+ghost use Rattle.std.specs.Prelude.{◌≡◌, ◌≤◌, length, Err, IfOk, IfSome, None, Some};
+ghost use Rattle.nj_words.specs.Commands.{AreInRange, IsInRange, asm_row, check_row, command_of, play_row, replay_row};
 ghost use Rattle.nj_words.specs.Commands.{search_options_of, search_row, workload_row};
 ghost use Rattle.nj_words.specs.Parser.{taken_of, words_of};
 ghost use Rattle.nj_words.specs.declared.refused.WordsRefused.TheVariants.{Usage};
@@ -14,9 +14,11 @@ static NO_OPTIONS: [&str; 0] = [];
 
 static PLAY_NAMES: [&str; 2] = ["CART", "MOVIE"];
 
+#[tactic(auto, unfolding(crate::specs::Commands::IsInRange))]
 pub(crate) fn play(alloc: Global, words: &[String]) -> Result<Command, WordsRefused>
     ensures read { IfOk result (λ command. command_of play_row (words_of words.now) ≡ Some command) }
     ensures usage { result ≡ Err Usage → command_of play_row (words_of words.now) ≡ None }
+    ensures in_range { IfOk result (λ command. IsInRange command) }
 {
     let given = take(alloc, PLAY_NAMES.as_slice(), NO_OPTIONS.as_slice(), words)?;
     Ok(Command::Play {
@@ -27,9 +29,11 @@ pub(crate) fn play(alloc: Global, words: &[String]) -> Result<Command, WordsRefu
 
 static REPLAY_NAMES: [&str; 4] = ["CART", "SCRIPT", "START", "MOVIE"];
 
+#[tactic(auto, unfolding(crate::specs::Commands::IsInRange))]
 pub(crate) fn replay(alloc: Global, words: &[String]) -> Result<Command, WordsRefused>
     ensures read { IfOk result (λ command. command_of replay_row (words_of words.now) ≡ Some command) }
     ensures usage { result ≡ Err Usage → command_of replay_row (words_of words.now) ≡ None }
+    ensures in_range { IfOk result (λ command. IsInRange command) }
 {
     let given = take(alloc, REPLAY_NAMES.as_slice(), NO_OPTIONS.as_slice(), words)?;
     Ok(Command::Replay {
@@ -47,7 +51,8 @@ static SEARCH_OPTIONS: [&str; 3] = ["budget", "steps", "slots"];
 #[tactic(auto, unfolding(crate::specs::Commands::search_options_of))]
 fn search_options(given: &Given<'_>) -> Option<SearchOptions>
     requires { 3 ≤ length given.now.values.items }
-    ensures { result ≡ search_options_of (taken_of given.now) }
+    ensures value { result ≡ search_options_of (taken_of given.now) }
+    ensures in_range { IfSome result (λ options. AreInRange options) }
 {
     let budget = given.number(0, 1, 2_147_483_648, 67_108_864)?;
     let steps = given.number(1, 1, 16_777_215, 1_000)? as u32;
@@ -59,9 +64,11 @@ fn search_options(given: &Given<'_>) -> Option<SearchOptions>
     })
 }
 
+#[tactic(auto, unfolding(crate::specs::Commands::IsInRange))]
 pub(crate) fn search(alloc: Global, words: &[String]) -> Result<Command, WordsRefused>
     ensures read { IfOk result (λ command. command_of search_row (words_of words.now) ≡ Some command) }
     ensures usage { result ≡ Err Usage → command_of search_row (words_of words.now) ≡ None }
+    ensures in_range { IfOk result (λ command. IsInRange command) }
 {
     let given = take(
         alloc,
@@ -82,9 +89,11 @@ pub(crate) fn search(alloc: Global, words: &[String]) -> Result<Command, WordsRe
 
 static CHECK_NAMES: [&str; 2] = ["CART", "SCRIPT"];
 
+#[tactic(auto, unfolding(crate::specs::Commands::IsInRange))]
 pub(crate) fn check(alloc: Global, words: &[String]) -> Result<Command, WordsRefused>
     ensures read { IfOk result (λ command. command_of check_row (words_of words.now) ≡ Some command) }
     ensures usage { result ≡ Err Usage → command_of check_row (words_of words.now) ≡ None }
+    ensures in_range { IfOk result (λ command. IsInRange command) }
 {
     let given = take(alloc, CHECK_NAMES.as_slice(), NO_OPTIONS.as_slice(), words)?;
     Ok(Command::Check {
@@ -95,9 +104,11 @@ pub(crate) fn check(alloc: Global, words: &[String]) -> Result<Command, WordsRef
 
 static WORKLOAD_NAMES: [&str; 1] = ["NUMBER"];
 
+#[tactic(auto, unfolding(crate::specs::Commands::IsInRange))]
 pub(crate) fn workload(alloc: Global, words: &[String]) -> Result<Command, WordsRefused>
     ensures read { IfOk result (λ command. command_of workload_row (words_of words.now) ≡ Some command) }
     ensures usage { result ≡ Err Usage → command_of workload_row (words_of words.now) ≡ None }
+    ensures in_range { IfOk result (λ command. IsInRange command) }
 {
     let given = take(
         alloc,
@@ -113,9 +124,11 @@ pub(crate) fn workload(alloc: Global, words: &[String]) -> Result<Command, Words
 
 static ASM_NAMES: [&str; 1] = ["SOURCE"];
 
+#[tactic(auto, unfolding(crate::specs::Commands::IsInRange))]
 pub(crate) fn asm(alloc: Global, words: &[String]) -> Result<Command, WordsRefused>
     ensures read { IfOk result (λ command. command_of asm_row (words_of words.now) ≡ Some command) }
     ensures usage { result ≡ Err Usage → command_of asm_row (words_of words.now) ≡ None }
+    ensures in_range { IfOk result (λ command. IsInRange command) }
 {
     let given = take(alloc, ASM_NAMES.as_slice(), NO_OPTIONS.as_slice(), words)?;
     Ok(Command::Asm {

@@ -6,7 +6,7 @@
 #![tactic(auto)]
 
 ghost use Rattle.std.specs.Prelude.{◌≡◌, Err, IfOk, None, Some, map, string_bytes};
-ghost use Rattle.nj_words.specs.Commands.{reading};
+ghost use Rattle.nj_words.specs.Commands.{reading, IsInRange};
 ghost use Rattle.nj_words.specs.Grammar.{PiecesAreSaid};
 ghost use Rattle.nj_words.specs.declared.refused.WordsRefused.TheVariants.{Usage};
 
@@ -72,6 +72,7 @@ pub struct SearchOptions {
 pub fn read_words(alloc: Global, words: &[String]) -> Result<Command, WordsRefused>
     ensures read { IfOk result (λ command. reading (map string_bytes words.now) ≡ Some command) }
     ensures usage { result ≡ Err Usage → reading (map string_bytes words.now) ≡ None }
+    ensures in_range { IfOk result (λ command. IsInRange command) }
 {
     let Some((command, rest)) = words.split_first() else {
         return Err(WordsRefused::Usage);
