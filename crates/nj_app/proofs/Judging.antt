@@ -35,7 +35,7 @@ ends_refused files work failed stop line e h = subst (λ s. Ends files work fail
 pub of_script : (cart script : List ℕ) (rest : List (List ℕ)) (hash : ℕ) → hash ≡ fnv_of script → Contains (map fnv_of (cart ∷ script ∷ rest)) hash
 of_script cart script rest hash e = (1, omega arith, sym e)
 
-among_two : (cart script : List ℕ) (rest : List (List ℕ)) (hash : ℕ) → Contains (map fnv_of rest) hash → Contains (map fnv_of (cart ∷ script ∷ rest)) hash
+pub among_two : (cart script : List ℕ) (rest : List (List ℕ)) (hash : ℕ) → Contains (map fnv_of rest) hash → Contains (map fnv_of (cart ∷ script ∷ rest)) hash
 among_two cart script rest hash h =
     contains_after (map fnv_of (script ∷ rest)) (fnv_of cart) hash (contains_after (map fnv_of rest) (fnv_of script) hash h)
 

@@ -1,4 +1,7 @@
+pub mod Chains
 pub mod Judging
+pub mod Limits
+pub mod Planned
 pub mod Readers
 pub mod Serving
 pub mod Statuses

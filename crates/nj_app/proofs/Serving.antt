@@ -1,7 +1,6 @@
 -- How the loading of one file after another makes the answer of `play`.
 use Rattle.std.proofs.Common.{◌≡◌, ◌+◌, ◌∷◌, ℕ, List, length, Contains, add-one, arith, Some, Result, Ok, Err, sym, ◌∙◌, subst}
 use Rattle.nj_outside.specs.Told.{Files}
-use Rattle.nj_seq.specs.declared.texts.Text.{Text}
 use Rattle.nj_ines.specs.Cartridge.{Cartridge}
 use Rattle.nj_machine.specs.Frame.{play}
 use Rattle.nj_app.specs.Play.{play_work, play_text, with_cart, with_movie}
@@ -24,7 +23,9 @@ unfolding Ends
 ends_then files whole rest failed stops.Usage leads h = leads.same ∙ h
 ends_then files whole rest failed (stops.Cartridge line) leads h = leads.same ∙ h
 ends_then files whole rest failed (stops.Script line) leads h = leads.same ∙ h
+ends_then files whole rest failed (stops.Plan line) leads h = leads.same ∙ h
 ends_then files whole rest failed (stops.Movie line) leads h = leads.same ∙ h
+ends_then files whole rest failed (stops.Source line) leads h = leads.same ∙ h
 ends_then files whole rest failed stops.ReadFault leads h = leads.reaches failed h
 ends_then files whole rest failed stops.NoMemory leads h = tt
 
@@ -77,7 +78,7 @@ module _ (files : Files) (cart_name movie_name : List ℕ) where
   plays before failed cart pads first second = (first after_cart).same ∙ (second _).same
 
 -- a reply with the text of the answer is the answer
-pub serves_reply : (files : Files) (work : Work) (failed status frames : ℕ) (text : List ℕ) (reply_text : Text) → reply_text ≡ text →
+pub serves_reply : (files : Files) (work : Work) (failed status frames : ℕ) (text : List ℕ) (reply_text : List ℕ) → reply_text ≡ text →
     given files work ≡ Some (done status text frames) → Serves files work failed (Ok (record { status = status; text = reply_text }))
 unfolding Serves Replies
 serves_reply files work failed status frames text reply_text e h = rw e (frames, h)

@@ -42,7 +42,9 @@ module _ (files : Files) (work : Work) (failed : ℕ) where
   stop_answers stops.Usage old h reads memory = refusal_answers 3 usage_line old h
   stop_answers (stops.Cartridge line) old h reads memory = refusal_answers 4 line old h
   stop_answers (stops.Script line) old h reads memory = refusal_answers 5 line old h
+  stop_answers (stops.Plan line) old h reads memory = refusal_answers 5 line old h
   stop_answers (stops.Movie line) old h reads memory = refusal_answers 6 line old h
+  stop_answers (stops.Source line) old h reads memory = refusal_answers 12 line old h
   stop_answers stops.ReadFault old h reads memory = absurd (reads refl)
   stop_answers stops.NoMemory old h reads memory = absurd (memory refl)
 
@@ -66,7 +68,9 @@ module _ (files : Files) (work : Work) (failed : ℕ) where
   stop_reaches stops.Usage status serves is_status e = cc
   stop_reaches (stops.Cartridge line) status serves is_status e = cc
   stop_reaches (stops.Script line) status serves is_status e = cc
+  stop_reaches (stops.Plan line) status serves is_status e = cc
   stop_reaches (stops.Movie line) status serves is_status e = cc
+  stop_reaches (stops.Source line) status serves is_status e = cc
   stop_reaches stops.ReadFault status serves is_status e = serves
   stop_reaches stops.NoMemory status serves is_status e = cc
 
@@ -76,7 +80,9 @@ module _ (files : Files) (work : Work) (failed : ℕ) where
   line_of_stop stops.Usage h = refl
   line_of_stop (stops.Cartridge line) h = rw h refl
   line_of_stop (stops.Script line) h = rw h refl
+  line_of_stop (stops.Plan line) h = rw h refl
   line_of_stop (stops.Movie line) h = rw h refl
+  line_of_stop (stops.Source line) h = rw h refl
   line_of_stop stops.ReadFault h = refl
   line_of_stop stops.NoMemory h = refl
 
@@ -87,17 +93,21 @@ module _ (files : Files) (work : Work) (failed : ℕ) where
 
 -- the status of a stop is one of those that there are
 pub stop_status : (stop : Stop) (status : ℕ) → status ≡ status_of stop → Contains statuses status
-stop_status stops.Usage status e = (1, lit< tt, rw e refl)
-stop_status (stops.Cartridge line) status e = (2, lit< tt, rw e refl)
-stop_status (stops.Script line) status e = (3, lit< tt, rw e refl)
-stop_status (stops.Movie line) status e = (4, lit< tt, rw e refl)
-stop_status stops.ReadFault status e = (5, lit< tt, rw e refl)
-stop_status stops.NoMemory status e = (7, lit< tt, rw e refl)
+stop_status stops.Usage status e = (3, lit< tt, rw e refl)
+stop_status (stops.Cartridge line) status e = (4, lit< tt, rw e refl)
+stop_status (stops.Script line) status e = (5, lit< tt, rw e refl)
+stop_status (stops.Plan line) status e = (5, lit< tt, rw e refl)
+stop_status (stops.Movie line) status e = (6, lit< tt, rw e refl)
+stop_status (stops.Source line) status e = (11, lit< tt, rw e refl)
+stop_status stops.ReadFault status e = (7, lit< tt, rw e refl)
+stop_status stops.NoMemory status e = (9, lit< tt, rw e refl)
 
 -- the status of a command that was carried out is one of those that there are
 pub carried_out_status : (status : ℕ) → IsCarriedOut status → Contains statuses status
 carried_out_status status (inl e) = (0, lit< tt, rw e refl)
-carried_out_status status (inr e) = (8, lit< tt, rw e refl)
+carried_out_status status (inr (inl e)) = (10, lit< tt, rw e refl)
+carried_out_status status (inr (inr (inl e))) = (1, lit< tt, rw e refl)
+carried_out_status status (inr (inr (inr e))) = (2, lit< tt, rw e refl)
 
 -- what a call did where it did not fail
 pub unless_failed : {A E : Type 0} {P Q : Type 0} (result : Result A E) → OnOk result P → OnErr result Q → ¬ Q → P

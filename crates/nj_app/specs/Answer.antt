@@ -2,18 +2,26 @@
 use Rattle.std.specs.Prelude.{ℕ, List, [], ◌∷◌, ◌++◌, Option, bytes_eq, codes, if◌then◌else◌}
 use Rattle.std.specs.Option.{option_map_or}
 use Rattle.nj_outside.specs.Told.{Files}
+use Rattle.nj_app.specs.Asm.{asm_work}
+use Rattle.nj_app.specs.Check.{check_work}
+use Rattle.nj_app.specs.Made.{workload_work}
 use Rattle.nj_app.specs.Play.{play_work}
 use Rattle.nj_app.specs.Refusals.{usage_line}
 use Rattle.nj_app.specs.Replay.{replay_work}
+use Rattle.nj_app.specs.Search.{search_work}
 use Rattle.nj_app.specs.Work.{Answer, Work, Done, given, refused}
 use Rattle.nj_words.specs.Commands.{reading}
 use Rattle.nj_words.specs.declared.Command.{Command}
-use Rattle.nj_words.specs.declared.Command.TheVariants.{Play, Replay}
+use Rattle.nj_words.specs.declared.Command.TheVariants.{Asm, Check, Play, Replay, Search, Workload}
 
 -- the work of a command
 unfoldable pub work_of : Command → Work
 work_of (Play cart movie) = play_work cart movie
 work_of (Replay cart script start movie) = replay_work cart script start movie
+work_of (Search cart script start options) = search_work cart script start options
+work_of (Check cart script) = check_work cart script
+work_of (Workload number) = workload_work number
+work_of (Asm source) = asm_work source
 
 -- the work of a command line: words without a reading are refused with status 3
 unfoldable pub work_for : List (List ℕ) → Work
@@ -35,3 +43,7 @@ movie_file name = if bytes_eq name (codes "-") then [] else name ∷ []
 abbrev pub file_names : Command → List (List ℕ)
 file_names (Play cart movie) = cart ∷ movie_file movie
 file_names (Replay cart script start movie) = cart ∷ script ∷ (movie_file start ++ movie_file movie)
+file_names (Search cart script start options) = cart ∷ script ∷ movie_file start
+file_names (Check cart script) = cart ∷ script ∷ []
+file_names (Workload number) = []
+file_names (Asm source) = source ∷ []

@@ -16,11 +16,12 @@ pub record IsPlain (status : ℕ) : Type 0 where
 
 -- the statuses that there are
 abbrev pub statuses : List ℕ
-statuses = 0 ∷ 3 ∷ 4 ∷ 5 ∷ 6 ∷ 7 ∷ 8 ∷ 9 ∷ 10 ∷ []
+statuses = 0 ∷ 1 ∷ 2 ∷ 3 ∷ 4 ∷ 5 ∷ 6 ∷ 7 ∷ 8 ∷ 9 ∷ 10 ∷ 12 ∷ []
 
--- the statuses of a command that was carried out: it ended well, or a replay did not end in a win
+-- the statuses of a command that was carried out: it ended well, a replay did not end in a win, or a search was exhausted or
+-- came to its limit
 abbrev pub IsCarriedOut : ℕ → Type 0
-IsCarriedOut status = (status ≡ 0) ⊎ (status ≡ 10)
+IsCarriedOut status = (status ≡ 0) ⊎ ((status ≡ 10) ⊎ ((status ≡ 1) ⊎ (status ≡ 2)))
 
 -- there is an answer, the status is its status, and its text was appended to what `out` held
 abbrev pub IsAnswered : Option Answer → ℕ → Option (List ℕ) → Option (List ℕ) → Type 0
@@ -43,6 +44,8 @@ pub record IsCutShort (answer : Option Answer) (old new : Option (List ℕ)) : T
 abbrev pub fixed_line : ℕ → Option (List ℕ)
 fixed_line status =
     if status == 0 then Some []
+    else if status == 1 then Some []
+    else if status == 2 then Some []
     else if status == 10 then Some []
     else if status == 3 then Some usage_line
     else if status == 7 then Some read_fault_line

@@ -1,8 +1,13 @@
 pub mod Answer
+pub mod Asm
 pub mod Causes
+pub mod Check
 pub mod Loading
+pub mod Made
+pub mod Outcomes
 pub mod Play
 pub mod Refusals
 pub mod Replay
+pub mod Search
 pub mod Stops
 pub mod Work

@@ -6,7 +6,7 @@ use Rattle.nj_replay.specs.declared.ReplayRefused.{ReplayRefused}
 use Rattle.nj_replay.specs.declared.ReplayRefused.TheVariants as replays
 use Rattle.nj_app.specs.Refusals.{refusal_line, replay_refusal, too_long}
 use Rattle.nj_app.specs.declared.stops.Stop.{Stop}
-use Rattle.nj_app.specs.declared.stops.Stop.TheVariants.{Cartridge, Script, Movie, ReadFault, NoMemory}
+use Rattle.nj_app.specs.declared.stops.Stop.TheVariants.{Cartridge, Script, Plan, Movie, Source, ReadFault, NoMemory}
 
 -- the stop has the line of this refusal, or memory ran out
 abbrev pub IsRefusal : (List ℕ → Stop) → List ℕ → List ℕ → Stop → Type 0
@@ -23,6 +23,14 @@ IsScriptRefusal = IsRefusal (λ line. Script line) (codes "script")
 -- the stop has the line of this refusal of a movie, or memory ran out
 abbrev pub IsMovieRefusal : List ℕ → Stop → Type 0
 IsMovieRefusal = IsRefusal (λ line. Movie line) (codes "movie")
+
+-- the stop has the line of this refusal of a plan, or memory ran out
+abbrev pub IsPlanRefusal : List ℕ → Stop → Type 0
+IsPlanRefusal = IsRefusal (λ line. Plan line) (codes "plan")
+
+-- the stop has the line of this refusal of a source, or memory ran out
+abbrev pub IsSourceRefusal : List ℕ → Stop → Type 0
+IsSourceRefusal = IsRefusal (λ line. Source line) (codes "asm")
 
 -- the stop has the line of this refusal of a replay, or memory ran out
 abbrev pub IsReplayRefusal : ReplayRefused → Stop → Type 0

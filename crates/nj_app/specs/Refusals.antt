@@ -1,12 +1,16 @@
 -- The lines on `err`: `nj: ` and what stopped the command. A refusal is its number, its name and each of its fields. Our own.
 use Rattle.std.specs.Prelude.{ℕ, nat_le, ◌&&◌, List, [], ◌∷◌, ◌++◌, map, codes, if◌then◌else◌}
 use Rattle.std.specs.Fmt.{decimal, signed_decimal}
+use Rattle.nj_asm.specs.declared.refusals.AsmRefused.{AsmRefused}
+use Rattle.nj_asm.specs.declared.refusals.AsmRefused.TheVariants as sources
 use Rattle.nj_ines.specs.declared.CartRefused.{CartRefused}
 use Rattle.nj_ines.specs.declared.CartRefused.TheVariants as carts
 use Rattle.nj_movie.specs.declared.MovieRefused.{MovieRefused}
 use Rattle.nj_movie.specs.declared.MovieRefused.TheVariants as movies
 use Rattle.nj_replay.specs.declared.ReplayRefused.{ReplayRefused}
 use Rattle.nj_replay.specs.declared.ReplayRefused.TheVariants as replays
+use Rattle.nj_search.specs.declared.planning.PlanRefused.{PlanRefused}
+use Rattle.nj_search.specs.declared.planning.PlanRefused.TheVariants as plans
 use Rattle.nj_script.specs.declared.refusal.ScriptRefused.{ScriptRefused}
 use Rattle.nj_script.specs.declared.refusal.ScriptRefused.TheVariants as scripts
 
@@ -54,6 +58,24 @@ script_refusal (scripts.TwiceNamed name) = codes "7 TwiceNamed name=" ++ shown n
 script_refusal (scripts.TooMany key limit) = codes "8 TooMany key=" ++ (shown key ++ (codes " limit=" ++ decimal limit))
 script_refusal (scripts.Version n) = codes "9 Version n=" ++ signed_decimal n
 script_refusal scripts.NoMemory = []
+
+-- a refused source; want of memory is no refusal
+unfoldable pub asm_refusal : AsmRefused → List ℕ
+asm_refusal (sources.Syntax line) = codes "1 Syntax line=" ++ decimal line
+asm_refusal (sources.UnknownOp line) = codes "2 UnknownOp line=" ++ decimal line
+asm_refusal (sources.NoMode line) = codes "3 NoMode line=" ++ decimal line
+asm_refusal (sources.Range line) = codes "4 Range line=" ++ decimal line
+asm_refusal (sources.UnknownLabel line) = codes "5 UnknownLabel line=" ++ decimal line
+asm_refusal (sources.TwiceLabel line) = codes "6 TwiceLabel line=" ++ decimal line
+asm_refusal (sources.TooLong line) = codes "7 TooLong line=" ++ decimal line
+asm_refusal sources.NoMemory = []
+
+-- a refused plan
+unfoldable pub plan_refusal : PlanRefused → List ℕ
+plan_refusal (plans.BudgetTooSmall budget cost) = codes "1 BudgetTooSmall budget=" ++ (decimal budget ++ (codes " cost=" ++ decimal cost))
+plan_refusal (plans.SeenTooSmall need slots) = codes "2 SeenTooSmall need=" ++ (decimal need ++ (codes " slots=" ++ decimal slots))
+plan_refusal (plans.TrailTooLong rows limit) = codes "3 TrailTooLong rows=" ++ (decimal rows ++ (codes " limit=" ++ decimal limit))
+plan_refusal (plans.MovieTooLong frames limit) = codes "4 MovieTooLong frames=" ++ (decimal frames ++ (codes " limit=" ++ decimal limit))
 
 -- a file with more bytes than its limit, by the number that its kind of file gives this refusal
 abbrev pub too_long : List ℕ → ℕ → List ℕ

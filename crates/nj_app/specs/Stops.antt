@@ -5,14 +5,16 @@ use Rattle.nj_app.specs.Refusals.{usage_line, read_fault_line, no_memory_line}
 use Rattle.nj_app.specs.Work.{Work, given, Reaches, refused, done}
 use Rattle.nj_app.specs.declared.stops.Reply.{Reply}
 use Rattle.nj_app.specs.declared.stops.Stop.{Stop}
-use Rattle.nj_app.specs.declared.stops.Stop.TheVariants.{Usage, Cartridge, Script, Movie, ReadFault, NoMemory}
+use Rattle.nj_app.specs.declared.stops.Stop.TheVariants.{Usage, Cartridge, Script, Plan, Movie, Source, ReadFault, NoMemory}
 
 -- the exit status of a stop
 abbrev pub status_of : Stop → ℕ
 status_of Usage = 3
 status_of (Cartridge line) = 4
 status_of (Script line) = 5
+status_of (Plan line) = 5
 status_of (Movie line) = 6
+status_of (Source line) = 12
 status_of ReadFault = 7
 status_of NoMemory = 9
 
@@ -21,7 +23,9 @@ abbrev pub line_of : Stop → List ℕ
 line_of Usage = usage_line
 line_of (Cartridge line) = line
 line_of (Script line) = line
+line_of (Plan line) = line
 line_of (Movie line) = line
+line_of (Source line) = line
 line_of ReadFault = read_fault_line
 line_of NoMemory = no_memory_line
 
@@ -31,7 +35,9 @@ unfoldable pub Ends : Files → Work → ℕ → Stop → Type 0
 Ends files work failed Usage = given files work ≡ Some (refused 3 usage_line)
 Ends files work failed (Cartridge line) = given files work ≡ Some (refused 4 line)
 Ends files work failed (Script line) = given files work ≡ Some (refused 5 line)
+Ends files work failed (Plan line) = given files work ≡ Some (refused 5 line)
 Ends files work failed (Movie line) = given files work ≡ Some (refused 6 line)
+Ends files work failed (Source line) = given files work ≡ Some (refused 12 line)
 Ends files work failed ReadFault = Reaches files work failed
 Ends files work failed NoMemory = Unit {0}
 

@@ -2,12 +2,18 @@
 //! its one line of refusal, and answers the exit status. What it answers is a function of the words and the files.
 #![tactic(auto)]
 
+mod assembling;
+mod checking;
 mod laws;
 mod loading;
+mod making;
+mod outcomes;
+mod planning;
 mod playing;
 mod refusals;
 mod replaying;
 mod running;
+mod searching;
 mod stops;
 #[cfg(test)]
 mod tests;

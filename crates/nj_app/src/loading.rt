@@ -76,6 +76,16 @@ pub fn load_movie<S: Shelf>(alloc: Global, shelf: &mut S, name: &str) -> Result<
     }
 }
 
+/// These bytes, read as a cartridge.
+pub fn cart_in(alloc: Global, bytes: &[u8]) -> Result<Cart, Stop>
+    ensures { Reads IsCartRefusal (cart_reading bytes.now) result }
+{
+    if bytes.len() as u64 > CART_LIMIT {
+        return Err(unread_cart(alloc, ReadRefused::TooLong { limit: CART_LIMIT }));
+    }
+    read_cart(alloc, bytes)
+}
+
 #[tactic(auto, unfolding(crate::specs::Play::cart_reading))]
 fn read_cart(alloc: Global, bytes: &[u8]) -> Result<Cart, Stop>
     requires { length bytes.now ≤ CART_LIMIT }
@@ -119,6 +129,21 @@ fn cart_stop(alloc: Global, refusal: &str) -> Stop
     }
 }
 
+/// These bytes, read as a script.
+pub fn script_in(alloc: Global, bytes: &[u8]) -> Result<Script, Stop>
+    ensures { Reads IsScriptRefusal (script_reading bytes.now) result }
+{
+    if bytes.len() as u64 > SCRIPT_LIMIT {
+        return Err(unread_script(
+            alloc,
+            ReadRefused::TooLong {
+                limit: SCRIPT_LIMIT,
+            },
+        ));
+    }
+    read_script(alloc, bytes)
+}
+
 #[tactic(auto, unfolding(crate::specs::Replay::script_reading))]
 fn read_script(alloc: Global, bytes: &[u8]) -> Result<Script, Stop>
     requires { length bytes.now ≤ SCRIPT_LIMIT }
@@ -160,6 +185,16 @@ fn script_stop(alloc: Global, refusal: &str) -> Stop
         Ok(line) => Stop::Script { line },
         Err(_) => Stop::NoMemory,
     }
+}
+
+/// These bytes, read as a movie.
+pub fn movie_in(alloc: Global, bytes: &[u8]) -> Result<Movie, Stop>
+    ensures { Reads IsMovieRefusal (movie_reading bytes.now) result }
+{
+    if bytes.len() as u64 > MOVIE_LIMIT {
+        return Err(unread_movie(alloc, ReadRefused::TooLong { limit: MOVIE_LIMIT }));
+    }
+    read_pads(alloc, bytes)
 }
 
 #[tactic(auto, unfolding(crate::specs::Play::movie_reading))]

@@ -3,11 +3,12 @@ ghost use Rattle.nj_machine.specs.Frame.{frame, play};
 ghost use Rattle.nj_machine.specs.State.{is_jammed};
 ghost use Rattle.nj_app.specs.Play.{play_line, play_text, ram_line, ram_lines, hex_line_of};
 
+use crate::stops::bytes_of;
 use nj_ines::Cart;
 use nj_machine::Machine;
 use nj_movie::Movie;
 use nj_pad::Pad;
-use nj_seq::Text;
+use nj_seq::{Seq, Text};
 use nj_steps::Steps;
 use std::alloc::{AllocError, Global};
 use std::sync::ledger::Ledger;
@@ -18,14 +19,15 @@ pub fn play<L: Ledger>(
     cart: &Cart,
     movie: &Movie,
     steps: &mut Steps<L>,
-) -> Result<Text, AllocError>
+) -> Result<Seq<u8>, AllocError>
     ensures text { IfOk result (λ text. text ≡ play_text (length movie.now) (play cart.now movie.now)) }
     ensures frames { steps.new ≤ steps.old + length movie.now }
     ensures never_falls { steps.old ≤ steps.new }
 {
     let mut machine = Machine::power_on(alloc, cart)?;
     run_frames(&mut machine, movie.pads(), steps);
-    write_state(alloc, movie.pads().len(), &machine)
+    let text = write_state(alloc, movie.pads().len(), &machine)?;
+    Ok(bytes_of(text))
 }
 
 fn run_frames<L: Ledger>(machine: &mut Machine, pads: &[Pad], steps: &mut Steps<L>)

@@ -1,10 +1,12 @@
 ghost use Rattle.std.specs.Prelude.{◌≡◌, ◌≢◌, ◌<◌, ◌∷◌, ◌++◌, map, IfOk, string_bytes};
-ghost use Rattle.nj_app.specs.Refusals.{cart_refusal, movie_refusal, replay_refusal, script_refusal, shown, shown_byte, too_long, refusal_line};
+ghost use Rattle.nj_app.specs.Refusals.{asm_refusal, cart_refusal, movie_refusal, plan_refusal, replay_refusal, script_refusal, shown, shown_byte, too_long, refusal_line};
 
+use nj_asm::AsmRefused;
 use nj_ines::CartRefused;
 use nj_movie::MovieRefused;
 use nj_replay::ReplayRefused;
 use nj_script::ScriptRefused;
+use nj_search::PlanRefused;
 use nj_seq::Text;
 use std::alloc::{AllocError, Global};
 
@@ -66,6 +68,44 @@ pub fn replay_text(alloc: Global, refused: ReplayRefused) -> Result<String, Allo
         ReplayRefused::NotStart { frame } => format!(in alloc; "3 NotStart frame={frame}"),
         ReplayRefused::NotHeld { frame } => format!(in alloc; "4 NotHeld frame={frame}"),
         ReplayRefused::NoMemory => Err(AllocError),
+    }
+}
+
+/// A refused plan.
+#[tactic(auto, unfolding(crate::specs::Refusals::plan_refusal))]
+pub fn plan_text(alloc: Global, refused: PlanRefused) -> Result<String, AllocError>
+    ensures { IfOk result (λ text. string_bytes text ≡ plan_refusal refused) }
+{
+    match refused {
+        PlanRefused::BudgetTooSmall { budget, cost } => {
+            format!(in alloc; "1 BudgetTooSmall budget={budget} cost={cost}")
+        }
+        PlanRefused::SeenTooSmall { need, slots } => {
+            format!(in alloc; "2 SeenTooSmall need={need} slots={slots}")
+        }
+        PlanRefused::TrailTooLong { rows, limit } => {
+            format!(in alloc; "3 TrailTooLong rows={rows} limit={limit}")
+        }
+        PlanRefused::MovieTooLong { frames, limit } => {
+            format!(in alloc; "4 MovieTooLong frames={frames} limit={limit}")
+        }
+    }
+}
+
+/// A refused source. Want of memory has no text and stays that.
+#[tactic(auto, unfolding(crate::specs::Refusals::asm_refusal))]
+pub fn asm_text(alloc: Global, refused: AsmRefused) -> Result<String, AllocError>
+    ensures { IfOk result (λ text. string_bytes text ≡ asm_refusal refused) }
+{
+    match refused {
+        AsmRefused::Syntax { line } => format!(in alloc; "1 Syntax line={line}"),
+        AsmRefused::UnknownOp { line } => format!(in alloc; "2 UnknownOp line={line}"),
+        AsmRefused::NoMode { line } => format!(in alloc; "3 NoMode line={line}"),
+        AsmRefused::Range { line } => format!(in alloc; "4 Range line={line}"),
+        AsmRefused::UnknownLabel { line } => format!(in alloc; "5 UnknownLabel line={line}"),
+        AsmRefused::TwiceLabel { line } => format!(in alloc; "6 TwiceLabel line={line}"),
+        AsmRefused::TooLong { line } => format!(in alloc; "7 TooLong line={line}"),
+        AsmRefused::NoMemory => Err(AllocError),
     }
 }
 

@@ -8,8 +8,9 @@ ghost use Rattle.nj_app.specs.Stops.{Serves};
 ghost use Rattle.nj_app.specs.Work.{given};
 
 use crate::loading::movie_stop;
+use crate::outcomes::outcome_line;
 use crate::refusals::replay_text;
-use crate::stops::{Reply, Stop};
+use crate::stops::{Reply, Stop, bytes_of};
 use nj_ines::Cart;
 use nj_movie::Movie;
 use nj_replay::{ReplayRefused, Replayed, replay};
@@ -53,7 +54,7 @@ fn reply_of(alloc: Global, replayed: Replayed) -> Result<Reply, Stop>
     ensures done { IfOk result (λ reply. IsCarriedOut reply.status) }
 {
     let is_won = is_win(replayed.verdict);
-    let text = write_line(alloc, is_won, replayed)?;
+    let text = bytes_of(write_line(alloc, is_won, replayed)?);
     let status = if is_won { 0 } else { NOT_WON };
     Ok(Reply { status, text })
 }
@@ -73,7 +74,6 @@ fn outcome_word(is_won: bool) -> &'static str
     if is_won { "won" } else { "notwon" }
 }
 
-#[tactic(auto, unfolding(crate::specs::Replay::outcome_line))]
 fn write_line(alloc: Global, is_won: bool, replayed: Replayed) -> Result<Text, AllocError>
     requires { is_won ≡ is_win replayed.verdict }
     ensures { IfOk result (λ text. text ≡ replay_line replayed) }
@@ -85,8 +85,7 @@ fn write_line(alloc: Global, is_won: bool, replayed: Replayed) -> Result<Text, A
         reward,
         verdict: _,
     } = replayed;
-    let line = format!(in alloc; "# {outcome} step={step} frames={frames} reward={reward}\n")?;
-    Ok(Text::from_string(line))
+    outcome_line(alloc, outcome, step, u64::from(frames), reward)
 }
 
 fn refused_replay(alloc: Global, refused: ReplayRefused) -> Stop

@@ -8,11 +8,11 @@ ghost use Rattle.nj_app.specs.Play.{play_work};
 ghost use Rattle.nj_app.specs.Stops.{Serves};
 ghost use Rattle.nj_app.specs.Work.{given, Reaches};
 ghost use Rattle.nj_app.specs.Replay.{replay_work};
-ghost use Rattle.nj_words.specs.Commands.{reading};
+ghost use Rattle.nj_words.specs.Commands.{reading, IsInRange};
 
 use crate::loading::{load_cart, load_movie, load_script};
 use crate::stops::{Reply, Stop};
-use crate::{playing, replaying};
+use crate::{assembling, checking, making, playing, replaying, searching};
 use nj_outside::{Shelf, Sink, write_all};
 use nj_steps::Steps;
 use nj_words::{Command, WordsRefused, read_words};
@@ -58,8 +58,8 @@ pub fn run_plain<S: Shelf, O: Sink, E: Sink, L: Ledger>(
     ensures cut_short { (files : Files) → S.content shelf.old ≡ Some files → result ≡ 8 →
         IsCutShort (answer (map string_bytes words.now) files) (O.written out.old) (O.written out.new) }
 
-    // no other status but 0, 10 and 8 writes to `out`
-    ensures silent { result ≢ 0 → result ≢ 10 → result ≢ 8 → O.written out.new ≡ O.written out.old }
+    // no other status but 0, 1, 2, 10 and 8 writes to `out`
+    ensures silent { result ≢ 0 → result ≢ 1 → result ≢ 2 → result ≢ 10 → result ≢ 8 → O.written out.new ≡ O.written out.old }
 
     // the line on `err`
     ensures line { (files : Files) → S.content shelf.old ≡ Some files → ¬ Rose (E.faults err.old) (E.faults err.new) →
@@ -74,7 +74,7 @@ pub fn run_plain<S: Shelf, O: Sink, E: Sink, L: Ledger>(
     ensures never_falls { steps.old ≤ steps.new }
 {
     match reply_to(alloc, words, shelf, steps) {
-        Ok(reply) => match write_all(out, reply.text.as_bytes()) {
+        Ok(reply) => match write_all(out, reply.text.as_slice()) {
             Ok(()) => reply.status,
             Err(_) => {
                 let _ = write_all(err, WRITE_FAULT_LINE);
@@ -120,13 +120,14 @@ fn reply_to<S: Shelf, L: Ledger>(
 }
 
 /// The reply to a command.
-#[tactic(auto, unfolding(crate::specs::Answer::work_of))]
+#[tactic(auto, unfolding(crate::specs::Answer::work_of, nj_words::specs::Commands::IsInRange))]
 fn carry_out<S: Shelf, L: Ledger>(
     alloc: Global,
     command: &Command,
     shelf: &mut S,
     steps: &mut Steps<L>,
 ) -> Result<Reply, Stop>
+    requires { IsInRange command.now }
     ensures serves { (files : Files) → S.content shelf.old ≡ Some files →
         Serves files (work_of command.now) (S.failed_read shelf.new) result }
     ensures done { IfOk result (λ reply. IsCarriedOut reply.status) }
@@ -154,6 +155,25 @@ fn carry_out<S: Shelf, L: Ledger>(
             shelf,
             steps,
         ),
+        Command::Search {
+            cart,
+            script,
+            start,
+            options,
+        } => searching::search(
+            alloc,
+            shelf,
+            cart.as_str(),
+            script.as_str(),
+            start.as_str(),
+            *options,
+            steps,
+        ),
+        Command::Check { cart, script } => {
+            checking::check(alloc, shelf, cart.as_str(), script.as_str())
+        }
+        Command::Workload { number } => making::workload(alloc, *number, steps),
+        Command::Asm { source } => assembling::asm(alloc, shelf, source.as_str()),
     }
 }
 

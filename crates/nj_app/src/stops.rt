@@ -1,7 +1,7 @@
 ghost use Rattle.std.specs.Prelude.{◌≡◌};
 ghost use Rattle.nj_app.specs.Stops.{status_of, line_of};
 
-use nj_seq::Text;
+use nj_seq::{Seq, Text};
 use std::alloc::AllocError;
 
 /// Why a command ends before its text. A refused file has its whole line.
@@ -10,7 +10,9 @@ pub enum Stop {
     Usage,
     Cartridge { line: Text },
     Script { line: Text },
+    Plan { line: Text },
     Movie { line: Text },
+    Source { line: Text },
     ReadFault,
     NoMemory,
 }
@@ -19,7 +21,14 @@ pub enum Stop {
 #[derive(Debug, Drop)]
 pub struct Reply {
     pub status: u8,
-    pub text: Text,
+    pub text: Seq<u8>,
+}
+
+/// The bytes of a text, which move.
+pub fn bytes_of(text: Text) -> Seq<u8>
+    ensures { result ≡ text }
+{
+    Seq::from_vec(text.into_string().into_bytes())
 }
 
 impl Stop {
@@ -30,7 +39,9 @@ impl Stop {
             Stop::Usage => 3,
             Stop::Cartridge { line: _ } => 4,
             Stop::Script { line: _ } => 5,
+            Stop::Plan { line: _ } => 5,
             Stop::Movie { line: _ } => 6,
+            Stop::Source { line: _ } => 12,
             Stop::ReadFault => 7,
             Stop::NoMemory => 9,
         }
@@ -44,7 +55,9 @@ impl Stop {
             Stop::Usage => b"nj: usage\n",
             Stop::Cartridge { line } => line.as_bytes(),
             Stop::Script { line } => line.as_bytes(),
+            Stop::Plan { line } => line.as_bytes(),
             Stop::Movie { line } => line.as_bytes(),
+            Stop::Source { line } => line.as_bytes(),
             Stop::ReadFault => b"nj: read fault\n",
             Stop::NoMemory => b"nj: no memory\n",
         }

@@ -15,6 +15,11 @@ const WALK: [u8; 36] = [
     0x02, 0xE6, 0x10, 0x40,
 ];
 
+// Reads button A with the strobe high, and keeps it at $10.
+const BUTTON: [u8; 15] = [
+    0xA9, 0x01, 0x8D, 0x16, 0x40, 0xAD, 0x16, 0x40, 0x29, 0x01, 0x85, 0x10, 0x4C, 0x05, 0x80,
+];
+
 // A point for each count at $10, and 100 more once it is 5, which wins.
 const GOAL: &str = r#"{"version":1,
 "properties":[{"name":"x","at":16,"kind":"u8"},{"name":"t","at":17,"kind":"u8"}],
@@ -23,12 +28,18 @@ const GOAL: &str = r#"{"version":1,
 "rules":[{"name":"go","weights":[{"property":"x","weight":1}]},
 {"name":"goal","when":[{"property":"x","op":"==","value":5}],"win":true,"reward":100}]}"#;
 
+// What `check` tells of the two.
+const CHECKED: &str = "# check prg=1 chr=1 mirror=H properties=2 rules=2 inputs=2 cost=8992\n";
+
 // Three frames without a button.
 const START: &str = "|..|........|\n|..|........|\n|..|........|\n";
 
+// A header of 16 KiB and 8 KiB, without its last ten zeros.
+const HEADER: &[u8] = b"NES\x1A\x01\x01";
+
 // A cartridge of 16 KiB and 8 KiB whose program begins with the code, at the reset vector $8000; the NMI's is $80nn.
-fn cartridge(alloc: Global, code: &[u8], nmi: u8) -> Result<Vec<u8>, AllocError> {
-    let mut file = Vec::from_slice(alloc, b"NES\x1A\x01\x01")?;
+fn cartridge(alloc: Global, header: &[u8], code: &[u8], nmi: u8) -> Result<Vec<u8>, AllocError> {
+    let mut file = Vec::from_slice(alloc, header)?;
     file.resize(16, 0)?;
     file.extend_from_slice(code)?;
     file.resize(16 + 0x3FFA, 0)?;
@@ -45,14 +56,40 @@ fn named(alloc: Global, name: &str, bytes: Vec<u8>) -> Result<(String, Vec<u8>),
 // and `goal` is its script.
 fn shelf_with(alloc: Global, movie: &[u8], failing: &[u64]) -> Result<MemShelf, AllocError> {
     let mut files = Vec::new(alloc);
-    let count = cartridge(alloc, &[0xE6, 0x10, 0x4C, 0x00, 0x80], 0)?;
+    let count = cartridge(alloc, HEADER, &[0xE6, 0x10, 0x4C, 0x00, 0x80], 0)?;
     let mut short = count.clone()?;
     short.truncate(15);
-    let jam = cartridge(alloc, &[0x02, 0x10, 0x4C, 0x00, 0x80], 0)?;
+    let jam = cartridge(alloc, HEADER, &[0x02, 0x10, 0x4C, 0x00, 0x80], 0)?;
     files.push(named(alloc, "count", count)?)?;
     files.push(named(alloc, "short", short)?)?;
     files.push(named(alloc, "jam", jam)?)?;
-    files.push(named(alloc, "walk", cartridge(alloc, &WALK, 0x09)?)?)?;
+    for (name, header) in [
+        ("disk", b"NES\x1A\x01\x01\x00DiskDude!".as_slice()),
+        (
+            "pal",
+            b"NES\x1A\x01\x01\x00\x08\x00\x00\x00\x00\x01".as_slice(),
+        ),
+        (
+            "multi",
+            b"NES\x1A\x01\x01\x00\x08\x00\x00\x00\x00\x02".as_slice(),
+        ),
+        ("trainer", b"NES\x1A\x01\x01\x0C".as_slice()),
+    ] {
+        files.push(named(alloc, name, cartridge(alloc, header, &WALK, 0x09)?)?)?;
+    }
+    let button = cartridge(alloc, HEADER, &BUTTON, 0)?;
+    files.push(named(alloc, "button", button)?)?;
+    let mut large = Vec::from_slice(alloc, b"NES\x1A\x02\x01")?;
+    large.resize(40_976, 0)?;
+    files.push(named(alloc, "large", large)?)?;
+    let walk = cartridge(alloc, HEADER, &WALK, 0x09)?;
+    let mut cut = walk.clone()?;
+    cut.truncate(24_591);
+    files.push(named(alloc, "cut", cut)?)?;
+    let mut long = walk.clone()?;
+    long.resize(24_592 + 128, 0)?;
+    files.push(named(alloc, "long", long)?)?;
+    files.push(named(alloc, "walk", walk)?)?;
     files.push(named(alloc, "goal", Vec::from_slice(alloc, GOAL.as_bytes())?)?)?;
     files.push(named(alloc, "start", Vec::from_slice(alloc, START.as_bytes())?)?)?;
     files.push(named(alloc, "movie", Vec::from_slice(alloc, movie)?)?)?;
@@ -203,6 +240,74 @@ fn plays_and_refuses(rt: HostRuntime) -> Result<(), Fail> {
             "nj: script 3 UnknownKey key=??\n",
         ),
         ("replay walk goal start", "", 3, "", "nj: usage\n"),
+        ("check walk goal", "", 0, CHECKED, ""),
+        ("check disk goal", "", 0, CHECKED, ""),
+        ("check pal goal", "", 4, "", "nj: cartridge 7 Timing n=1\n"),
+        ("check multi goal", "", 0, CHECKED, ""),
+        ("check trainer goal", "", 4, "", "nj: cartridge 2 Trainer\n"),
+        (
+            "check cut goal",
+            "",
+            4,
+            "",
+            "nj: cartridge 8 Short need=24592 have=24591\n",
+        ),
+        ("check long goal", "", 0, CHECKED, ""),
+        ("check walk movie", "", 5, "", "nj: script 1 NotJson\n"),
+        (
+            "search walk goal start --budget 8991",
+            "",
+            5,
+            "",
+            "nj: plan 1 BudgetTooSmall budget=8991 cost=8992\n",
+        ),
+        (
+            "search walk goal start --slots 10",
+            "",
+            5,
+            "",
+            "nj: plan 2 SeenTooSmall need=14926 slots=1024\n",
+        ),
+        (
+            "search walk goal start --steps 9000",
+            "",
+            5,
+            "",
+            "nj: plan 3 TrailTooLong rows=67167000 limit=67108864\n",
+        ),
+        (
+            "search walk goal start --budget 8992 --steps 1048574",
+            "",
+            5,
+            "",
+            "nj: plan 4 MovieTooLong frames=1048577 limit=1048576\n",
+        ),
+        ("search walk goal start --steps=0", "", 3, "", "nj: usage\n"),
+        ("search walk none start", "", 7, "", "nj: read fault\n"),
+        ("asm movie", "", 0, "", ""),
+        (
+            "asm movie",
+            ".org $8000\nSEI\nLDA #$80\nSTA $2000\nloop: JMP loop\n",
+            0,
+            "8000 78       SEI\n8001 A9 80    LDA #$80\n8003 8D 00 20 STA $2000\n8006 4C 06 80 JMP $8006\n",
+            "",
+        ),
+        (
+            "asm movie",
+            ".org $8000\nFOO\n",
+            12,
+            "",
+            "nj: asm 2 UnknownOp line=2\n",
+        ),
+        ("asm movie", "BNE $9000", 12, "", "nj: asm 4 Range line=1\n"),
+        (
+            "asm movie",
+            "x:\nx:\n",
+            12,
+            "",
+            "nj: asm 6 TwiceLabel line=2\n",
+        ),
+        ("asm none", "", 7, "", "nj: read fault\n"),
     ] {
         let (answered, wrote, told) = outcome(rt.alloc(), line, movie, (&[], &[], &[]))?;
         assert_eq!(rt; answered, status, "{line}");

@@ -28,7 +28,7 @@ limits_add game bounds (suc a) b state =
     ∙ then_gone_on (state.step + 1) (next game bounds state) (searched game bounds (a + b)) (searched game bounds a) (searched game bounds b)
     (λ s. limits_add game bounds a b s)
 
-won_or-Goes : (w : Option Candidate) (n : Next) (new : State) → won_or w n ≡ Goes new → n ≡ Goes new
+pub won_or-Goes : (w : Option Candidate) (n : Next) (new : State) → won_or w n ≡ Goes new → n ≡ Goes new
 won_or-Goes (Some c) n new h = absurd (cc)
 won_or-Goes None n new h = h
 
@@ -37,7 +37,7 @@ state_in other (Won c) = other
 state_in other Exhausted = other
 state_in other (Goes s) = s
 
-exhausted_or-Goes : (ks : List Candidate) (f : List Candidate → State) (new : State) → exhausted_or ks f ≡ Goes new → f ks ≡ new
+pub exhausted_or-Goes : (ks : List Candidate) (f : List Candidate → State) (new : State) → exhausted_or ks f ≡ Goes new → f ks ≡ new
 unfolding state_in
 exhausted_or-Goes [] f new h = absurd (cc)
 exhausted_or-Goes (k ∷ ks) f new h = ap (state_in new) h
@@ -60,9 +60,9 @@ front_is_bounded game bounds state new h =
     (rw (length-map (take bounds.most (in_order (is_before game) (fresh_of game bounds state))) word_of) (take_most bounds.most (in_order (is_before game) (fresh_of game bounds state))))
 
 -- a candidate of a front: its parent is one of the words, and its pad one of those allowed after it
-record IsOf (game : Game) (front : List Word) (c : Candidate) : Type 0 where
-  stood : Contains front c.parent
-  is_allowed : Contains (game.allowed c.parent) c.pad
+pub record IsOf (game : Game) (front : List Word) (c : Candidate) : Type 0 where
+  pub stood : Contains front c.parent
+  pub is_allowed : Contains (game.allowed c.parent) c.pad
 
 extended : (game : Game) (front : List Word) (number : ℕ) (word : Word) (pads : List ℕ) → Contains front word
     → All (Contains (game.allowed word)) pads → All (IsOf game front) (extensions number word pads)
@@ -72,7 +72,7 @@ extended game front number word (pad ∷ pads) stood all =
     (record { stood = stood; is_allowed = All-head (Contains (game.allowed word)) pad pads all })
     (extended game front (number + 1) word pads stood (All-tail (Contains (game.allowed word)) pad pads all))
 
-made : (game : Game) (front : List Word) (i : ℕ) (words : List Word) → All (Contains front) words → All (IsOf game front) (candidates_from game i words)
+pub made : (game : Game) (front : List Word) (i : ℕ) (words : List Word) → All (Contains front) words → All (IsOf game front) (candidates_from game i words)
 made game front i [] all = All-nil (IsOf game front)
 made game front i (word ∷ words) all =
     All-append (IsOf game front) (extensions (256 * i) word (game.allowed word)) (candidates_from game (i + 1) words)
@@ -99,7 +99,7 @@ parents_stood_before game bounds state new h =
     (λ c o. record { parent = c.parent; pad = c.pad; stood = o.stood; is_allowed = o.is_allowed; is = refl })
     (kept_of game bounds state) (kept_are_of game bounds state)))
 
-longer : (n : ℕ) (word : Word) (pad : ℕ) → length word ≡ n → length (word ++ pad ∷ []) ≡ n + 1
+pub longer : (n : ℕ) (word : Word) (pad : ℕ) → length word ≡ n → length (word ++ pad ∷ []) ≡ n + 1
 longer n word pad h = grind (arith, length-append)
 
 pub words_are_equally_long : WordsAreEquallyLong

@@ -1,9 +1,9 @@
 -- The laws of the search, in its own words.
-use Rattle.std.specs.Prelude.{◌≡◌, ℕ, ◌+◌, ◌≤◌, false, List, [], ◌∷◌, ◌++◌, length, All, Contains, Some}
+use Rattle.std.specs.Prelude.{◌≡◌, ℕ, ◌+◌, ◌/◌, ◌≤◌, false, List, [], ◌∷◌, ◌++◌, length, All, Contains, Some, slice_get}
 use Rattle.nj_search_defs.specs.Game.{Word, Win, Game, Bounds}
 use Rattle.nj_search_defs.specs.Candidates.{Candidate}
 use Rattle.nj_search_defs.specs.Pruning.{judged_of, is_before, winner}
-use Rattle.nj_search_defs.specs.Outcome.{State, Goes, next, Outcome, WonAt, LimitAt, searched, outcome}
+use Rattle.nj_search_defs.specs.Outcome.{State, Won, Goes, next, Outcome, WonAt, LimitAt, searched, outcome}
 
 -- a search of a + b steps is one of a steps that goes on for b more where it came to its limit
 abbrev pub gone_on : Outcome → (State → Outcome) → Outcome
@@ -54,3 +54,35 @@ WinnerIsBest = (game : Game) (lives : List Candidate) (best : Candidate)
 abbrev pub WonWins : Type 0
 WonWins = (game : Game) (bounds : Bounds) (limit step : ℕ) (word : Word)
     → outcome game bounds limit ≡ WonAt step word → (game.judged word).verdict ≡ Win
+
+-- the word of a search that is won is as long as the steps that were made, and these are within the limit
+pub record IsWonWithin (limit step : ℕ) (word : Word) : Type 0 where
+  pub long : length word ≡ step
+  pub within : step ≤ limit
+
+-- so is that of each search that is won
+abbrev pub WonWordsAreAsLong : Type 0
+WonWordsAreAsLong = (game : Game) (bounds : Bounds) (limit step : ℕ) (word : Word)
+    → outcome game bounds limit ≡ WonAt step word → IsWonWithin limit step word
+
+-- at its limit a search has made all its steps, and its front has words, each as long as they are
+pub record IsAtLimit (limit : ℕ) (state : State) : Type 0 where
+  pub step : state.step ≡ limit
+  pub some : 1 ≤ length state.front
+  pub long : All (λ word. length word ≡ limit) state.front
+
+-- so is each search that comes to its limit
+abbrev pub LimitsHaveFronts : Type 0
+LimitsHaveFronts = (game : Game) (bounds : Bounds) (limit : ℕ) (state : State)
+    → outcome game bounds limit ≡ LimitAt state → IsAtLimit limit state
+
+-- a step that goes on is one more
+abbrev pub StepsAreCounted : Type 0
+StepsAreCounted = (game : Game) (bounds : Bounds) (state new : State)
+    → next game bounds state ≡ Goes new → new.step ≡ state.step + 1
+
+-- where at most 256 pads may follow a word, the number of the winner of a step tells its parent's place in the front
+abbrev pub WinnersTellParents : Type 0
+WinnersTellParents = (game : Game) (bounds : Bounds) (state : State) (c : Candidate)
+    → ((word : Word) → length (game.allowed word) ≤ 256)
+    → next game bounds state ≡ Won c → slice_get state.front (c.number / 256) ≡ Some c.parent

@@ -3,7 +3,7 @@
 //! laws of them as their contracts, and do nothing.
 #![tactic(auto)]
 
-ghost use Rattle.nj_search_defs.specs.Laws.{LimitsAdd, FrontIsBounded, ParentsStoodBefore, WordsAreEquallyLong, WinnerIsBest, WonWins};
+ghost use Rattle.nj_search_defs.specs.Laws.{LimitsAdd, FrontIsBounded, ParentsStoodBefore, WordsAreEquallyLong, WinnerIsBest, WonWins, WonWordsAreAsLong, LimitsHaveFronts, StepsAreCounted, WinnersTellParents};
 
 /// A search that may go on behind its limit ends as the unbroken one.
 pub fn limits_add()
@@ -33,4 +33,24 @@ pub fn winner_is_best()
 /// The word of a search that is won has the verdict Win.
 pub fn won_wins()
     ensures { WonWins }
+{}
+
+/// The word of a search that is won is as long as its step, which is within the limit.
+pub fn won_words_are_as_long()
+    ensures { WonWordsAreAsLong }
+{}
+
+/// At its limit a search has made all its steps, and its front has words, each as long as they are.
+pub fn limits_have_fronts()
+    ensures { LimitsHaveFronts }
+{}
+
+/// A step that goes on is one more.
+pub fn steps_are_counted()
+    ensures { StepsAreCounted }
+{}
+
+/// The number of a winner tells its parent's place in the front.
+pub fn winners_tell_parents()
+    ensures { WinnersTellParents }
 {}

@@ -5,7 +5,7 @@ use Rattle.std.specs.Prelude.{option_and_then}
 use Rattle.std.specs.Borrow.{Bor}
 use Rattle.std.specs.Str.{bytes_eq}
 use Rattle.nj_words.specs.Words.{Taken, Word, taken}
-use Rattle.nj_words.specs.Commands.{Row, command_of, play_row, reading, replay_row}
+use Rattle.nj_words.specs.Commands.{Row, asm_row, check_row, command_of, play_row, reading, replay_row, search_row, workload_row}
 use Rattle.nj_words.specs.Parser.{form_of, words_of}
 use Rattle.nj_words.proofs.Lookups.{same_word}
 
@@ -36,14 +36,34 @@ pub play_read : (words : List Word) → reading (codes "play" ∷ words) ≡ com
 unfolding reading
 play_read words = refl
 
+pub search_read : (words : List Word) → reading (codes "search" ∷ words) ≡ command_of search_row words
+unfolding reading
+search_read words = refl
+
 pub replay_read : (words : List Word) → reading (codes "replay" ∷ words) ≡ command_of replay_row words
 unfolding reading
 replay_read words = refl
 
--- no command has this word
-pub other_read : (word : Word) (words : List Word) → (word ≡ codes "play" → ⊥) → (word ≡ codes "replay" → ⊥) → reading (word ∷ words) ≡ None
+pub check_read : (words : List Word) → reading (codes "check" ∷ words) ≡ command_of check_row words
 unfolding reading
-other_read word words not_play not_replay =
-    let first = other_word word (codes "play") not_play in
-    let second = other_word word (codes "replay") not_replay in
-    rw (first, second) refl
+check_read words = refl
+
+pub workload_read : (words : List Word) → reading (codes "workload" ∷ words) ≡ command_of workload_row words
+unfolding reading
+workload_read words = refl
+
+pub asm_read : (words : List Word) → reading (codes "asm" ∷ words) ≡ command_of asm_row words
+unfolding reading
+asm_read words = refl
+
+-- no command has this word
+pub other_read : (word : Word) (words : List Word) → (word ≡ codes "play" → ⊥) → (word ≡ codes "search" → ⊥) → (word ≡ codes "replay" → ⊥) → (word ≡ codes "check" → ⊥) → (word ≡ codes "workload" → ⊥) → (word ≡ codes "asm" → ⊥) → reading (word ∷ words) ≡ None
+unfolding reading
+other_read word words not_play not_search not_replay not_check not_workload not_asm =
+    let play_differs = other_word word (codes "play") not_play in
+    let search_differs = other_word word (codes "search") not_search in
+    let replay_differs = other_word word (codes "replay") not_replay in
+    let check_differs = other_word word (codes "check") not_check in
+    let workload_differs = other_word word (codes "workload") not_workload in
+    let asm_differs = other_word word (codes "asm") not_asm in
+    rw (play_differs, search_differs, replay_differs, check_differs, workload_differs, asm_differs) refl

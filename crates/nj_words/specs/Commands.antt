@@ -1,10 +1,13 @@
 -- The commands of the program, and the reading of a whole command line.
-use Rattle.std.specs.Prelude.{ℕ, List, [], ◌∷◌, Option, Some, None, codes, find, option_and_then}
-use Rattle.std.specs.Prelude.{slice_get, unwrap_or}
+use Rattle.std.specs.Prelude.{◌≤◌, ℕ, List, [], ◌∷◌, Option, Some, None, codes, find, option_and_then}
+use Rattle.std.specs.Prelude.{option_map, slice_get, unwrap_or}
 use Rattle.std.specs.Str.{bytes_eq}
+use Rattle.nj_outside.specs.Decimal.{decimal_of}
 use Rattle.nj_words.specs.Words.{Form, Taken, Word, taken}
+use Rattle.nj_words.specs.Options.{number_or, value_at}
 use Rattle.nj_words.specs.declared.Command.{Command}
-use Rattle.nj_words.specs.declared.Command.TheVariants.{Play, Replay}
+use Rattle.nj_words.specs.declared.Command.TheVariants.{Asm, Check, Play, Replay, Search, Workload}
+use Rattle.nj_words.specs.declared.SearchOptions.{SearchOptions}
 
 -- a command: its word, what it takes, and what it is with what it was given, where its values have
 -- their form and range; our own
@@ -37,6 +40,50 @@ abbrev pub replay_of : Taken → Option Command
 replay_of taken =
     Some (Replay (name_at taken 0) (name_at taken 1) (name_at taken 2) (name_at taken 3))
 
+-- `search CART SCRIPT START`, with its three options; our own
+abbrev pub search_form : Form
+search_form = record {
+  names = codes "CART" ∷ codes "SCRIPT" ∷ codes "START" ∷ [];
+  options = codes "budget" ∷ codes "steps" ∷ codes "slots" ∷ [];
+}
+
+-- the numbers of `search`: the budget in bytes from 1 to 2,147,483,648, else 67,108,864; the steps
+-- from 1 to 16,777,215, else 1,000; the slots' exponent of two from 10 to 25, else 20; our own
+unfoldable pub search_options_of : Taken → Option SearchOptions
+search_options_of taken = option_and_then (λ budget. option_and_then (λ steps. option_and_then (λ exponent.
+    Some (record { budget = budget; steps = steps; exponent = exponent }))
+    (number_or 10 25 20 (value_at taken 2))) (number_or 1 16777215 1000 (value_at taken 1)))
+    (number_or 1 2147483648 67108864 (value_at taken 0))
+
+-- the names of `search`, by their places, and its numbers; our own
+abbrev pub search_of : Taken → Option Command
+search_of taken = option_and_then (λ options.
+    Some (Search (name_at taken 0) (name_at taken 1) (name_at taken 2) options)) (search_options_of taken)
+
+-- `check CART SCRIPT`; our own
+abbrev pub check_form : Form
+check_form = record { names = codes "CART" ∷ codes "SCRIPT" ∷ []; options = [] }
+
+-- the names of `check`, by their places; our own
+abbrev pub check_of : Taken → Option Command
+check_of taken = Some (Check (name_at taken 0) (name_at taken 1))
+
+-- `workload NUMBER`; our own
+abbrev pub workload_form : Form
+workload_form = record { names = codes "NUMBER" ∷ []; options = [] }
+
+-- the number of `workload`, which is 1 to 20 decimal digits and below 2 ^ 64; our own
+abbrev pub workload_of : Taken → Option Command
+workload_of taken = option_map Workload (decimal_of (name_at taken 0))
+
+-- `asm SOURCE`; our own
+abbrev pub asm_form : Form
+asm_form = record { names = codes "SOURCE" ∷ []; options = [] }
+
+-- the name of `asm`; our own
+abbrev pub asm_of : Taken → Option Command
+asm_of taken = Some (Asm (name_at taken 0))
+
 -- the command `play`; our own
 abbrev pub play_row : Row
 play_row = record { word = codes "play"; form = play_form; made = play_of }
@@ -45,9 +92,43 @@ play_row = record { word = codes "play"; form = play_form; made = play_of }
 abbrev pub replay_row : Row
 replay_row = record { word = codes "replay"; form = replay_form; made = replay_of }
 
+-- the command `search`; our own
+abbrev pub search_row : Row
+search_row = record { word = codes "search"; form = search_form; made = search_of }
+
+-- the command `check`; our own
+abbrev pub check_row : Row
+check_row = record { word = codes "check"; form = check_form; made = check_of }
+
+-- the command `workload`; our own
+abbrev pub workload_row : Row
+workload_row = record { word = codes "workload"; form = workload_form; made = workload_of }
+
+-- the command `asm`; our own
+abbrev pub asm_row : Row
+asm_row = record { word = codes "asm"; form = asm_form; made = asm_of }
+
 -- the commands that there are; our own
 abbrev pub table : List Row
-table = play_row ∷ replay_row ∷ []
+table = play_row ∷ search_row ∷ replay_row ∷ check_row ∷ workload_row ∷ asm_row ∷ []
+
+-- the numbers of a search are in their ranges; our own
+pub record AreInRange (options : SearchOptions) : Type 0 where
+  pub some_budget : 1 ≤ options.budget
+  pub most_budget : options.budget ≤ 2147483648
+  pub some_steps : 1 ≤ options.steps
+  pub most_steps : options.steps ≤ 16777215
+  pub least_exponent : 10 ≤ options.exponent
+  pub most_exponent : options.exponent ≤ 25
+
+-- the numbers of a command are in their ranges; our own
+unfoldable pub IsInRange : Command → Type 0
+IsInRange (Search cart script start options) = AreInRange options
+IsInRange (Play cart movie) = Unit {0}
+IsInRange (Replay cart script start movie) = Unit {0}
+IsInRange (Check cart script) = Unit {0}
+IsInRange (Workload number) = Unit {0}
+IsInRange (Asm source) = Unit {0}
 
 -- what the words after the command's own make of it, or none; our own
 unfoldable pub command_of : Row → List Word → Option Command

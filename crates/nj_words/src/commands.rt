@@ -1,22 +1,24 @@
-//! Each command, with its names.
-ghost use Rattle.std.specs.Prelude.{◌≡◌, Err, IfOk, None, Some};
-ghost use Rattle.nj_words.specs.Commands.{command_of, play_row, replay_row};
-ghost use Rattle.nj_words.specs.Parser.{words_of};
+//! Each command, with its names and options.
+ghost use Rattle.std.specs.Prelude.{◌≡◌, ◌≤◌, length, Err, IfOk, IfSome, None, Some};
+ghost use Rattle.nj_words.specs.Commands.{AreInRange, IsInRange, asm_row, check_row, command_of, play_row, replay_row};
+ghost use Rattle.nj_words.specs.Commands.{search_options_of, search_row, workload_row};
+ghost use Rattle.nj_words.specs.Parser.{taken_of, words_of};
 ghost use Rattle.nj_words.specs.declared.refused.WordsRefused.TheVariants.{Usage};
 
-use crate::Command;
-use crate::parser::take;
+use crate::parser::{Given, take};
 use crate::refused::WordsRefused;
+use crate::{Command, SearchOptions};
 use std::alloc::Global;
 
 static NO_OPTIONS: [&str; 0] = [];
 
 static PLAY_NAMES: [&str; 2] = ["CART", "MOVIE"];
 
+#[tactic(auto, unfolding(crate::specs::Commands::IsInRange))]
 pub(crate) fn play(alloc: Global, words: &[String]) -> Result<Command, WordsRefused>
-    ensures read { IfOk result (λ command.
-        command_of play_row (words_of words.now) ≡ Some command) }
+    ensures read { IfOk result (λ command. command_of play_row (words_of words.now) ≡ Some command) }
     ensures usage { result ≡ Err Usage → command_of play_row (words_of words.now) ≡ None }
+    ensures in_range { IfOk result (λ command. IsInRange command) }
 {
     let given = take(alloc, PLAY_NAMES.as_slice(), NO_OPTIONS.as_slice(), words)?;
     Ok(Command::Play {
@@ -27,10 +29,11 @@ pub(crate) fn play(alloc: Global, words: &[String]) -> Result<Command, WordsRefu
 
 static REPLAY_NAMES: [&str; 4] = ["CART", "SCRIPT", "START", "MOVIE"];
 
+#[tactic(auto, unfolding(crate::specs::Commands::IsInRange))]
 pub(crate) fn replay(alloc: Global, words: &[String]) -> Result<Command, WordsRefused>
-    ensures read { IfOk result (λ command.
-        command_of replay_row (words_of words.now) ≡ Some command) }
+    ensures read { IfOk result (λ command. command_of replay_row (words_of words.now) ≡ Some command) }
     ensures usage { result ≡ Err Usage → command_of replay_row (words_of words.now) ≡ None }
+    ensures in_range { IfOk result (λ command. IsInRange command) }
 {
     let given = take(alloc, REPLAY_NAMES.as_slice(), NO_OPTIONS.as_slice(), words)?;
     Ok(Command::Replay {
@@ -38,5 +41,97 @@ pub(crate) fn replay(alloc: Global, words: &[String]) -> Result<Command, WordsRe
         script: given.name(alloc, 1)?,
         start: given.name(alloc, 2)?,
         movie: given.name(alloc, 3)?,
+    })
+}
+
+static SEARCH_NAMES: [&str; 3] = ["CART", "SCRIPT", "START"];
+
+static SEARCH_OPTIONS: [&str; 3] = ["budget", "steps", "slots"];
+
+#[tactic(auto, unfolding(crate::specs::Commands::search_options_of))]
+fn search_options(given: &Given<'_>) -> Option<SearchOptions>
+    requires { 3 ≤ length given.now.values.items }
+    ensures value { result ≡ search_options_of (taken_of given.now) }
+    ensures in_range { IfSome result (λ options. AreInRange options) }
+{
+    let budget = given.number(0, 1, 2_147_483_648, 67_108_864)?;
+    let steps = given.number(1, 1, 16_777_215, 1_000)? as u32;
+    let exponent = given.number(2, 10, 25, 20)? as u32;
+    Some(SearchOptions {
+        budget,
+        steps,
+        exponent,
+    })
+}
+
+#[tactic(auto, unfolding(crate::specs::Commands::IsInRange))]
+pub(crate) fn search(alloc: Global, words: &[String]) -> Result<Command, WordsRefused>
+    ensures read { IfOk result (λ command. command_of search_row (words_of words.now) ≡ Some command) }
+    ensures usage { result ≡ Err Usage → command_of search_row (words_of words.now) ≡ None }
+    ensures in_range { IfOk result (λ command. IsInRange command) }
+{
+    let given = take(
+        alloc,
+        SEARCH_NAMES.as_slice(),
+        SEARCH_OPTIONS.as_slice(),
+        words,
+    )?;
+    let Some(options) = search_options(&given) else {
+        return Err(WordsRefused::Usage);
+    };
+    Ok(Command::Search {
+        cart: given.name(alloc, 0)?,
+        script: given.name(alloc, 1)?,
+        start: given.name(alloc, 2)?,
+        options,
+    })
+}
+
+static CHECK_NAMES: [&str; 2] = ["CART", "SCRIPT"];
+
+#[tactic(auto, unfolding(crate::specs::Commands::IsInRange))]
+pub(crate) fn check(alloc: Global, words: &[String]) -> Result<Command, WordsRefused>
+    ensures read { IfOk result (λ command. command_of check_row (words_of words.now) ≡ Some command) }
+    ensures usage { result ≡ Err Usage → command_of check_row (words_of words.now) ≡ None }
+    ensures in_range { IfOk result (λ command. IsInRange command) }
+{
+    let given = take(alloc, CHECK_NAMES.as_slice(), NO_OPTIONS.as_slice(), words)?;
+    Ok(Command::Check {
+        cart: given.name(alloc, 0)?,
+        script: given.name(alloc, 1)?,
+    })
+}
+
+static WORKLOAD_NAMES: [&str; 1] = ["NUMBER"];
+
+#[tactic(auto, unfolding(crate::specs::Commands::IsInRange))]
+pub(crate) fn workload(alloc: Global, words: &[String]) -> Result<Command, WordsRefused>
+    ensures read { IfOk result (λ command. command_of workload_row (words_of words.now) ≡ Some command) }
+    ensures usage { result ≡ Err Usage → command_of workload_row (words_of words.now) ≡ None }
+    ensures in_range { IfOk result (λ command. IsInRange command) }
+{
+    let given = take(
+        alloc,
+        WORKLOAD_NAMES.as_slice(),
+        NO_OPTIONS.as_slice(),
+        words,
+    )?;
+    match given.decimal(0) {
+        Some(number) => Ok(Command::Workload { number }),
+        None => Err(WordsRefused::Usage),
+    }
+}
+
+static ASM_NAMES: [&str; 1] = ["SOURCE"];
+
+#[tactic(auto, unfolding(crate::specs::Commands::IsInRange))]
+pub(crate) fn asm(alloc: Global, words: &[String]) -> Result<Command, WordsRefused>
+    ensures read { IfOk result (λ command. command_of asm_row (words_of words.now) ≡ Some command) }
+    ensures usage { result ≡ Err Usage → command_of asm_row (words_of words.now) ≡ None }
+    ensures in_range { IfOk result (λ command. IsInRange command) }
+{
+    let given = take(alloc, ASM_NAMES.as_slice(), NO_OPTIONS.as_slice(), words)?;
+    Ok(Command::Asm {
+        source: given.name(alloc, 0)?,
     })
 }

@@ -6,7 +6,7 @@
 #![tactic(auto)]
 
 ghost use Rattle.std.specs.Prelude.{◌≡◌, Err, IfOk, None, Some, map, string_bytes};
-ghost use Rattle.nj_words.specs.Commands.{reading};
+ghost use Rattle.nj_words.specs.Commands.{reading, IsInRange};
 ghost use Rattle.nj_words.specs.Grammar.{PiecesAreSaid};
 ghost use Rattle.nj_words.specs.declared.refused.WordsRefused.TheVariants.{Usage};
 
@@ -14,7 +14,7 @@ mod commands;
 mod parser;
 mod refused;
 
-use commands::{play, replay};
+use commands::{asm, check, play, replay, search, workload};
 pub use nj_seq::Text;
 pub use refused::WordsRefused;
 use std::alloc::Global;
@@ -27,6 +27,13 @@ pub enum Command {
         cart: Text,
         movie: Text,
     },
+    /// Searches a movie that goes on from the start movie and wins by the script.
+    Search {
+        cart: Text,
+        script: Text,
+        start: Text,
+        options: SearchOptions,
+    },
     /// Plays a movie and judges it by a script, as a search from the start movie would.
     Replay {
         cart: Text,
@@ -34,6 +41,30 @@ pub enum Command {
         start: Text,
         movie: Text,
     },
+    /// Reads a cartridge and a script and tells their counts.
+    Check {
+        cart: Text,
+        script: Text,
+    },
+    /// Searches the workload that is made from a number.
+    Workload {
+        number: u64,
+    },
+    /// Assembles a source and lists its bytes.
+    Asm {
+        source: Text,
+    },
+}
+
+/// The options of a search.
+#[derive(Clone, Copy, Debug)]
+pub struct SearchOptions {
+    /// The most bytes that the held states may take, 1 to 2,147,483,648.
+    pub budget: u64,
+    /// The most steps, 1 to 16,777,215.
+    pub steps: u32,
+    /// The slots for seen keys, as an exponent of two, 10 to 25.
+    pub exponent: u32,
 }
 
 /// Reads the words that follow the program's name. Names are as they were given, so a lone `-` is
@@ -41,13 +72,18 @@ pub enum Command {
 pub fn read_words(alloc: Global, words: &[String]) -> Result<Command, WordsRefused>
     ensures read { IfOk result (λ command. reading (map string_bytes words.now) ≡ Some command) }
     ensures usage { result ≡ Err Usage → reading (map string_bytes words.now) ≡ None }
+    ensures in_range { IfOk result (λ command. IsInRange command) }
 {
     let Some((command, rest)) = words.split_first() else {
         return Err(WordsRefused::Usage);
     };
     match command.as_str() {
         "play" => play(alloc, rest),
+        "search" => search(alloc, rest),
         "replay" => replay(alloc, rest),
+        "check" => check(alloc, rest),
+        "workload" => workload(alloc, rest),
+        "asm" => asm(alloc, rest),
         _ => Err(WordsRefused::Usage),
     }
 }

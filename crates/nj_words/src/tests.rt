@@ -29,14 +29,7 @@ fn expect_play(
             assert_eq!(rt; cart.as_str(), names.0, "in {line:?}");
             assert_eq!(rt; movie.as_str(), names.1, "in {line:?}");
         }
-        Command::Replay {
-            cart: _cart,
-            script: _script,
-            start: _start,
-            movie: _movie,
-        } => {
-            assert!(rt; false, "another command in {line:?}");
-        }
+        _ => assert!(rt; false, "another command in {line:?}"),
     }
     Ok(())
 }
@@ -68,15 +61,53 @@ fn names_of_replay(rt: HostRuntime) -> Result<(), Fail> {
             assert_eq!(rt; start.as_str(), "-");
             assert_eq!(rt; movie.as_str(), "M");
         }
-        Command::Play {
-            cart: _cart,
-            movie: _movie,
-        } => assert!(rt; false, "another command"),
+        _ => assert!(rt; false, "another command"),
     }
     Ok(())
 }
 
-static UNREADABLE: [&str; 15] = [
+#[test]
+fn options_of_search(rt: HostRuntime) -> Result<(), Fail> {
+    match read_line(rt.alloc(), "search W --steps 5 S --slots=10 -")? {
+        Command::Search {
+            cart,
+            script,
+            start,
+            options,
+        } => {
+            assert_eq!(rt; cart.as_str(), "W");
+            assert_eq!(rt; script.as_str(), "S");
+            assert_eq!(rt; start.as_str(), "-");
+            assert_eq!(rt; options.budget, 67_108_864);
+            assert_eq!(rt; options.steps, 5);
+            assert_eq!(rt; options.exponent, 10);
+        }
+        _ => assert!(rt; false, "another command"),
+    }
+    Ok(())
+}
+
+#[test]
+fn names_of_the_others(rt: HostRuntime) -> Result<(), Fail> {
+    match read_line(rt.alloc(), "check W S")? {
+        Command::Check { cart, script } => {
+            assert_eq!(rt; cart.as_str(), "W");
+            assert_eq!(rt; script.as_str(), "S");
+        }
+        _ => assert!(rt; false, "another command"),
+    }
+    match read_line(rt.alloc(), "workload 18446744073709551615")? {
+        Command::Workload { number } => assert_eq!(rt; number, 18_446_744_073_709_551_615),
+        _ => assert!(rt; false, "another command"),
+    }
+    match read_line(rt.alloc(), "asm -")? {
+        Command::Asm { source } => assert_eq!(rt; source.as_str(), "-"),
+        _ => assert!(rt; false, "another command"),
+    }
+    Ok(())
+}
+
+static UNREADABLE: [&str; 21] = [
     "",
     "-- play L M",
     "Play L M",
@@ -92,6 +123,12 @@ static UNREADABLE: [&str; 15] = [
     "play L --x M",
     "play L --=x M",
     "replay W S M",
+    "search W S - --slots=26",
+    "search W S - --budget 2147483649",
+    "check W",
+    "workload +1",
+    "workload 18446744073709551616",
+    "asm A B",
 ];
 
 #[test]

@@ -1,6 +1,7 @@
 ghost use Rattle.std.specs.Prelude.{◌≡◌, ◌<◌, ◌≤◌, ◌^◌, ◌++◌, Err, IfOk, IfSome, None, Some};
 ghost use Rattle.std.specs.Prelude.{length, option_map, true};
 ghost use Rattle.clap.specs.Walk.{texts};
+ghost use Rattle.nj_outside.specs.Decimal.{decimal_of};
 ghost use Rattle.nj_words.specs.Words.{is_distinct};
 ghost use Rattle.nj_words.specs.Commands.{name_at};
 ghost use Rattle.nj_words.specs.Options.{in_range, name_or_none, number_in, number_or, value_at};
@@ -28,6 +29,14 @@ impl<'a> Given<'a> {
         ensures { IfOk result (λ word. word ≡ name_at (taken_of self.now) place) }
     {
         Text::from_str(alloc, self.names[place])
+    }
+
+    /// The number that the name at this place is, where it is decimal digits.
+    pub(crate) fn decimal(&self, place: usize) -> Option<u64>
+        requires { place < length self.now.names.items }
+        ensures { result ≡ decimal_of (name_at (taken_of self.now) place) }
+    {
+        read_decimal(self.names[place])
     }
 
     /// The value of the option at this place, where the option stands.

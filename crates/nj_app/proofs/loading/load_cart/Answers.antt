@@ -1,11 +1,10 @@
 -- A cartridge's file is read as `cart_reading` says.
-use Rattle.std.proofs.Common.{◌≡◌, ◌<◌, ℕ, List, length, Err, refl, ap, codes, arith, true, nat_lt}
-use Rattle.std.proofs.lemmas.Bool.Decides.{nat_tests}
+use Rattle.std.proofs.Common.{ℕ, List, Err, refl, ap, codes}
 use Rattle.nj_outside.specs.Told.{Files}
 use Rattle.nj_app.specs.Play.{cart_reading, with_cart, cart_limit}
-use Rattle.nj_app.specs.Refusals.{too_long}
 use Rattle.nj_app.specs.Stops.{Ends}
 use Rattle.nj_app.specs.declared.stops.Stop.TheVariants.{Cartridge}
+use Rattle.nj_app.proofs.Limits.{long_cart}
 use Rattle.nj_app.proofs.Readers.{IsKind, loads_read, loads_unread}
 use Rattle.nj_app.proofs.loading.load_cart.Goals as goal
 
@@ -14,11 +13,6 @@ cart_kind : (files : Files) (failed : ℕ) (name : List ℕ) →
     IsKind files failed cart_reading 4 (codes "cartridge") name (λ line. Cartridge line) (with_cart name)
 unfolding with_cart Ends
 cart_kind files failed name = record { begins = λ next. refl; ends = λ w line e. e }
-
--- a file above the limit
-long_cart : (bytes : List ℕ) → cart_limit < length bytes → cart_reading bytes ≡ Err (too_long (codes "9") cart_limit)
-unfolding cart_reading
-long_cart bytes h = let test : nat_lt cart_limit (length bytes) ≡ true = grind (arith, nat_tests) in rw test refl
 
 pub returns-in-Ok-clause-loads : goal.returns-in-Ok-clause-loads
 returns-in-Ok-clause-loads g c = λ files told.

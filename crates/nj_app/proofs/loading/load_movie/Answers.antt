@@ -1,11 +1,10 @@
 -- A movie's file is read as `movie_reading` says, and `-` is the empty movie.
-use Rattle.std.proofs.Common.{◌≡◌, ◌<◌, ℕ, List, [], length, true, false, bytes_eq, Ok, Err, refl, sym, ap, codes, arith, nat_lt}
-use Rattle.std.proofs.lemmas.Bool.Decides.{nat_tests}
+use Rattle.std.proofs.Common.{◌≡◌, ℕ, List, [], true, false, bytes_eq, Ok, Err, refl, sym, ap, codes}
 use Rattle.nj_outside.specs.Told.{Files}
 use Rattle.nj_app.specs.Play.{movie_reading, with_movie, movie_limit}
-use Rattle.nj_app.specs.Refusals.{too_long}
 use Rattle.nj_app.specs.Stops.{Ends, Loads}
 use Rattle.nj_app.specs.declared.stops.Stop.TheVariants.{Movie}
+use Rattle.nj_app.proofs.Limits.{long_movie}
 use Rattle.nj_app.proofs.Readers.{IsKind, loads_read, loads_unread}
 use Rattle.nj_app.proofs.loading.load_movie.Goals as goal
 
@@ -20,11 +19,6 @@ no_movie : (files : Files) (failed : ℕ) (name movie : List ℕ) → bytes_eq n
     Loads files (with_movie name) failed (Ok movie)
 unfolding with_movie Loads
 no_movie files failed name movie h e = λ next. rw (h, e) (record { same = refl; reaches = λ hash reached. reached })
-
--- a file above the limit
-long_movie : (bytes : List ℕ) → movie_limit < length bytes → movie_reading bytes ≡ Err (too_long (codes "5") movie_limit)
-unfolding movie_reading
-long_movie bytes h = let test : nat_lt movie_limit (length bytes) ≡ true = grind (arith, nat_tests) in rw test refl
 
 pub returns-then-eq-clause-loads : goal.returns-then-eq-clause-loads
 returns-then-eq-clause-loads g c = λ files told. no_movie files _ c.args.name.now c.new.result (sym c.if-eq.ensures) c.new.ensures

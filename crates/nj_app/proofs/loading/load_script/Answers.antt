@@ -1,11 +1,10 @@
 -- A script's file is read as `script_reading` says.
-use Rattle.std.proofs.Common.{◌≡◌, ◌<◌, ℕ, List, length, Err, refl, ap, codes, arith, true, nat_lt}
-use Rattle.std.proofs.lemmas.Bool.Decides.{nat_tests}
+use Rattle.std.proofs.Common.{ℕ, List, Err, refl, ap, codes}
 use Rattle.nj_outside.specs.Told.{Files}
 use Rattle.nj_app.specs.Replay.{script_reading, with_script, script_limit}
-use Rattle.nj_app.specs.Refusals.{too_long}
 use Rattle.nj_app.specs.Stops.{Ends}
 use Rattle.nj_app.specs.declared.stops.Stop.TheVariants.{Script}
+use Rattle.nj_app.proofs.Limits.{long_script}
 use Rattle.nj_app.proofs.Readers.{IsKind, loads_read, loads_unread}
 use Rattle.nj_app.proofs.loading.load_script.Goals as goal
 
@@ -14,11 +13,6 @@ script_kind : (files : Files) (failed : ℕ) (name : List ℕ) →
     IsKind files failed script_reading 5 (codes "script") name (λ line. Script line) (with_script name)
 unfolding with_script Ends
 script_kind files failed name = record { begins = λ next. refl; ends = λ w line e. e }
-
--- a file above the limit
-long_script : (bytes : List ℕ) → script_limit < length bytes → script_reading bytes ≡ Err (too_long (codes "10") script_limit)
-unfolding script_reading
-long_script bytes h = let test : nat_lt script_limit (length bytes) ≡ true = grind (arith, nat_tests) in rw test refl
 
 pub returns-in-Ok-clause-loads : goal.returns-in-Ok-clause-loads
 returns-in-Ok-clause-loads g c = λ files told.

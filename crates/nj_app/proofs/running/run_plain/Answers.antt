@@ -12,19 +12,19 @@ returns-clause-known g c = stop_status c.in-Err.stop c.status.result c.status.en
 
 pub returns-in-Ok-write_all-clause-settled : goal.returns-in-Ok-write_all-clause-settled
 returns-in-Ok-write_all-clause-settled g c = λ files told plain.
-    reply_answers files _ _ c.in-Ok.reply _ _ c.as_bytes.result.now (c.in-Ok.ensures.serves files told) c.as_bytes.ensures.value
+    reply_answers files _ _ c.in-Ok.reply _ _ c.as_slice.result.now (c.in-Ok.ensures.serves files told) c.as_slice.ensures.value
     c.in-Ok-write_all.ensures.ok
 
 pub returns-in-Ok-write_all-clause-complete : goal.returns-in-Ok-write_all-clause-complete
 returns-in-Ok-write_all-clause-complete g c = λ files told reads writes memory.
-    reply_answers files _ _ c.in-Ok.reply _ _ c.as_bytes.result.now (c.in-Ok.ensures.serves files told) c.as_bytes.ensures.value
+    reply_answers files _ _ c.in-Ok.reply _ _ c.as_slice.result.now (c.in-Ok.ensures.serves files told) c.as_slice.ensures.value
     c.in-Ok-write_all.ensures.ok
 
 pub returns-in-Ok-clause-cut_short : goal.returns-in-Ok-clause-cut_short
 returns-in-Ok-clause-cut_short g c = λ files told eight.
     let front = c.in-Err-write_all.ensures.prefix in
-    reply_cut_short files _ _ c.in-Ok.reply _ _ c.as_bytes.result.now front.0 (c.in-Ok.ensures.serves files told)
-    c.as_bytes.ensures.value front.1 front.2
+    reply_cut_short files _ _ c.in-Ok.reply _ _ c.as_slice.result.now front.0 (c.in-Ok.ensures.serves files told)
+    c.as_slice.ensures.value front.1 front.2
 
 pub returns-in-Ok-clause-line : goal.returns-in-Ok-clause-line
 returns-in-Ok-clause-line g c = λ files told never.
@@ -56,4 +56,4 @@ returns-clause-line g c = λ files told never.
     (stop_line files _ _ c.in-Err.stop c.status.result c.line.result.now (c.in-Err.ensures.serves files told) c.status.ensures c.line.ensures)
 
 pub returns-in-Ok-clause-known : goal.returns-in-Ok-clause-known
-returns-in-Ok-clause-known g c = (6, lit< tt, refl)
+returns-in-Ok-clause-known g c = (8, lit< tt, refl)

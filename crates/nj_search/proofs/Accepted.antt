@@ -1,0 +1,34 @@
+-- What holds of a plan of which nothing is refused.
+use Rattle.std.proofs.Common.{◌≡◌, ℕ, ◌+◌, ◌*◌, ◌^◌, ◌≤◌, Bool, true, false, cond, List, [], ◌∷◌, length, refl, ap, ◌∙◌, arith}
+use Rattle.std.specs.Prelude.{Option, Some, None, nat_lt}
+use Rattle.std.proofs.lemmas.Bool.{ltb-false}
+use Rattle.nj_game.specs.Plan.{Plan}
+use Rattle.nj_search.specs.declared.planning.Limits.{Limits}
+use Rattle.nj_search.specs.declared.planning.PlanRefused.{PlanRefused}
+use Rattle.nj_search.specs.Plans.{cost_of, slots_of, need_of, rows_of, frames_of, refusals, first_refusal, refusal_of}
+
+-- where the first of a list is not refused the rest decides
+unrefused_by : (b : Bool) (x : PlanRefused) (rest : Option PlanRefused) → cond b (Some x) rest ≡ None → (b ≡ false) × (rest ≡ None)
+unrefused_by true x rest h = absurd (cc)
+unrefused_by false x rest h = (refl, h)
+
+-- what holds of a plan of which nothing is refused
+pub record IsAccepted (plan : Plan) (limits : Limits) : Type 0 where
+  pub budget : cost_of plan.cartridge ≤ limits.budget
+  pub seen : need_of plan limits ≤ slots_of limits
+  pub trail : rows_of plan limits ≤ 2 ^ 26
+  pub movie : frames_of plan limits ≤ 2 ^ 20
+
+pub accepted : (plan : Plan) (limits : Limits) → refusal_of plan limits ≡ None → IsAccepted plan limits
+unfolding refusal_of refusals
+accepted plan limits none =
+    let first = unrefused_by _ _ _ none in
+    let second = unrefused_by _ _ _ first.1 in
+    let third = unrefused_by _ _ _ second.1 in
+    let fourth = unrefused_by _ _ _ third.1 in
+    record {
+      budget = ltb-false _ _ first.0;
+      seen = ltb-false _ _ second.0;
+      trail = ltb-false _ _ third.0;
+      movie = ltb-false _ _ fourth.0;
+    }

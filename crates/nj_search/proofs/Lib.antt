@@ -1,0 +1,4 @@
+pub mod Accepted
+pub mod Products
+pub mod WonWords
+pub mod Longer

@@ -1,0 +1,4 @@
+pub mod Plans
+pub mod Ends
+pub mod Laws
+pub use Rattle.nj_game.specs.Plan
