@@ -2,3 +2,5 @@ pub mod Accepted
 pub mod Products
 pub mod WonWords
 pub mod Longer
+pub mod StepEnds
+pub mod Going

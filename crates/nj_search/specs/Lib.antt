@@ -1,4 +1,5 @@
 pub mod Plans
 pub mod Ends
+pub mod Rests
 pub mod Laws
 pub use Rattle.nj_game.specs.Plan

@@ -4,6 +4,8 @@
 mod laws;
 mod planning;
 mod searching;
+#[cfg(test)]
+mod tests;
 
 pub use laws::{a_won_word_replays, longer_searches_begin_alike};
 pub use nj_ines::Cart;

@@ -1,12 +1,16 @@
 //! The plan of a search, the cost of a word, and the refusals.
 
-ghost use Rattle.std.specs.Prelude.{◌≡◌, ◌≤◌, ◌^◌, MatchResult, Some, None};
+ghost use Rattle.std.specs.Prelude.{◌≡◌, ◌≤◌, ◌+◌, ◌^◌, length, IfOk, MatchResult, Some, None};
 ghost use Rattle.nj_game.specs.Plan.{plan_of};
-ghost use Rattle.nj_search.specs.Plans.{AreInRange, cost_of, most_of, refusals, first_refusal, refusal_of};
+ghost use Rattle.nj_expand.specs.Held.{bounds_of, opened};
+ghost use Rattle.nj_search.specs.Plans.{AreInRange, cost_of, most_of, refusals, first_refusal, refusal_of, bounds_in};
 
-use crate::{Cart, Movie, Script};
+use crate::{Cart, Movie, Script, Steps};
+use nj_expand::{Bounds, Search};
 use nj_movie::MOST_FRAMES;
+use std::alloc::{AllocError, Global};
 use std::marker::Model;
+use std::sync::ledger::Ledger;
 use thiserror::Error;
 
 /// The most words that all fronts of a search have together: 2^26.
@@ -98,10 +102,10 @@ fn refusal(cart: &Cart, script: &Script, start: &Movie, limits: Limits) -> Optio
 /// A search that may run: what it is played on and its limits, of which nothing is refused.
 #[derive(Drop)]
 pub struct Plan {
-    pub(crate) cart: Cart,
-    pub(crate) script: Script,
-    pub(crate) start: Movie,
-    pub(crate) limits: Limits,
+    cart: Cart,
+    script: Script,
+    start: Movie,
+    limits: Limits,
 }
 
 impl Model for Plan {
@@ -136,5 +140,32 @@ impl Plan {
             start,
             limits,
         })
+    }
+
+    /// The most steps.
+    pub(crate) fn steps(&self) -> u32
+        ensures steps { result ≡ self.now.limits.steps }
+        ensures within { result ≤ 16777215 }
+    {
+        self.limits.steps
+    }
+
+    /// The search before its first step: the start movie is run.
+    #[tactic(auto, unfolding(crate::specs::Plans::bounds_in, nj_expand::specs::Held::bounds_of))]
+    pub(crate) fn open<L: Ledger>(
+        self,
+        alloc: Global,
+        steps: &mut Steps<L>,
+    ) -> Result<Search, AllocError>
+        ensures opened { IfOk result (λ search. search ≡ opened self.plan (bounds_in self)) }
+        ensures frames { steps.new ≤ steps.old + length self.plan.start }
+        ensures never_falls { steps.old ≤ steps.new }
+    {
+        let bounds = Bounds {
+            front: most(&self.cart, self.limits),
+            exponent: self.limits.exponent,
+            inputs: self.script.input_count(),
+        };
+        Search::start(alloc, self.cart, self.script, self.start, bounds, steps)
     }
 }

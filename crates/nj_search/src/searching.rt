@@ -1,9 +1,18 @@
 //! The search of a plan, and its outcome.
 
-ghost use Rattle.std.specs.Prelude.{◌≡◌, ◌≤◌, ◌+◌, IfOk};
+ghost use Rattle.std.specs.Prelude.{◌≡◌, ◌≤◌, ◌<◌, ◌+◌, ◌*◌, ◌++◌, ℕ, false, replicate, IfOk, IfSome, IfNone, OnOk};
+ghost use Rattle.nj_search_defs.specs.Outcome.{LimitAt};
+ghost use Rattle.nj_expand.specs.declared.Stepped.{Stepped};
+ghost use Rattle.nj_expand.specs.Step.{IsStep};
 ghost use Rattle.nj_search.specs.Ends.{outcome_of, told_of, frames_most};
+ghost use Rattle.nj_search.specs.Rests.{rest_of, frames_a_step, IsFurther};
 
 use crate::{Movie, Plan, Steps};
+use nj_expand::{Judged, Row, Search, Stepped};
+use nj_pad::Pad;
+use nj_rules::{Verdict, allowed_pads_come_once};
+use nj_search_defs::{steps_are_counted, winners_tell_parents};
+use nj_single::next_single;
 use std::alloc::{AllocError, Global};
 use std::sync::ledger::Ledger;
 
@@ -28,6 +37,122 @@ pub enum Outcome {
     },
 }
 
+impl Outcome {
+    // Won by the candidate of this row.
+    fn won_by(step: u32, row: &Row, movie: Movie) -> Outcome
+        ensures { result ≡ Outcome.Won step row.now.reward movie }
+    {
+        Outcome::Won {
+            step,
+            reward: row.reward,
+            movie,
+        }
+    }
+
+    // Won by a start that is judged so.
+    fn won_at_once(judged: Judged, movie: Movie) -> Outcome
+        ensures { result ≡ Outcome.Won 0 judged.reward movie }
+    {
+        Outcome::Won {
+            step: 0,
+            reward: judged.reward,
+            movie,
+        }
+    }
+
+    // At the limit, with a word that is judged so.
+    fn limited(step: u32, judged: Judged, movie: Movie) -> Outcome
+        ensures { result ≡ Outcome.Limit step judged.reward movie }
+    {
+        Outcome::Limit {
+            step,
+            reward: judged.reward,
+            movie,
+        }
+    }
+}
+
+// One more pad, held for the frames of a step.
+fn hold_pad(movie: &mut Movie, hold: u32, pad: Pad) -> Result<(), AllocError>
+    ensures { OnOk result (movie.new ≡ movie.old ++ replicate hold pad) }
+{
+    for _frame in 0..hold {
+        movie.push(pad)?;
+    }
+    Ok(())
+}
+
+// The winner's movie: its parent's, and its pad for a step more.
+fn won(alloc: Global, search: &Search, row: &Row) -> Result<Outcome, AllocError>
+    requires spent { search.now.spent ≡ false }
+    requires row { IsStep search.now (Stepped.Won row.now) search.now }
+    requires step { search.now.state.step < 16777215 }
+    ensures { IfOk result (λ outcome. (steps : ℕ) → told_of search.now.plan (rest_of search.now (steps + 1)) ≡ outcome) }
+{
+    winners_tell_parents();
+    allowed_pads_come_once();
+    let _bounds = search.bounds();
+    let place = row.number as usize / 256;
+    let mut movie = search.movie(alloc, place)?;
+    hold_pad(&mut movie, search.script().hold(), Pad(row.pad))?;
+    Ok(Outcome::won_by(search.step() + 1, row, movie))
+}
+
+// The outcome of a search at its limit, by the front's first word.
+fn at_limit(alloc: Global, search: &Search) -> Result<Outcome, AllocError>
+    requires spent { search.now.spent ≡ false }
+    ensures { IfOk result (λ outcome. told_of search.now.plan (LimitAt search.now.state) ≡ outcome) }
+{
+    let _words = search.front_len();
+    let best = search.judged(0);
+    let movie = search.movie(alloc, 0)?;
+    Ok(Outcome::limited(search.step(), best, movie))
+}
+
+// One step: the outcome, if the step ends the search.
+fn step_on<L: Ledger>(
+    alloc: Global,
+    search: &mut Search,
+    steps: &mut Steps<L>,
+) -> Result<Option<Outcome>, AllocError>
+    requires spent { search.old.spent ≡ false }
+    requires step { search.old.state.step < 16777215 }
+    ensures ended { IfOk result (λ told. IfSome told (λ outcome. (steps : ℕ) → told_of search.old.plan (rest_of search.old (steps + 1)) ≡ outcome)) }
+    ensures further { IfOk result (λ told. IfNone told (IsFurther search.old search.new)) }
+    ensures frames { steps.new ≤ steps.old + frames_a_step search.old }
+    ensures never_falls { steps.old ≤ steps.new }
+{
+    steps_are_counted();
+    match next_single(search, alloc, steps)? {
+        Stepped::Won { row } => Ok(Some(won(alloc, search, &row)?)),
+        Stepped::Exhausted => Ok(Some(Outcome::Exhausted {
+            step: search.step() + 1,
+        })),
+        Stepped::Go => Ok(None),
+    }
+}
+
+// So many steps at most.
+fn search_on<L: Ledger>(
+    alloc: Global,
+    mut search: Search,
+    limit: u32,
+    steps: &mut Steps<L>,
+) -> Result<Outcome, AllocError>
+    requires spent { search.spent ≡ false }
+    requires limit { search.state.step + limit ≤ 16777215 }
+    ensures outcome { IfOk result (λ outcome. told_of search.plan (rest_of search limit) ≡ outcome) }
+    ensures frames { steps.new ≤ steps.old + frames_a_step search * limit }
+    ensures never_falls { steps.old ≤ steps.new }
+{
+    for _made in 0..limit {
+        if let Some(outcome) = step_on(alloc, &mut search, steps)? {
+            return Ok(outcome);
+        }
+    }
+    at_limit(alloc, &search)
+}
+
 /// Searches as planned, by one thread.
 pub fn search_plain<L: Ledger>(
     alloc: Global,
@@ -38,8 +163,16 @@ pub fn search_plain<L: Ledger>(
     ensures frames { steps.new ≤ steps.old + frames_most plan }
     ensures never_falls { steps.old ≤ steps.new }
 {
-    drop(plan);
-    let _count = steps.count();
-    let _alloc = alloc;
-    Err(AllocError)
+    let limit = plan.steps();
+    let search = plan.open(alloc, steps)?;
+    let _words = search.front_len();
+    let first = search.judged(0);
+    match first.verdict {
+        Verdict::Go => search_on(alloc, search, limit, steps),
+        Verdict::Win => {
+            let movie = search.movie(alloc, 0)?;
+            Ok(Outcome::won_at_once(first, movie))
+        }
+        Verdict::Fail => Ok(Outcome::Exhausted { step: 0 }),
+    }
 }

@@ -1,0 +1,210 @@
+-- What a step answers, as the end of a search or its going on.
+use Rattle.std.proofs.Common.{◌≡◌, ℕ, suc, ◌+◌, ◌/◌, ◌<◌, ◌≤◌, false, List, [], ◌∷◌, ◌++◌, length, replicate, get_or, refl, ap, ap₂, sym, subst, ◌∙◌, arith, append_assoc, append-nil}
+use Rattle.std.specs.Prelude.{Some, slice_get}
+use Rattle.std.proofs.lemmas.Grind.{flat_map-append}
+use Rattle.std.proofs.lemmas.Option.{slice_get_within, get_or_from_slice_get}
+use Rattle.nj_search_defs.specs.Game.{Word, Game}
+use Rattle.nj_search_defs.specs.Candidates.{Candidate, word_of}
+use Rattle.nj_search_defs.specs.Outcome.{State, Next, Won as NextWon, Exhausted as NextExhausted, Goes, WonAt, ExhaustedAt, then_go_on, searched, next}
+use Rattle.nj_search_defs.specs.Laws.{StepsAreCounted, WinnersTellParents}
+use Rattle.nj_rules.specs.declared.record.InputSet.{InputSet}
+use Rattle.nj_rules.specs.Pads.{allowed_pads, named_pads}
+use Rattle.nj_rows.specs.declared.Row.{Row}
+use Rattle.nj_script.specs.Script.{Record}
+use Rattle.nj_game.specs.Plan.{Plan, held_pads, movie_of}
+use Rattle.nj_game.specs.Words.{ram_after, judged_of, allowed_of, game_of}
+use Rattle.nj_expand.specs.declared.Stepped.{Stepped}
+use Rattle.nj_expand.specs.declared.Stepped.TheVariants.{Won as WonRow, Exhausted as NothingKept, Go}
+use Rattle.nj_expand.specs.Rows.{row_of}
+use Rattle.nj_expand.specs.Held.{Held, next_in}
+use Rattle.nj_expand.specs.Step.{IsStepBy, IsStep}
+use Rattle.nj_search.specs.Ends.{told_of}
+use Rattle.nj_search.specs.Rests.{rest_of, IsFurther}
+use Rattle.nj_search.specs.declared.searching.Outcome.{Outcome}
+use Rattle.nj_search.specs.declared.searching.Outcome.TheVariants.{Won, Exhausted}
+
+-- ---- one more step of the rest
+
+-- the rest of a search is its next step, and the rest behind it
+rest_by : (held : Held) (steps : ℕ) (n : Next) → next_in held ≡ n
+    → rest_of held (steps + 1) ≡ then_go_on (held.state.step + 1) n (searched (game_of held.plan) held.bounds steps)
+unfolding rest_of searched next_in
+rest_by held steps n e =
+    let one_more : steps + 1 ≡ suc steps = omega arith in
+    ap (λ k. rest_of held k) one_more
+    ∙ ap (λ m. then_go_on (held.state.step + 1) m (searched (game_of held.plan) held.bounds steps)) e
+
+-- ---- a winner
+
+-- the row is that of the winner
+pub record IsWonBy (held : Held) (row : Row) (c : Candidate) : Type 0 where
+  pub next : next_in held ≡ NextWon c
+  pub row_is : row ≡ row_of (game_of held.plan) c
+
+winner_by : (n : Next) (old : Held) (row : Row) (new : Held) → next_in old ≡ n → IsStepBy n old (WonRow row) new
+    → (new ≡ old) × ((c : Candidate) × IsWonBy old row c)
+winner_by (NextWon c) old row new e h = (h.1, (c, record { next = e; row_is = h.0 }))
+winner_by NextExhausted old row new e h = absurd h
+winner_by (Goes state) old row new e h = absurd h
+
+-- a step that is won leaves the search as it was, and its row is that of a winner
+pub winner_in : (old : Held) (row : Row) (new : Held) → IsStep old (WonRow row) new → (new ≡ old) × ((c : Candidate) × IsWonBy old row c)
+unfolding IsStep
+winner_in old row new h = winner_by (next_in old) old row new refl h
+
+-- so it may be asked again
+pub still_won : (old : Held) (row : Row) (new : Held) → IsStep old (WonRow row) new → IsStep new (WonRow row) new
+still_won old row new h = subst (λ (held : Held). IsStep held (WonRow row) new) (sym (winner_in old row new h).0) h
+
+-- no word has more than 256 pads after it
+pub FewPads : Plan → Type 0
+FewPads plan = (word : Word) → length ((game_of plan).allowed word) ≤ 256
+
+pub few_pads : (plan : Plan) → ((sets : List InputSet) (ram : List ℕ) → length (allowed_pads sets ram) ≤ length (named_pads sets))
+    → length (named_pads plan.script.inputs.sets) ≤ 256 → FewPads plan
+unfolding FewPads game_of allowed_of
+few_pads plan law most word = omega (arith, law plan.script.inputs.sets (ram_after plan word), most)
+
+-- the place of the winner's parent
+pub record HasParent (held : Held) (row : Row) (c : Candidate) : Type 0 where
+  pub place : row.number / 256 < length held.state.front
+  pub parent : get_or held.state.front (row.number / 256) [] ≡ c.parent
+  pub pad : row.pad ≡ c.pad
+
+pub has_parent : WinnersTellParents → (held : Held) (row : Row) (c : Candidate) → FewPads held.plan → IsWonBy held row c → HasParent held row c
+unfolding FewPads next_in row_of
+has_parent law held row c few won =
+    let number : row.number ≡ c.number = ap (λ (r : Row). r.number) won.row_is in
+    let stands : slice_get held.state.front (row.number / 256) ≡ Some c.parent =
+    ap (λ n. slice_get held.state.front (n / 256)) number
+    ∙ law (game_of held.plan) held.bounds held.state c few won.next in
+    record {
+      place = slice_get_within held.state.front (row.number / 256) c.parent stands;
+      parent = get_or_from_slice_get held.state.front (row.number / 256) c.parent [] stands;
+      pad = ap (λ (r : Row). r.pad) won.row_is;
+    }
+
+held_pads-push : (hold : ℕ) (word : Word) (pad : ℕ) → held_pads hold (word ++ pad ∷ []) ≡ held_pads hold word ++ replicate hold pad
+held_pads-push hold word pad =
+    flat_map-append (λ p. replicate hold p) word (pad ∷ []) ∙ ap (λ m. held_pads hold word ++ m) (append-nil (replicate hold pad))
+
+-- the movie of a word goes on with one more pad
+pub movie_child : (plan : Plan) (word : Word) (pad : ℕ) → movie_of plan (word ++ pad ∷ []) ≡ movie_of plan word ++ replicate plan.script.hold pad
+unfolding movie_of
+movie_child plan word pad =
+    ap (λ m. plan.start ++ m) (held_pads-push plan.script.hold word pad)
+    ∙ sym (append_assoc plan.start (held_pads plan.script.hold word) (replicate plan.script.hold pad))
+
+-- the winner's reward is in its row
+reward_is : (held : Held) (row : Row) (c : Candidate) → IsWonBy held row c → (let judged = judged_of held.plan (word_of c) in judged.reward) ≡ row.reward
+unfolding row_of game_of
+reward_is held row c won = sym (ap (λ (r : Row). r.reward) won.row_is)
+
+told_won : (plan : Plan) (step : ℕ) (word : Word) → told_of plan (WonAt step word) ≡ Won step (let judged = judged_of plan word in judged.reward) (movie_of plan word)
+unfolding told_of
+told_won plan step word = refl
+
+-- what is told of a step that is won, however many steps may follow
+pub won_told : (held : Held) (row : Row) (c : Candidate) (begun movie : List ℕ) (steps : ℕ)
+    → IsWonBy held row c → HasParent held row c
+    → begun ≡ movie_of held.plan (get_or held.state.front (row.number / 256) [])
+    → movie ≡ begun ++ replicate held.plan.script.hold row.pad
+    → told_of held.plan (rest_of held (steps + 1)) ≡ Won (held.state.step + 1) row.reward movie
+won_told held row c begun movie steps won parent is_begun is_movie =
+    let whole : movie_of held.plan (word_of c) ≡ movie =
+    movie_child held.plan c.parent c.pad
+    ∙ ap₂ (λ (w : Word) (p : ℕ). movie_of held.plan w ++ replicate held.plan.script.hold p) (sym parent.parent) (sym parent.pad)
+    ∙ ap (λ m. m ++ replicate held.plan.script.hold row.pad) (sym is_begun)
+    ∙ sym is_movie in
+    ap (told_of held.plan) (rest_by held steps (NextWon c) won.next)
+    ∙ told_won held.plan (held.state.step + 1) (word_of c)
+    ∙ ap₂ (Won (held.state.step + 1)) (reward_is held row c won) whole
+
+-- a winner with its parent
+pub record IsWinner (held : Held) (row : Row) : Type 0 where
+  pub candidate : Candidate
+  pub won : IsWonBy held row candidate
+  pub parent : HasParent held row candidate
+
+pub winner_stands : WinnersTellParents → ((sets : List InputSet) (ram : List ℕ) → length (allowed_pads sets ram) ≤ length (named_pads sets))
+    → (held : Held) (row : Row) (inputs : ℕ) → inputs ≡ length (named_pads held.plan.script.inputs.sets) → inputs ≤ 256
+    → IsStep held (WonRow row) held → IsWinner held row
+winner_stands places named held row inputs counted few step =
+    let most : length (named_pads held.plan.script.inputs.sets) ≤ 256 = omega (arith, counted, few) in
+    let found = (winner_in held row held step).1 in
+    record {
+      candidate = found.0;
+      won = found.1;
+      parent = has_parent places held row found.0 (few_pads held.plan named most) found.1;
+    }
+
+-- what is told of a winner is the outcome that is made of its row
+pub won_outcome : (held : Held) (row : Row) (script : Record) (hold step : ℕ) (begun movie : List ℕ) (outcome : Outcome)
+    → IsWinner held row → script ≡ held.plan.script → hold ≡ script.hold → step ≡ held.state.step
+    → begun ≡ movie_of held.plan (get_or held.state.front (row.number / 256) []) → movie ≡ begun ++ replicate hold row.pad
+    → outcome ≡ Won (step + 1) row.reward movie
+    → (steps : ℕ) → told_of held.plan (rest_of held (steps + 1)) ≡ outcome
+won_outcome held row script hold step begun movie outcome winner is_script is_hold is_step is_begun is_movie is steps =
+    let held_for : hold ≡ held.plan.script.hold = is_hold ∙ ap (λ (s : Record). s.hold) is_script in
+    won_told held row winner.candidate begun movie steps winner.won winner.parent is_begun
+    (is_movie ∙ ap (λ n. begun ++ replicate n row.pad) held_for)
+    ∙ ap (λ n. Won (n + 1) row.reward movie) (sym is_step)
+    ∙ sym is
+
+-- what is told of the search as it was
+pub told_before : (old new : Held) (outcome : Outcome) → new ≡ old → ((steps : ℕ) → told_of new.plan (rest_of new (steps + 1)) ≡ outcome)
+    → (steps : ℕ) → told_of old.plan (rest_of old (steps + 1)) ≡ outcome
+told_before old new outcome same told = subst (λ (held : Held). (steps : ℕ) → told_of held.plan (rest_of held (steps + 1)) ≡ outcome) same told
+
+-- ---- nothing is kept
+
+exhausted_by : (n : Next) (old new : Held) → IsStepBy n old NothingKept new → (new ≡ old) × (n ≡ NextExhausted)
+exhausted_by (NextWon c) old new h = absurd h
+exhausted_by NextExhausted old new h = (h, refl)
+exhausted_by (Goes state) old new h = absurd h
+
+exhausted_in : (old new : Held) → IsStep old NothingKept new → (new ≡ old) × (next_in old ≡ NextExhausted)
+unfolding IsStep
+exhausted_in old new h = exhausted_by (next_in old) old new h
+
+-- a step of which nothing is kept leaves the search as it was
+pub exhausted_same : (old new : Held) → IsStep old NothingKept new → new ≡ old
+exhausted_same old new h = (exhausted_in old new h).0
+
+told_exhausted : (plan : Plan) (step : ℕ) → told_of plan (ExhaustedAt step) ≡ Exhausted step
+unfolding told_of
+told_exhausted plan step = refl
+
+-- what is told of it
+pub exhausted_told : (old new : Held) (step : ℕ) → IsStep old NothingKept new → step ≡ new.state.step
+    → (steps : ℕ) → told_of old.plan (rest_of old (steps + 1)) ≡ Exhausted (step + 1)
+exhausted_told old new step h is_step steps =
+    let ended = exhausted_in old new h in
+    let same : old.state.step ≡ step = ap (λ (held : Held). held.state.step) (sym ended.0) ∙ sym is_step in
+    ap (told_of old.plan) (rest_by old steps NextExhausted ended.1)
+    ∙ told_exhausted old.plan (old.state.step + 1)
+    ∙ ap (λ n. Exhausted (n + 1)) same
+
+-- ---- the search goes on
+
+goes_by : (n : Next) (old new : Held) → IsStepBy n old Go new → (state : State) × (n ≡ Goes state) × (new ≡ record old { state = state })
+goes_by (NextWon c) old new h = absurd h
+goes_by NextExhausted old new h = absurd h
+goes_by (Goes state) old new h = (state, refl, h)
+
+further_to : StepsAreCounted → (old : Held) (state : State) → old.spent ≡ false → next_in old ≡ Goes state → IsFurther old (record old { state = state })
+unfolding rest_of next_in
+further_to law old state unspent e = record {
+  plan = refl;
+  bounds = refl;
+  unspent = unspent;
+  step = law (game_of old.plan) old.bounds old.state state e;
+  rest = λ steps. rest_by old steps (Goes state) e;
+}
+
+-- a search that goes on is one step further
+pub further : StepsAreCounted → (old new : Held) → old.spent ≡ false → IsStep old Go new → IsFurther old new
+unfolding IsStep
+further law old new unspent h =
+    let went = goes_by (next_in old) old new h in
+    subst (IsFurther old) (sym went.2) (further_to law old went.0 unspent went.1)
