@@ -50,12 +50,12 @@ impl Generations {
         while gone > 0 {
             let count = self.lists[gone - 1].len() as u64;
             if left < count {
-                break;
+                return gone;
             }
             left -= count;
             gone -= 1;
         }
-        gone
+        0
     }
 
     /// Whether the key is in a generation behind the oldest `gone`.
