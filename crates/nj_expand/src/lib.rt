@@ -1,0 +1,40 @@
+//! Candidates of a search and the search between its steps: a candidate is the row of a state of the front after one more
+//! pad; a step ends by the choice of a winner or of the candidates that are kept, which are run again into a new front.
+//! The images of the front's states are kept, so that no word is ever run again from power-on.
+#![tactic(auto)]
+
+mod candidate;
+mod movies;
+mod opening;
+mod search;
+
+pub use candidate::expand;
+pub use nj_machine::{Cart, Machine, Pad};
+pub use nj_movie::Movie;
+pub use nj_rows::{Row, Verdict3};
+pub use nj_rules::{Judged, Status};
+pub use nj_script::Script;
+pub use nj_steps::Steps;
+pub use search::Search;
+
+/// What bounds a search.
+#[derive(Clone, Copy, Debug, PartialEq, Eq)]
+pub struct Bounds {
+    /// The most words of a front, from 1 to 2^20.
+    pub front: u64,
+    /// The seen keys have 2^exponent slots; from 10 to 25.
+    pub exponent: u32,
+    /// How many different pads the script names.
+    pub inputs: u64,
+}
+
+/// How a step ended.
+#[derive(Clone, Copy, Debug, PartialEq, Eq)]
+pub enum Stepped {
+    /// A candidate wins; this is its row.
+    Won { row: Row },
+    /// Nothing is kept.
+    Exhausted,
+    /// The search stands in its next state.
+    Go,
+}

@@ -1,0 +1,217 @@
+//! The search between two steps.
+
+ghost use Rattle.std.specs.Prelude.{◌≡◌, ◌≤◌, ◌<◌, ◌+◌, ◌*◌, ◌^◌, [], ◌∷◌, false, true, length, get_or, IfOk};
+ghost use Rattle.nj_machine.specs.State.{rom_of, power_on};
+ghost use Rattle.nj_machine.specs.Image.{image_len, IsImage};
+ghost use Rattle.nj_rules.specs.Pads.{named_pads};
+ghost use Rattle.nj_game.specs.Plan.{plan_of, movie_of};
+ghost use Rattle.nj_game.specs.Words.{judged_of};
+ghost use Rattle.nj_seen.specs.Rows.{is_live_row};
+ghost use Rattle.nj_expand.specs.Held.{bounds_of, opened};
+ghost use Rattle.nj_expand.specs.Front.{rom_in, size_in, image_at};
+
+use crate::Bounds;
+use crate::movies::{is_no_fail, push_word};
+use crate::opening::{First, is_nrom};
+use nj_ines::Cart;
+use nj_machine::Machine;
+use nj_movie::Movie;
+use nj_pool::FrontPool;
+use nj_rows::Row;
+use nj_rules::Judged;
+use nj_script::Script;
+use nj_seen::Generations;
+use nj_steps::Steps;
+use std::alloc::{AllocError, Global};
+use std::marker::Model;
+use std::sync::ledger::Ledger;
+
+/// A search between two steps. After want of memory in a step it is spent.
+#[derive(Drop)]
+pub struct Search {
+    pub(crate) cart: Cart,
+    pub(crate) script: Script,
+    pub(crate) start: Movie,
+    pub(crate) bounds: Bounds,
+    pub(crate) pool: FrontPool,
+    pub(crate) judged: Vec<Judged>,
+    pub(crate) seen: Generations,
+    pub(crate) step: u32,
+    pub(crate) level: u32,
+    pub(crate) until: u32,
+    pub(crate) spent: bool,
+}
+
+impl Model for Search {
+    ghost use Rattle.nj_game.specs.Plan.{plan_of};
+    ghost use Rattle.nj_expand.specs.Held.{Held, bounds_of};
+    ghost use Rattle.nj_expand.specs.Front.{AreBounds, IsFront};
+
+    ghost Value = { Held };
+
+    ghost view = { λ s. record {
+      plan = plan_of s.cart s.script s.start;
+      bounds = bounds_of s.bounds s.script;
+      state = record { step = s.step; front = s.pool.words; seen = s.seen; mark = record { level = s.level; until = s.until } };
+      spent = s.spent;
+    } };
+
+    ghost invariant = { λ s. AreBounds s.bounds s.script × IsFront (plan_of s.cart s.script s.start) s.bounds.front s.pool s.judged.items };
+}
+
+impl Search {
+    /// The search before its first step: the start movie is run, and its state is the front. The cartridge moves in, since
+    /// a machine is made of it at each step.
+    pub fn start<L: Ledger>(
+        alloc: Global,
+        cart: Cart,
+        script: Script,
+        start: Movie,
+        bounds: Bounds,
+        steps: &mut Steps<L>,
+    ) -> Result<Search, AllocError>
+        requires front { (1 ≤ bounds.front) × (bounds.front ≤ 2 ^ 20) }
+        requires exponent { (10 ≤ bounds.exponent) × (bounds.exponent ≤ 25) }
+        requires inputs { bounds.inputs ≡ length (named_pads script.inputs.sets) }
+        requires fits { bounds.front * bounds.inputs ≤ 2 ^ bounds.exponent }
+        ensures opened { IfOk result (λ search. search ≡ opened (plan_of cart script start) (bounds_of bounds script)) }
+        ensures frames { steps.new ≤ steps.old + length start }
+        ensures never_falls { steps.old ≤ steps.new }
+    {
+        is_nrom(&cart);
+        let _inputs = script.input_count();
+        let First { pool, judged, key } =
+            First::run(alloc, &cart, &script, &start, bounds.front, steps)?;
+        let seen = Generations::opening(alloc, key)?;
+        Ok(Search {
+            cart,
+            script,
+            start,
+            bounds,
+            pool,
+            judged: vec![in alloc; judged]?,
+            seen,
+            step: 0,
+            level: judged.level,
+            until: 0,
+            spent: false,
+        })
+    }
+
+    /// The movie of the front's word at a place.
+    pub fn movie(&self, alloc: Global, place: usize) -> Result<Movie, AllocError>
+        requires place { place < length self.now.state.front }
+        requires spent { self.now.spent ≡ false }
+        ensures { IfOk result (λ movie. movie ≡ movie_of self.now.plan (get_or self.now.state.front place [])) }
+    {
+        let word = self.pool.word_of(alloc, place)?;
+        let pads = Vec::from_slice(alloc, self.start.pads())?;
+        let mut movie = Movie::from_pads(pads);
+        push_word(&mut movie, self.script.hold(), word.as_slice())?;
+        Ok(movie)
+    }
+
+    /// Copies the image of the state of the front's word at a place.
+    pub fn image(&self, place: usize, into: &mut [u8])
+        requires place { place < length self.now.state.front }
+        requires long { length into.old ≡ size_in self.now.plan }
+        requires spent { self.now.spent ≡ false }
+        ensures image { into.new ≡ image_at self.now.plan (get_or self.now.state.front place []) }
+        ensures is_image { IsImage (rom_in self.now.plan) into.new }
+    {
+        self.pool.load(place, into);
+    }
+
+    /// How the rules judge the front's word at a place.
+    pub fn judged(&self, place: usize) -> Judged
+        requires place { place < length self.now.state.front }
+        requires spent { self.now.spent ≡ false }
+        ensures { result ≡ judged_of self.now.plan (get_or self.now.state.front place []) }
+    {
+        self.judged[place]
+    }
+
+    /// Whether a candidate of the next step is live.
+    pub fn live(&self, row: &Row) -> bool
+        requires spent { self.now.spent ≡ false }
+        ensures { result ≡ is_live_row self.now.state.mark (self.now.state.step + 1) row.now }
+    {
+        let is_low = row.level < self.level && self.until <= self.step;
+        !is_low && is_no_fail(row.verdict)
+    }
+
+    /// A machine of the cartridge at power-on.
+    pub fn machine(&self, alloc: Global) -> Result<Machine, AllocError>
+        ensures { IfOk result (λ machine. machine ≡ power_on self.now.plan.cartridge) }
+    {
+        Machine::power_on(alloc, &self.cart)
+    }
+
+    /// The bytes of an image of the machine: 4,480, or 12,672 where pattern memory is RAM.
+    pub fn image_len(&self) -> usize
+        ensures len { result ≡ size_in self.now.plan }
+        ensures within { result ≤ 12672 }
+    {
+        if self.cart.chr_ram() { 12_672 } else { 4_480 }
+    }
+
+    /// The script that is searched.
+    pub fn script(&self) -> &Script
+        ensures { result.now ≡ self.now.plan.script }
+    {
+        &self.script
+    }
+
+    /// The bounds of the search.
+    pub fn bounds(&self) -> Bounds
+        ensures bounds { bounds_of result self.now.plan.script ≡ self.now.bounds }
+        ensures some { 1 ≤ result.front }
+        ensures most { result.front ≤ 2 ^ 20 }
+        ensures exponent_low { 10 ≤ result.exponent }
+        ensures exponent_high { result.exponent ≤ 25 }
+        ensures inputs { result.inputs ≡ length (named_pads self.now.plan.script.inputs.sets) }
+        ensures few_inputs { result.inputs ≤ 256 }
+        ensures fits { result.front * result.inputs ≤ 2 ^ result.exponent }
+    {
+        self.bounds
+    }
+
+    /// The steps that were made.
+    pub fn step(&self) -> u32
+        ensures { result ≡ self.now.state.step }
+    {
+        self.step
+    }
+
+    /// The words of the front.
+    pub fn front_len(&self) -> usize
+        ensures len { result ≡ length self.now.state.front }
+        ensures some { 1 ≤ result }
+        ensures within { result ≤ self.now.bounds.most }
+        ensures most { self.now.bounds.most ≤ 2 ^ 20 }
+    {
+        self.pool.len()
+    }
+
+    /// The bytes that the front's states need: each its image and 16 for its place in the trail of words.
+    pub fn bytes(&self) -> u64
+        ensures sum { result ≡ length self.now.state.front * (size_in self.now.plan + 16) }
+        ensures within { result ≤ self.now.bounds.most * (size_in self.now.plan + 16) }
+    {
+        self.pool.bytes()
+    }
+
+    /// Whether the search is spent: a step wanted memory, or somebody called [`Search::spend`].
+    pub fn spent(&self) -> bool
+        ensures { result ≡ self.now.spent }
+    {
+        self.spent
+    }
+
+    /// Makes the search spent.
+    pub fn spend(&mut self)
+        ensures { self.new ≡ record self.old { spent = true } }
+    {
+        self.spent = true;
+    }
+}
