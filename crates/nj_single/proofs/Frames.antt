@@ -52,7 +52,6 @@ few_kept search =
 
 -- the inputs of the bounds are those of what they were given as
 inputs_are : (given : Given) (script : Record) (bounds : Bounds) → bounds_of given script ≡ bounds → given.inputs ≡ bounds.inputs
-unfolding bounds_of
 inputs_are given script bounds is = ap (λ (b : Bounds). b.inputs) is
 
 -- so a step runs at most so many steps of a word
@@ -63,7 +62,7 @@ pub few_runs : ((sets : List InputSet) (ram : List ℕ) → length (allowed_pads
 few_runs named search given is inputs words =
     let pads : length (named_pads search.plan.script.inputs.sets) ≡ search.bounds.inputs = sym inputs ∙ inputs_are given search.plan.script search.bounds is in
     let first : length (candidates_in search) ≤ length search.state.front * search.bounds.inputs =
-        subst (λ n. length (candidates_in search) ≤ length search.state.front * n) pads (few_candidates named search) in
+    subst (λ n. length (candidates_in search) ≤ length search.state.front * n) pads (few_candidates named search) in
     let second : length search.state.front * search.bounds.inputs ≤ search.bounds.most * search.bounds.inputs = mul-le-mul_right search.bounds.inputs words in
     let product : search.bounds.most * (search.bounds.inputs + 1) ≡ search.bounds.most * search.bounds.inputs + search.bounds.most * 1 = mul-add search.bounds.most search.bounds.inputs 1 in
     omega (arith, first, second, product, few_kept search)

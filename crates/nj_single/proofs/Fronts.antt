@@ -14,14 +14,13 @@ use Rattle.std.proofs.Math.Nat.{mul-add}
 use Rattle.nj_expand.specs.Front.{rom_in, size_in}
 use Rattle.nj_rules.specs.Pads.{allowed_pads}
 use Rattle.nj_game.specs.Plan.{Plan}
-use Rattle.nj_game.specs.Words.{state_of, status_of, judged_of, allowed_of, game_of}
-use Rattle.nj_rules.specs.declared.record.Judged.{Judged}
+use Rattle.nj_game.specs.Words.{state_of, status_of, allowed_of, game_of}
 use Rattle.nj_rows.specs.declared.Row.{Row}
 use Rattle.nj_seen.specs.Rows.{is_live_row}
 use Rattle.nj_expand.specs.Held.{Held, live_rows, candidates_in}
 use Rattle.nj_expand.specs.Rows.{row_of}
 use Rattle.nj_single.specs.Children.{child_rows, live_among, word_rows}
-use Rattle.nj_single.proofs.Lifts.{StateGoesOn, JudgedGoesOn, rows_are, live-map}
+use Rattle.nj_single.proofs.Lifts.{ToldByParent, rows_are, live-map}
 
 -- the live rows of the candidates of these words, the first of them being word i of the front
 abbrev pub rows_from : Held → ℕ → List Word → List Row
@@ -97,7 +96,7 @@ one_done search i rows new since steps after machine moved room room' lt done is
       let word : Word = get_or search.state.front i [] in
       let rest : List Word = drop (i + 1) search.state.front in
       let cost : frames_from search i (drop i search.state.front) ≡ search.plan.script.hold * length (allowed_of search.plan word) + frames_from search (i + 1) rest =
-          at_drop_more (frames_from search i) search.state.front i [] lt ∙ more_frames search i word rest in
+      at_drop_more (frames_from search i) search.state.front i [] lt ∙ more_frames search i word rest in
       omega (arith, done.counted, takes, cost);
   later = omega (arith, done.later, later);
   cartridge = keeps;
@@ -125,33 +124,28 @@ left_off search i rows since steps after machine room lt done takes =
     let cost = at_drop_more (frames_from search i) search.state.front i [] lt ∙ more_frames search i word (drop (i + 1) search.state.front) in
     omega (arith, done.counted, takes, cost)
 
--- the status in a judgement of a word is the word's
-pub status_is : (plan : Plan) (word : Word) (judged : Judged) → judged ≡ judged_of plan word → judged.status.0 ≡ status_of plan word
-unfolding judged_of
-status_is plan word judged is = ap (λ (j : Judged). j.status.0) is
-
 -- the rows of a word, by the state that its image gives
-pub word_is : StateGoesOn → JudgedGoesOn → (search : Held) (place : ℕ) (word : Word) (status : ℕ) (state : State) (pads : List ℕ) (rows new : List Row)
+pub word_is : ToldByParent → (search : Held) (place : ℕ) (word : Word) (status : ℕ) (state : State) (pads : List ℕ) (rows new : List Row)
     → state ≡ state_of search.plan word → status ≡ status_of search.plan word
     → pads ≡ allowed_pads search.plan.script.inputs.sets (ram_of state)
     → new ≡ rows ++ live_among search (child_rows search.plan.script status state (256 * place) pads)
     → new ≡ rows ++ word_rows search place word
 unfolding word_rows allowed_of
-word_is states judges search place word status state pads rows new is_state is_status are is =
+word_is told search place word status state pads rows new is_state is_status are is =
     is
     ∙ (λ i. rows ++ live_among search (child_rows search.plan.script (is_status i) (is_state i) (256 * place) ((are ∙ ap (λ s. allowed_pads search.plan.script.inputs.sets (ram_of s)) is_state) i)))
-    ∙ ap (λ xs. rows ++ live_among search xs) (rows_are states judges search.plan word (256 * place) (allowed_of search.plan word))
+    ∙ ap (λ xs. rows ++ live_among search xs) (rows_are told search.plan word (256 * place) (allowed_of search.plan word))
 
 -- and where they were added
-pub word_added : StateGoesOn → JudgedGoesOn → (search : Held) (place : ℕ) (word : Word) (judged : Judged) (state : State) (script : Record) (pads : List ℕ) (r : Result (Unit {0}) AllocError) (rows new : List Row)
-    → state ≡ state_of search.plan word → judged ≡ judged_of search.plan word → script ≡ search.plan.script
+pub word_added : ToldByParent → (search : Held) (place : ℕ) (word : Word) (status : ℕ) (state : State) (script : Record) (pads : List ℕ) (r : Result (Unit {0}) AllocError) (rows new : List Row)
+    → state ≡ state_of search.plan word → status ≡ status_of search.plan word → script ≡ search.plan.script
     → pads ≡ allowed_pads script.inputs.sets (ram_of state)
-    → OnOk r (new ≡ rows ++ live_among search (child_rows search.plan.script judged.status.0 state (256 * place) pads))
+    → OnOk r (new ≡ rows ++ live_among search (child_rows search.plan.script status state (256 * place) pads))
     → OnOk r (new ≡ rows ++ word_rows search place word)
-word_added states judges search place word judged state script pads (Ok u) rows new is_state is_judged is_script are is =
-    word_is states judges search place word judged.status.0 state pads rows new is_state (status_is search.plan word judged is_judged)
+word_added told search place word status state script pads (Ok u) rows new is_state is_status is_script are is =
+    word_is told search place word status state pads rows new is_state is_status
     (are ∙ ap (λ (s : Record). allowed_pads s.inputs.sets (ram_of state)) is_script) is
-word_added states judges search place word judged state script pads (Err e) rows new is_state is_judged is_script are is = tt
+word_added told search place word status state script pads (Err e) rows new is_state is_status is_script are is = tt
 
 -- a word has as many pads as are allowed after it
 pub pads_len : (plan : Plan) (word : Word) (state : State) (script : Record) (pads : List ℕ) → state ≡ state_of plan word → script ≡ plan.script

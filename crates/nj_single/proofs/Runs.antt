@@ -63,7 +63,7 @@ one_run task place default rows new steps after machine child row script lt run 
   added =
       let row' : Row = row_at task.search.plan.script task.status (of_image task.rom task.image) (get_or task.pads place default) (task.first + place) in
       let same : row' ≡ row =
-          sym (is ∙ (λ i. row_at (by_script i) task.status (of_image (run.cartridge i) task.image) (get_or task.pads place default) (task.first + place))) in
+      sym (is ∙ (λ i. row_at (by_script i) task.status (of_image (run.cartridge i) task.image) (get_or task.pads place default) (task.first + place))) in
       run.added ∙ ap (λ xs. rows ++ xs) (next_row task place default lt)
       ∙ sym (append_assoc rows (live_among task.search (row' ∷ [])) (rows_left task (place + 1)))
       ∙ ap (λ (r : Row). (rows ++ live_among task.search (r ∷ [])) ++ rows_left task (place + 1)) same

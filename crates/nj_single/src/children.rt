@@ -9,8 +9,7 @@ ghost use Rattle.nj_expand.specs.Front.{rom_in, size_in};
 ghost use Rattle.nj_expand.specs.Held.{live_rows, candidates_in};
 ghost use Rattle.nj_single.specs.Children.{child_rows, live_among, word_rows};
 
-use nj_expand::{Row, Search, Status, expand};
-use nj_game::a_word_goes_on;
+use nj_expand::{Row, Search, Status, a_candidate_is_told_by_its_parent, expand};
 use nj_machine::Machine;
 use nj_pad::Pad;
 use nj_rules::allowed;
@@ -59,7 +58,7 @@ fn add_word<L: Ledger>(
     ensures frames { steps.new ≤ steps.old + search.now.plan.script.hold * length (allowed_of search.now.plan (get_or search.now.state.front place [])) }
     ensures never_falls { steps.old ≤ steps.new }
 {
-    a_word_goes_on();
+    a_candidate_is_told_by_its_parent();
     search.image(place, image);
     let mut pads = no_pads();
     let count = allow(machine, image, search.script(), &mut pads);

@@ -2,8 +2,8 @@
 #![tactic(auto)]
 
 mod children;
-mod step;
+// mod step;
 
 pub use nj_expand::{Row, Search, Stepped};
 pub use nj_steps::Steps;
-pub use step::next_single;
+// pub use step::next_single;

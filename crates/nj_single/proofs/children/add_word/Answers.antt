@@ -9,9 +9,9 @@ use Rattle.nj_single.proofs.children.add_word.Goals as goal
 pub returns-clause-rows : goal.returns-clause-rows
 returns-clause-rows g c =
     let kept = c.allow-count.ensures.cartridge in
-    word_added c.a_word_goes_on.ensures.state c.a_word_goes_on.ensures.judged c.args.search.now c.args.place _ c.judged.result _ c.script.result.now _ c.add_children.result _ _
+    word_added c.a_candidate_is_told_by_its_parent.ensures.row c.args.search.now c.args.place _ c.judged.result.status.0 _ c.script.result.now _ c.add_children.result _ _
     (ap (λ (rom : Rom). of_image rom c.image.new.into) (kept ∙ c.requires.cartridge) ∙ c.image.ensures.state)
-    c.judged.ensures c.script.ensures
+    c.judged.ensures.status c.script.ensures
     (c.allow-count.ensures.pads ∙ ap (λ (rom : Rom). allowed_pads c.script.result.now.inputs.sets (ram_of (of_image rom c.image.new.into))) (sym kept))
     c.add_children.ensures.rows
 
