@@ -4,3 +4,4 @@ pub mod Ahead
 pub mod Idling
 pub mod Marks
 pub mod Settled
+pub mod Tiles

@@ -4,3 +4,4 @@ pub use Rattle.nj_dots.specs.Registers
 pub use Rattle.nj_dots.specs.Image
 pub mod Idle
 pub mod Place
+pub mod Tiles

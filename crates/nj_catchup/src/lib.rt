@@ -4,6 +4,7 @@
 mod advance;
 mod idle;
 mod place;
+mod visible;
 
 ghost use Rattle.std.specs.Prelude.{◌≡◌, ◌<◌, ℕ, List, true, length};
 ghost use Rattle.nj_dots.specs.Screen.{IsScreen, power_on};
