@@ -13,6 +13,6 @@ invariant_of-self c = record {
 }
 
 pub returns-clause-after : goal.returns-clause-after
-returns-clause-after c = λ p.
+returns-clause-after c = λ p same.
     dots-zero c.catch_up.new.self.pending p c.read.new.self c.catch_up.ensures.pending
     ∙ c.read.ensures.after ∙ ap (after_read c.args.reg c.args.pattern.now) c.catch_up.ensures.screen
