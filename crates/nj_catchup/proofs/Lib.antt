@@ -5,3 +5,5 @@ pub mod Idling
 pub mod Marks
 pub mod Settled
 pub mod Tiles
+pub mod Status
+pub mod Misses

@@ -26,7 +26,7 @@ hit-apart true true true false e f h = refl
 hit-apart true true true true false f h = refl
 hit-apart true true true true true f h = absurd (true≢false h)
 
-misses-hit : (s : Screen) → may_hit s.mask s.sprite_row s.position.dot ≡ false → is_hit_pixel s ≡ false
+pub misses-hit : (s : Screen) → may_hit s.mask s.sprite_row s.position.dot ≡ false → is_hit_pixel s ≡ false
 unfolding may_hit is_hit_pixel
 misses-hit s h =
     hit-apart (nat_lt s.position.line 240) (nat_le s.position.dot 255) (shows_both_layers s.mask) (background_bit s.shift s.scroll.x)

@@ -5,3 +5,4 @@ pub use Rattle.nj_dots.specs.Image
 pub mod Idle
 pub mod Place
 pub mod Tiles
+pub mod Steady

@@ -4,14 +4,17 @@
 mod advance;
 mod idle;
 mod place;
+mod steady;
 mod visible;
 
 ghost use Rattle.std.specs.Prelude.{◌≡◌, ◌<◌, ℕ, List, true, length};
 ghost use Rattle.nj_dots.specs.Screen.{IsScreen, power_on};
 ghost use Rattle.nj_dots.specs.Dots.{after_dots, to_event};
+ghost use Rattle.nj_catchup.specs.Steady.{IsSteady};
 
 use crate::advance::advance;
 use crate::place::position_ahead;
+use crate::steady::is_steady;
 use nj_dots::Screen;
 pub use nj_dots::{Picture, Position};
 
@@ -35,6 +38,14 @@ impl CatchUp {
             screen: Screen::power_on(vertical),
             pending: 0,
         }
+    }
+
+    // The register is $2002, and no pending dot changes what a read of it does.
+    fn is_steady(&self, reg: u8) -> bool
+        ensures status { result ≡ true → reg ≡ 2 }
+        ensures steady { (p : List ℕ) → result ≡ true → IsSteady self.now.pending p self.now.screen }
+    {
+        reg == 2 && is_steady(&self.screen, self.pending)
     }
 
     // Runs the pending dots.
@@ -70,6 +81,9 @@ impl Picture for CatchUp {
     }
 
     fn read(&mut self, reg: u8, pattern: &[u8]) -> u8 {
+        if self.is_steady(reg) {
+            return self.screen.read(reg, pattern);
+        }
         self.catch_up(pattern);
         self.screen.read(reg, pattern)
     }

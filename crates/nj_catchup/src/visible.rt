@@ -188,7 +188,7 @@ fn quiet_end(screen: &Screen, dot: u16) -> u16
 
 // Both layers are shown.
 #[tactic(auto, unfolding(nj_dots::specs::Screen::shows_both_layers))]
-fn shows_both_layers(mask: u8) -> bool
+pub fn shows_both_layers(mask: u8) -> bool
     ensures { result ≡ shows_both_layers mask }
 {
     has_bit(mask, 3) && has_bit(mask, 4)
