@@ -7,3 +7,4 @@ pub mod Settled
 pub mod Tiles
 pub mod Status
 pub mod Misses
+pub mod Limits

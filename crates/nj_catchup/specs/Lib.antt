@@ -6,3 +6,4 @@ pub mod Idle
 pub mod Place
 pub mod Tiles
 pub mod Steady
+pub mod Limit

@@ -5,6 +5,7 @@ use Rattle.nj_dots.specs.Registers.{after_read}
 use Rattle.nj_catchup.proofs.Sums.{dots-zero}
 use Rattle.nj_catchup.proofs.Settled.{none-before}
 use Rattle.nj_catchup.proofs.Status.{Untimed, read-untimed, steady-byte, steady-read}
+use Rattle.nj_catchup.proofs.Limits.{limit-untimed}
 use Rattle.nj_catchup.proofs.CatchUpPicture.read.Goals as goal
 
 pub invariant_of-self : goal.invariant_of-self
@@ -13,6 +14,7 @@ invariant_of-self c =
     let h : Untimed s.screen c.read.new.self = read-untimed c.args.reg c.args.pattern.now s.screen c.read.new.self (c.is_steady.ensures.status c.if-is_steady.true) c.read.ensures.after in
     record {
       fits = c.read.ensures.fits;
+      limited = s.limited ∙ sym (limit-untimed s.screen c.read.new.self h);
       before_event = subst (λ n. s.pending < n) (sym h.event) s.before_event;
       unmarked = λ marked. s.unmarked (sym h.ended ∙ marked);
     }
@@ -34,12 +36,13 @@ returns-then-is_steady-clause-after c = λ p same.
 
 pub invariant_of-self-2 : goal.invariant_of-self-2
 invariant_of-self-2 c = record {
-  fits = c.read-2.ensures.fits;
-  before_event = none-before c.catch_up.new.self.pending c.read-2.new.self c.read-2.ensures.fits c.catch_up.ensures.pending;
+  fits = c.read-byte.ensures.fits;
+  limited = c.limit-self.ensures;
+  before_event = none-before c.catch_up.new.self.pending c.read-byte.new.self c.read-byte.ensures.fits c.catch_up.ensures.pending;
   unmarked = λ marked. c.catch_up.ensures.pending;
 }
 
 pub returns-clause-after : goal.returns-clause-after
 returns-clause-after c = λ p same.
-    dots-zero c.catch_up.new.self.pending p c.read-2.new.self c.catch_up.ensures.pending
-    ∙ c.read-2.ensures.after ∙ ap (after_read c.args.reg c.args.pattern.now) c.catch_up.ensures.screen
+    dots-zero c.catch_up.new.self.pending p c.read-byte.new.self c.catch_up.ensures.pending
+    ∙ c.read-byte.ensures.after ∙ ap (after_read c.args.reg c.args.pattern.now) c.catch_up.ensures.screen
