@@ -4,3 +4,9 @@ pub mod Ahead
 pub mod Idling
 pub mod Marks
 pub mod Settled
+pub mod Tiles
+pub mod Status
+pub mod Misses
+pub mod Limits
+pub mod Meets
+pub mod Lines

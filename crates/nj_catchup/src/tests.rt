@@ -60,3 +60,34 @@ fn the_first_hit_is_on_the_line_below(rt: HostRuntime) {
     picture.run(1, &pattern);
     assert!(rt; has_hit(&mut picture, &pattern));
 }
+
+// A sprite at X 100 hits at pixel 100 of line 1: its flag rises at dot 102. Reads of $2002 that come every 21 dots see it
+// at the first read from there on, and so does one read after the line was run as one.
+#[test]
+fn a_hit_inside_a_line_is_seen(rt: HostRuntime) {
+    let pattern = [0xFFu8; 8192];
+    let mut polled = with_sprite(0, 0, 0, 100, true, &pattern);
+    for _ in 0..21 {
+        polled.run(21, &pattern);
+        assert!(rt; !has_hit(&mut polled, &pattern));
+    }
+    polled.run(21, &pattern);
+    assert!(rt; has_hit(&mut polled, &pattern));
+    assert_eq!(rt; polled.position(), Position { line: 1, dot: 121 });
+
+    let mut at_once = with_sprite(0, 0, 0, 100, true, &pattern);
+    at_once.run(2 * 341, &pattern);
+    assert!(rt; has_hit(&mut at_once, &pattern));
+}
+
+// A settled picture writes its position into an image, 1,000 dots from power-on.
+#[test]
+fn an_image_has_the_settled_position(rt: HostRuntime) {
+    let pattern = [0xFFu8; 8192];
+    let mut picture = with_sprite(0, 0, 0, 100, true, &pattern);
+    picture.run(1000, &pattern);
+    picture.settle(&pattern);
+    let mut image = [0u8; 4448];
+    picture.put(&mut image);
+    assert_eq!(rt; &image[4384..4388], [2u8, 0, 62, 1].as_slice());
+}

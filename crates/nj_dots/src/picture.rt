@@ -3,7 +3,8 @@
 use crate::position::Position;
 
 /// A picture. Every `pattern` is the 8,192 bytes of pattern memory, the same from one `settle` or register access to
-/// the next; registers are numbered 0 to 7, for $2000 to $2007.
+/// the next; registers are numbered 0 to 7, for $2000 to $2007. A read of $2002 may leave dots pending: after it the
+/// caller hands in the same pattern until another register was accessed or the picture was settled.
 pub trait Picture {
     ghost use Rattle.std.specs.Prelude.{◌≡◌, ◌≤◌, ◌<◌, ℕ, List, false, length};
     ghost use Rattle.nj_dots.specs.declared.screen.Screen.{Screen};
@@ -32,7 +33,8 @@ pub trait Picture {
         requires reg { reg < 8 }
         requires pattern { length pattern.now ≡ 8192 }
         ensures byte { result ≡ read_byte reg (meaning self.old pattern.now) }
-        ensures after { (p : List ℕ) → meaning self.new p ≡ after_read reg pattern.now (meaning self.old pattern.now) };
+        ensures after { (p : List ℕ) → (reg ≡ 2 → p ≡ pattern.now)
+            → meaning self.new p ≡ after_read reg pattern.now (meaning self.old pattern.now) };
 
     /// Writes a register. `Some` is a write to pattern memory, place and byte, left to the board.
     fn write(&mut self, reg: u8, value: u8, pattern: &[u8]) -> Option<(u16, u8)>
