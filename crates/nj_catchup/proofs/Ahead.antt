@@ -26,6 +26,10 @@ dots-cases n true = elim (cases_lt 89340 n) [
 ]
 dots-cases n false = inl (grind (arith, nat_tests))
 
+pub dots-least : (n : ℕ) (skip : Bool) → 89341 ≤ frame_dots n skip
+unfolding frame_dots
+dots-least n skip = grind (arith, nat_tests)
+
 dots-odd : (n : ℕ) (skip : Bool) → n ≤ 89340 → skip ≡ true → frame_dots n skip ≡ 89341
 unfolding frame_dots
 dots-odd n skip there odd = grind (arith, nat_tests, there, odd)

@@ -16,7 +16,7 @@ or-false true = refl
 or-false false = refl
 
 -- with no hit near nothing is raised
-raised-far : (s : Screen) → s.near ≡ false → raised s ≡ s
+pub raised-far : (s : Screen) → s.near ≡ false → raised s ≡ s
 unfolding raised
 raised-far s far =
     ap (λ n. record s { sprite_zero_hit = s.sprite_zero_hit || n; near = false }) far
@@ -101,7 +101,7 @@ drawn-idle p s h = elim (cases_Bool (is_drawn_line s.position.line)) [
 ]
 
 -- the position moves along the line
-moved-along : (s : Screen) → s.position.dot ≤ 338 → moved s ≡ at_dot s (s.position.dot + 1)
+pub moved-along : (s : Screen) → s.position.dot ≤ 338 → moved s ≡ at_dot s (s.position.dot + 1)
 unfolding moved advanced is_last_dot is_next after_position
 moved-along s last =
     if-false (is_last_dot s) _ _ (grind (arith, nat_tests, last))

@@ -4,3 +4,7 @@ pub mod Ahead
 pub mod Idling
 pub mod Marks
 pub mod Settled
+pub mod Tiles
+pub mod Status
+pub mod Misses
+pub mod Limits

@@ -4,3 +4,6 @@ pub use Rattle.nj_dots.specs.Registers
 pub use Rattle.nj_dots.specs.Image
 pub mod Idle
 pub mod Place
+pub mod Tiles
+pub mod Steady
+pub mod Limit

@@ -5,6 +5,7 @@ ghost use Rattle.nj_dots.specs.Screen.{IsScreen};
 ghost use Rattle.nj_dots.specs.Dots.{after_dots};
 
 use crate::idle::idle_dots;
+use crate::visible::run_visible;
 use nj_dots::Screen;
 
 /// Runs the next dots.
@@ -39,6 +40,24 @@ fn advance_some(screen: &mut Screen, left: u32, pattern: &[u8]) -> u32
         };
         screen.position.dot += dots;
         u32::from(dots)
+    } else {
+        run_shown(screen, left, pattern)
+    }
+}
+
+// The same where the next dot does more than move the position.
+fn run_shown(screen: &mut Screen, left: u32, pattern: &[u8]) -> u32
+    requires fits { IsScreen screen.old }
+    requires pattern { length pattern.now ≡ 8192 }
+    requires left { 1 ≤ left }
+    ensures dots { screen.new ≡ after_dots result pattern.now screen.old }
+    ensures some { 1 ≤ result }
+    ensures within { result ≤ left }
+    ensures fits { IsScreen screen.new }
+{
+    let dots = run_visible(screen, left, pattern);
+    if dots > 0 {
+        dots
     } else {
         screen.dot(pattern);
         1

@@ -4,13 +4,18 @@
 mod advance;
 mod idle;
 mod place;
+mod steady;
+mod visible;
 
-ghost use Rattle.std.specs.Prelude.{◌≡◌, ◌<◌, ℕ, List, true, length};
-ghost use Rattle.nj_dots.specs.Screen.{IsScreen, power_on};
+ghost use Rattle.std.specs.Prelude.{◌≡◌, ◌<◌, ℕ, List, true, false, length};
+ghost use Rattle.nj_dots.specs.Screen.{IsPlaced, IsScreen, power_on};
 ghost use Rattle.nj_dots.specs.Dots.{after_dots, to_event};
+ghost use Rattle.nj_catchup.specs.Limit.{limit_of};
+ghost use Rattle.nj_catchup.specs.Steady.{IsSteady};
 
 use crate::advance::advance;
 use crate::place::position_ahead;
+use crate::steady::is_steady;
 use nj_dots::Screen;
 pub use nj_dots::{Picture, Position};
 
@@ -20,7 +25,9 @@ pub use nj_dots::{Picture, Position};
 pub struct CatchUp {
     screen: Screen,
     pending: u32,
+    limit: u32,
     ghost fits: { IsScreen screen },
+    ghost limited: { limit ≡ limit_of screen },
     ghost before_event: { pending < to_event screen },
     ghost unmarked: { screen.ended ≡ true → pending ≡ 0 },
 }
@@ -30,10 +37,21 @@ impl CatchUp {
     pub fn new(vertical: bool) -> CatchUp
         ensures { (p : List ℕ) → ⟦<CatchUp as Picture>⟧.meaning result p ≡ power_on vertical }
     {
+        let screen = Screen::power_on(vertical);
+        let limit = limit(&screen);
         CatchUp {
-            screen: Screen::power_on(vertical),
+            screen,
             pending: 0,
+            limit,
         }
+    }
+
+    // The register is $2002, and no pending dot changes what a read of it does.
+    fn is_steady(&self, reg: u8) -> bool
+        ensures status { result ≡ true → reg ≡ 2 }
+        ensures steady { (p : List ℕ) → result ≡ true → IsSteady self.now.pending p self.now.screen }
+    {
+        reg == 2 && is_steady(&self.screen, self.pending)
     }
 
     // Runs the pending dots.
@@ -43,7 +61,42 @@ impl CatchUp {
         ensures screen { self.new.screen ≡ after_dots self.old.pending pattern.now self.old.screen }
     {
         advance(&mut self.screen, self.pending, pattern);
+        self.limit -= self.pending;
         self.pending = 0;
+    }
+
+    // Runs the pending dots and so many more.
+    fn run_all(&mut self, dots: u32, pattern: &[u8])
+        requires { length pattern.now ≡ 8192 }
+        ensures pending { self.new.pending ≡ 0 }
+        ensures screen { self.new.screen ≡ after_dots dots pattern.now (after_dots self.old.pending pattern.now self.old.screen) }
+    {
+        self.catch_up(pattern);
+        advance(&mut self.screen, dots, pattern);
+        self.limit = limit(&self.screen);
+    }
+
+    // Takes the mark of an end.
+    fn take_mark(&mut self)
+        requires { self.old.screen.ended ≡ true }
+        ensures pending { self.new.pending ≡ self.old.pending }
+        ensures screen { self.new.screen ≡ record self.old.screen { ended = false } }
+    {
+        self.screen.ended = false;
+        self.limit = self.screen.dots_to_event();
+    }
+}
+
+// The limit of pending dots.
+#[tactic(auto, unfolding(crate::specs::Limit::limit_of))]
+fn limit(screen: &Screen) -> u32
+    requires { IsPlaced screen.now.position }
+    ensures { result ≡ limit_of screen.now }
+{
+    if screen.ended {
+        0
+    } else {
+        screen.dots_to_event()
     }
 }
 
@@ -59,31 +112,44 @@ impl Picture for CatchUp {
         CatchUp::new(vertical)
     }
 
+    #[inline]
     fn run(&mut self, dots: u32, pattern: &[u8]) {
-        if dots < self.screen.dots_to_event() - self.pending && !self.screen.ended {
+        if dots < self.limit - self.pending {
             self.pending += dots;
         } else {
-            self.catch_up(pattern);
-            advance(&mut self.screen, dots, pattern);
+            self.run_all(dots, pattern);
         }
     }
 
     fn read(&mut self, reg: u8, pattern: &[u8]) -> u8 {
+        if self.is_steady(reg) {
+            return self.screen.read(reg, pattern);
+        }
         self.catch_up(pattern);
-        self.screen.read(reg, pattern)
+        let byte = self.screen.read(reg, pattern);
+        self.limit = limit(&self.screen);
+        byte
     }
 
     fn write(&mut self, reg: u8, value: u8, pattern: &[u8]) -> Option<(u16, u8)> {
         self.catch_up(pattern);
-        self.screen.write(reg, value)
+        let left = self.screen.write(reg, value);
+        self.limit = limit(&self.screen);
+        left
     }
 
+    #[inline]
     fn nmi_line(&self) -> bool {
-        self.screen.nmi_line()
+        self.screen.vertical_blank && self.screen.nmi_line()
     }
 
+    #[inline]
     fn take_end(&mut self) -> bool {
-        self.screen.take_end()
+        let ended = self.screen.ended;
+        if ended {
+            self.take_mark();
+        }
+        ended
     }
 
     fn position(&self) -> Position {
@@ -105,6 +171,7 @@ impl Picture for CatchUp {
     fn get(&mut self, image: &[u8]) {
         self.pending = 0;
         self.screen.get(image);
+        self.limit = limit(&self.screen);
     }
 
     ghost fits = { λ s p. after_dots-fits s.pending p s.screen s.fits };

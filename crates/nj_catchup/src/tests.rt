@@ -60,3 +60,37 @@ fn the_first_hit_is_on_the_line_below(rt: HostRuntime) {
     picture.run(1, &pattern);
     assert!(rt; has_hit(&mut picture, &pattern));
 }
+
+// A sprite at X 100 hits at pixel 100 of line 1: its flag rises at dot 102. Reads of $2002 that come every 21 dots see it
+// at the first read from there on, and so does one read after the line was run as one.
+#[test]
+fn a_hit_inside_a_line_is_seen(rt: HostRuntime) {
+    let pattern = [0xFFu8; 8192];
+    let mut polled = with_sprite(0, 0, 0, 100, true, &pattern);
+    let mut reads = 0u32;
+    while reads < 30 && !has_hit(&mut polled, &pattern) {
+        polled.run(21, &pattern);
+        reads += 1;
+    }
+    assert_eq!(rt; polled.position(), Position { line: 1, dot: 121 });
+
+    let mut at_once = with_sprite(0, 0, 0, 100, true, &pattern);
+    at_once.run(2 * 341, &pattern);
+    assert!(rt; has_hit(&mut at_once, &pattern));
+}
+
+// A settled picture's part of an image gives the same picture again.
+#[test]
+fn an_image_gives_the_picture(rt: HostRuntime) {
+    let pattern = [0xFFu8; 8192];
+    let mut first = with_sprite(0, 0, 0, 100, true, &pattern);
+    first.run(1000, &pattern);
+    first.settle(&pattern);
+    let mut image = [0u8; 4448];
+    first.put(&mut image);
+    let mut second = CatchUp::new(false);
+    second.run(7, &pattern);
+    second.get(&image);
+    assert_eq!(rt; second.position(), first.position());
+    assert!(rt; has_hit(&mut second, &pattern));
+}

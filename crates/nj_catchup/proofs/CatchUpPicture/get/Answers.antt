@@ -14,6 +14,7 @@ get-requires-clause-stored c =
 pub invariant_of-self : goal.invariant_of-self
 invariant_of-self c = record {
   fits = c.get.ensures.fits;
+  limited = c.limit-self.ensures;
   before_event = to_event-positive c.get.new.self c.get.ensures.fits.placed;
   unmarked = λ marked. refl;
 }

@@ -1,8 +1,7 @@
--- Dots keep the ranges, and one dot is a dot.
+-- Dots keep the ranges.
 use Rattle.std.proofs.Common.{◌≤◌, sym, ◌∙◌, subst, arith}
 use Rattle.nj_dots.specs.Screen.{IsScreen}
 use Rattle.nj_dots.proofs.Kept.{after_dots-fits}
-use Rattle.nj_catchup.proofs.Sums.{dots-one}
 use Rattle.nj_catchup.proofs.advance.advance_some.Goals as goal
 use Rattle.nj_catchup.proofs.advance.advance_some.Goals.{then-from-left, else-from-left}
 
@@ -15,6 +14,3 @@ returns-after-from-left-clause-fits c =
       | else-from-left w ↦ omega (arith, w.dots-is, w.if-from-left, c.from.ensures)
     ] in
     subst IsScreen (c.idle_dots-idle.ensures.idle c.args.pattern.now n within) (after_dots-fits n c.args.pattern.now s c.requires.fits)
-
-pub returns-else-idle-gt0-clause-dots : goal.returns-else-idle-gt0-clause-dots
-returns-else-idle-gt0-clause-dots c = c.dot.ensures.dot ∙ sym (dots-one c.args.pattern.now c.args.screen.now)

@@ -1,0 +1,20 @@
+-- Reads of $2002 that pending dots do not change (NESdev Wiki, "PPU registers", "NMI"; the words are this project's own).
+use Rattle.std.specs.Prelude.{◌≡◌, ◌≢◌, ◌<◌, ◌≤◌, ℕ, ◌+◌, ◌-◌, false, List, Option, ◌⊎◌}
+use Rattle.nj_sprite0.specs.declared.row.SpriteRow.{SpriteRow}
+use Rattle.nj_sprite0.specs.Sprite.{shows_at}
+use Rattle.nj_dots.specs.declared.screen.Screen.{Screen}
+use Rattle.nj_dots.specs.Dots.{after_dots, to_event}
+
+-- the dots end before the one ahead of the next change of the vertical blank flag, and they leave the hit flag as it is
+pub record IsSteady (dots : ℕ) (pattern : List ℕ) (s : Screen) : Type 0 where
+  pub apart : dots + 1 < to_event s
+  pub hit : (after_dots dots pattern s).sprite_zero_hit ≡ s.sprite_zero_hit
+
+-- a dot that a number of dots may lead to, on the same line or on the next
+abbrev pub IsAlong : ℕ → ℕ → ℕ → Type 0
+IsAlong from dots to = (to ≡ from + dots) ⊎ ((340 ≤ from + dots) × (to ≤ from + dots - 340))
+
+-- a dot that latches no row of sprite zero, and whose pixel is none of this row's
+pub record IsAside (row : Option SpriteRow) (dot : ℕ) : Type 0 where
+  pub latch : dot ≢ 257
+  pub miss : 1 ≤ dot → dot ≤ 255 → shows_at row (dot - 1) ≡ false

@@ -1,0 +1,82 @@
+//! Reads of $2002 that pending dots do not change.
+
+ghost use Rattle.std.specs.Prelude.{◌≡◌, ◌≤◌, ◌<◌, ◌+◌, ◌*◌, ℕ, List, true, false, Some, None};
+ghost use Rattle.nj_dots.specs.Screen.{IsScreen};
+ghost use Rattle.nj_dots.specs.Dots.{after_dots, is_hit_pixel, to_event};
+ghost use Rattle.nj_catchup.specs.Steady.{IsAlong, IsAside, IsSteady};
+
+use crate::visible::shows_both_layers;
+use nj_dots::{Position, Screen};
+use nj_sprite0::SpriteRow;
+
+/// No pending dot changes what a read of $2002 answers, nor does the read change what they do.
+pub fn is_steady(screen: &Screen, dots: u32) -> bool
+    requires fits { IsScreen screen.now }
+    requires before_event { dots < to_event screen.now }
+    ensures { (p : List ℕ) → result ≡ true → IsSteady dots p screen.now }
+{
+    dots + 1 < screen.dots_to_event()
+        && (screen.sprite_zero_hit || (!screen.near && has_no_hit(screen, dots)))
+}
+
+// The pixel of none of the next dots is a hit.
+fn has_no_hit(screen: &Screen, dots: u32) -> bool
+    requires fits { IsScreen screen.now }
+    requires before_event { dots < to_event screen.now }
+    ensures { (p : List ℕ) (n : ℕ) → result ≡ true → n < dots → 1 ≤ (after_dots n p screen.now).position.dot
+        → is_hit_pixel (after_dots n p screen.now) ≡ false }
+{
+    !shows_both_layers(screen.mask)
+        || stays_below(screen.position, dots)
+        || dots <= dots_to_hit(screen)
+}
+
+// The lines of the next dots are below the visible ones.
+fn stays_below(position: Position, dots: u32) -> bool
+    requires dots { dots ≤ 89342 }
+    ensures line { result ≡ true → 240 ≤ position.line }
+    ensures frame { result ≡ true → position.line * 341 + position.dot + dots ≤ 89341 }
+{
+    position.line >= 240 && u32::from(position.line) * 341 + u32::from(position.dot) + dots <= 89341
+}
+
+// How many dots there are at least up to one that latches a row of sprite zero or is a pixel of the latched one.
+fn dots_to_hit(screen: &Screen) -> u32
+    requires { screen.now.position.dot < 341 }
+    ensures { (n d : ℕ) → n < result → IsAlong screen.now.position.dot n d → IsAside screen.now.sprite_row d }
+{
+    match screen.sprite_row {
+        None => dots_to_latch(screen.position.dot),
+        Some(row) => dots_to_row(row, screen.position.dot),
+    }
+}
+
+// The same where no row is latched.
+fn dots_to_latch(dot: u16) -> u32
+    requires { dot < 341 }
+    ensures { (n d : ℕ) → n < result → IsAlong dot n d → IsAside None d }
+{
+    if dot <= 257 {
+        u32::from(257 - dot)
+    } else {
+        u32::from(597 - dot)
+    }
+}
+
+// The same where this one is.
+fn dots_to_row(row: SpriteRow, dot: u16) -> u32
+    requires { dot < 341 }
+    ensures { (n d : ℕ) → n < result → IsAlong dot n d → IsAside (Some row) d }
+{
+    let left = row.x;
+    let first = u16::from(left) + 1;
+    if dot > 257 {
+        u32::from(340 + first - dot)
+    } else if dot < first {
+        u32::from(first - dot)
+    } else if dot < first + 8 {
+        0
+    } else {
+        u32::from(257 - dot)
+    }
+}
