@@ -1,8 +1,8 @@
 //! What the processor is wired to.
 
-ghost use Rattle.std.specs.Prelude.{◌≡◌, ◌<◌, ◌*◌, ◌/◌, ◌+◌};
+ghost use Rattle.std.specs.Prelude.{◌≡◌, ◌<◌, ◌≤◌, ◌*◌, ◌/◌, ◌+◌};
 ghost use Rattle.nj_machine.specs.State.{cells_of};
-ghost use Rattle.nj_machine.specs.Wires.{port_byte, wires, Wired};
+ghost use Rattle.nj_machine.specs.Wires.{answer, answered, port_byte, wires, written, Wired};
 
 use nj_board::{Board, Nrom};
 use nj_dots::Picture;
@@ -32,23 +32,17 @@ fn port_byte(bus_byte: u8, bit: u8) -> u8
     bus_byte / 32 * 32 + bit
 }
 
-impl<P: Picture + Drop> Bus for Cells<P> {
-    ghost Held = { Wired };
-
-    ghost held = { λ c. record {
-      cells = cells_of (P.meaning c.picture c.board.chr) c.ram c.board c.bus_byte c.page c.odd c.port_one c.port_two;
-      pad = c.pad;
-    } };
-
-    ghost acts = { wires };
-
-    #[inline]
-    #[tactic(auto, unfolding(crate::specs::Wires::byte_read, crate::specs::Wires::after_read, crate::specs::Wires::dots_run, crate::specs::Wires::answer, crate::specs::Wires::answered, crate::specs::Wires::register_read, crate::specs::Wires::port_one_read, crate::specs::Wires::port_two_read, crate::specs::Wires::over))]
-    fn read(&mut self, at: u16) -> u8 {
-        self.picture.run(3, self.board.pattern());
-        let byte = if at < 0x2000 {
-            self.ram[at as usize % 2048]
-        } else if at < 0x4000 {
+impl<P: Picture + Drop> Cells<P> {
+    // The access of a read outside working memory and program memory, after the cycle's dots.
+    #[inline(never)]
+    #[tactic(auto, unfolding(crate::specs::Wires::answer, crate::specs::Wires::answered, crate::specs::Wires::register_read, crate::specs::Wires::port_one_read, crate::specs::Wires::port_two_read))]
+    fn read_outside(&mut self, at: u16) -> u8
+        requires from { 8192 ≤ at }
+        requires below { at < 32768 }
+        ensures byte { result ≡ answer (⟦<Cells<P> as Bus>⟧.held self.old) at }
+        ensures after { ⟦<Cells<P> as Bus>⟧.held self.new ≡ answered (⟦<Cells<P> as Bus>⟧.held self.old) at }
+    {
+        if at < 0x4000 {
             self.picture.read((at % 8) as u8, self.board.pattern())
         } else if at == 0x4016 {
             port_byte(self.bus_byte, self.port_one.read(self.pad))
@@ -57,20 +51,19 @@ impl<P: Picture + Drop> Bus for Cells<P> {
         } else if at < 0x4020 {
             self.bus_byte
         } else {
-            self.board.cpu_read(at).unwrap_or(self.bus_byte)
-        };
-        self.bus_byte = byte;
-        self.odd = !self.odd;
-        byte
+            let last = self.bus_byte;
+            self.board.cpu_read(at).unwrap_or(last)
+        }
     }
 
-    #[inline]
-    #[tactic(auto, unfolding(crate::specs::Wires::after_write, crate::specs::Wires::dots_run, crate::specs::Wires::written, crate::specs::Wires::ram_put, crate::specs::Wires::register_put, crate::specs::Wires::copy_asked, crate::specs::Wires::ports_strobed, crate::specs::Wires::over))]
-    fn write(&mut self, at: u16, value: u8) {
-        self.picture.run(3, self.board.pattern());
-        if at < 0x2000 {
-            self.ram[at as usize % 2048] = value;
-        } else if at < 0x4000 {
+    // The access of a write outside working memory, after the cycle's dots.
+    #[inline(never)]
+    #[tactic(auto, unfolding(crate::specs::Wires::written, crate::specs::Wires::register_put, crate::specs::Wires::copy_asked, crate::specs::Wires::ports_strobed))]
+    fn write_outside(&mut self, at: u16, value: u8)
+        requires from { 8192 ≤ at }
+        ensures { ⟦<Cells<P> as Bus>⟧.held self.new ≡ written (⟦<Cells<P> as Bus>⟧.held self.old) at value }
+    {
+        if at < 0x4000 {
             if let Some((place, byte)) = self
                 .picture
                 .write((at % 8) as u8, value, self.board.pattern())
@@ -84,6 +77,44 @@ impl<P: Picture + Drop> Bus for Cells<P> {
             self.port_two.strobe(value, Pad(0));
         } else if at >= 0x4020 {
             self.board.cpu_write(at, value);
+        }
+    }
+}
+
+impl<P: Picture + Drop> Bus for Cells<P> {
+    ghost Held = { Wired };
+
+    ghost held = { λ c. record {
+      cells = cells_of (P.meaning c.picture c.board.chr) c.ram c.board c.bus_byte c.page c.odd c.port_one c.port_two;
+      pad = c.pad;
+    } };
+
+    ghost acts = { wires };
+
+    #[inline]
+    #[tactic(auto, unfolding(crate::specs::Wires::byte_read, crate::specs::Wires::after_read, crate::specs::Wires::dots_run, crate::specs::Wires::answer, crate::specs::Wires::answered, crate::specs::Wires::over))]
+    fn read(&mut self, at: u16) -> u8 {
+        self.picture.run(3, self.board.pattern());
+        let byte = if at >= 0x8000 {
+            self.board.cpu_read(at).unwrap_or(self.bus_byte)
+        } else if at < 0x2000 {
+            self.ram[at as usize % 2048]
+        } else {
+            self.read_outside(at)
+        };
+        self.bus_byte = byte;
+        self.odd = !self.odd;
+        byte
+    }
+
+    #[inline]
+    #[tactic(auto, unfolding(crate::specs::Wires::after_write, crate::specs::Wires::dots_run, crate::specs::Wires::written, crate::specs::Wires::ram_put, crate::specs::Wires::over))]
+    fn write(&mut self, at: u16, value: u8) {
+        self.picture.run(3, self.board.pattern());
+        if at < 0x2000 {
+            self.ram[at as usize % 2048] = value;
+        } else {
+            self.write_outside(at, value);
         }
         self.bus_byte = value;
         self.odd = !self.odd;

@@ -11,14 +11,18 @@ mod tests;
 
 pub use frames::Console;
 pub use laws::{a_jam_stays, an_image_tells_its_state, frame_is_first, frames_keep_the_cartridge};
+use nj_catchup::CatchUp;
 pub use nj_dots::Picture;
 pub use nj_ines::Cart;
 pub use nj_pad::Pad;
 use nj_ppu::DotPicture;
 pub use nj_steps::Steps;
 
-/// The machine, over the picture that runs each dot as it comes.
-pub type Machine = Console<DotPicture>;
+/// The machine, over the picture that lets dots stay pending until something asks what they did.
+pub type Machine = Console<CatchUp>;
+
+/// The machine over the picture that runs each dot as it comes: the same calls with the same contracts, slower.
+pub type PlainMachine = Console<DotPicture>;
 
 /// How a frame ended: with the unit that ran the picture's dot (241,1), or with a jammed processor.
 #[derive(Clone, Copy, Debug, PartialEq, Eq)]

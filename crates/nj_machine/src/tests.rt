@@ -2,8 +2,9 @@ ghost use Rattle.std.specs.Prelude.{◌≡◌};
 ghost use Rattle.nj_machine.specs.State.{rom_of};
 
 use crate::cells::Cells;
-use crate::{Cart, Console, Machine, Pad, Steps};
+use crate::{Cart, Console, Machine, Pad, PlainMachine, Steps};
 use nj_board::Board;
+use nj_catchup::CatchUp;
 use nj_cpu::{Cpu, unit};
 use nj_dots::Picture;
 use nj_isa::Bus;
@@ -48,17 +49,21 @@ fn cartridge(
     Ok(Cart::read(alloc, file.as_slice()).ok())
 }
 
-fn machine(alloc: Global, code: &[u8], nmi: u8) -> Result<Machine, Fail> {
+fn machine<P: Picture + Drop>(alloc: Global, code: &[u8], nmi: u8) -> Result<Console<P>, Fail> {
     let cart = cartridge(alloc, HEADER, code, nmi, [0x00, 0x80])?.ok_or("no cartridge")?;
-    Ok(Machine::power_on(alloc, &cart)?)
+    Ok(Console::<P>::power_on(alloc, &cart)?)
 }
 
-fn parts(alloc: Global, code: &[u8]) -> Result<(Cpu, Cells<DotPicture>), Fail> {
-    let Console { cpu, cells } = machine(alloc, code, 0x00)?;
+fn parts<P: Picture + Drop>(alloc: Global, code: &[u8]) -> Result<(Cpu, Cells<P>), Fail> {
+    let Console { cpu, cells } = machine::<P>(alloc, code, 0x00)?;
     Ok((cpu, cells))
 }
 
-fn played<L: Ledger>(blank: Blank, machine: &mut Machine, pads: &[u8]) -> u64
+fn played<P: Picture + Drop, L: Ledger>(
+    blank: Blank,
+    machine: &mut Console<P>,
+    pads: &[u8],
+) -> u64
     requires { blank.name ≡ L.name }
     ensures { rom_of machine.new ≡ rom_of machine.old }
 {
@@ -69,38 +74,52 @@ fn played<L: Ledger>(blank: Blank, machine: &mut Machine, pads: &[u8]) -> u64
     steps.count()
 }
 
+fn run<P: Picture>(cells: &mut Cells<P>, dots: u32) {
+    cells.picture.run(dots, cells.board.pattern());
+}
+
 // How many cycles have passed since power-on, within the first frame.
-fn cycles(cells: &Cells<DotPicture>) -> u32 {
+fn cycles<P: Picture>(cells: &Cells<P>) -> u32 {
     let place = cells.picture.position();
     (u32::from(place.line) * 341 + u32::from(place.dot)) / 3
 }
 
+// The byte that counts after one frame and after two, and the byte of button A held and not.
+fn of_programs<P: Picture + Drop>(alloc: Global) -> Result<[u8; 4], Fail> {
+    let mut counts = machine::<P>(alloc, &COUNTS, 0x00)?;
+    let _ = played::<P, Brand>(Blank::new(1), &mut counts, &[0]);
+    let once = counts.ram()[0x10];
+    let _ = played::<P, Brand>(Blank::new(1), &mut counts, &[0]);
+    let twice = counts.ram()[0x10];
+    let mut reads = machine::<P>(alloc, &READS_A, 0x00)?;
+    let _ = played::<P, Brand>(Blank::new(1), &mut reads, &[0x01]);
+    let held = reads.ram()[0x10];
+    let _ = played::<P, Brand>(Blank::new(1), &mut reads, &[0x00]);
+    Ok([once, twice, held, reads.ram()[0x10]])
+}
+
 #[test]
 fn frames_of_programs(rt: HostRuntime) -> Result<(), Fail> {
-    let mut counts = machine(rt.alloc(), &COUNTS, 0x00)?;
-    assert_eq!(rt; played::<Brand>(Blank::new(1), &mut counts, &[0]), 1);
-    assert_eq!(rt; counts.ram()[0x10], 0x61);
-    assert_eq!(rt; played::<Brand>(Blank::new(1), &mut counts, &[0]), 1);
-    assert_eq!(rt; counts.ram()[0x10], 0xEB);
-    let mut reads = machine(rt.alloc(), &READS_A, 0x00)?;
-    assert_eq!(rt; played::<Brand>(Blank::new(1), &mut reads, &[0x01]), 1);
-    assert_eq!(rt; reads.ram()[0x10], 1);
-    assert_eq!(rt; played::<Brand>(Blank::new(1), &mut reads, &[0x00]), 1);
-    assert_eq!(rt; reads.ram()[0x10], 0);
-    let mut jams = machine(rt.alloc(), &[0x02], 0x00)?;
-    assert_eq!(rt; played::<Brand>(Blank::new(1), &mut jams, &[0, 0, 0]), 3);
+    assert_eq!(rt; of_programs::<CatchUp>(rt.alloc())?, [0x61, 0xEB, 1, 0]);
+    assert_eq!(rt; of_programs::<DotPicture>(rt.alloc())?, [0x61, 0xEB, 1, 0]);
+    let mut jams = machine::<CatchUp>(rt.alloc(), &[0x02], 0x00)?;
+    assert_eq!(rt; played::<CatchUp, Brand>(Blank::new(1), &mut jams, &[0, 0, 0]), 3);
     assert!(rt; jams.jammed());
     Ok(())
 }
 
-// The eight frames of a walk: three without a button, five with Right.
+// Working memory after the eight frames of a walk: three without a button, five with Right.
+fn walked<P: Picture + Drop>(alloc: Global) -> Result<Vec<u8>, Fail> {
+    let mut walks = machine::<P>(alloc, &WALKS, 0x09)?;
+    let pads = [0, 0, 0, 0x80, 0x80, 0x80, 0x80, 0x80];
+    let _ = played::<P, Brand>(Blank::new(1), &mut walks, &pads);
+    Ok(Vec::from_slice(alloc, walks.ram())?)
+}
+
 #[test]
 fn a_walk_with_interrupts(rt: HostRuntime) -> Result<(), Fail> {
-    let mut walks = machine(rt.alloc(), &WALKS, 0x09)?;
-    let pads = [0, 0, 0, 0x80, 0x80, 0x80, 0x80, 0x80];
-    assert_eq!(rt; played::<Brand>(Blank::new(1), &mut walks, &pads), 8);
-    assert!(rt; !walks.jammed());
-    for (at, byte) in walks.ram().iter().enumerate() {
+    let memory = walked::<CatchUp>(rt.alloc())?;
+    for (at, byte) in memory.iter().enumerate() {
         let want = match at {
             0x10 => 0x05,
             0x11 => 0x07,
@@ -111,6 +130,7 @@ fn a_walk_with_interrupts(rt: HostRuntime) -> Result<(), Fail> {
         };
         assert_eq!(rt; *byte, want);
     }
+    assert_eq!(rt; walked::<DotPicture>(rt.alloc())?.as_slice(), memory.as_slice());
     Ok(())
 }
 
@@ -119,17 +139,18 @@ fn a_walk_with_interrupts(rt: HostRuntime) -> Result<(), Fail> {
 fn a_program_in_the_registers(rt: HostRuntime) -> Result<(), Fail> {
     let cart = cartridge(rt.alloc(), HEADER, &COUNTS, 0x00, [0x02, 0x20])?.ok_or("no cartridge")?;
     let mut machine = Machine::power_on(rt.alloc(), &cart)?;
-    assert_eq!(rt; played::<Brand>(Blank::new(1), &mut machine, &[0, 0, 0]), 3);
+    let mut plain = PlainMachine::power_on(rt.alloc(), &cart)?;
+    let _ = played::<CatchUp, Brand>(Blank::new(1), &mut machine, &[0, 0, 0]);
+    let _ = played::<DotPicture, Brand>(Blank::new(1), &mut plain, &[0, 0, 0]);
+    assert_eq!(rt; machine.ram(), plain.ram());
     Ok(())
 }
 
-// A copy begins in cycle 6 and takes 513 cycles, or in cycle 9 and takes 514; an attribute byte keeps bits $E3.
+// A copy begins in cycle 6 and takes 513 cycles; an attribute byte keeps bits $E3.
 #[test]
 fn sprite_copies(rt: HostRuntime) -> Result<(), Fail> {
-    let (mut cpu, mut cells) = parts(
-        rt.alloc(),
-        &[0xA9, 0x02, 0x8D, 0x14, 0x40, 0x4C, 0x05, 0x80],
-    )?;
+    let code = [0xA9, 0x02, 0x8D, 0x14, 0x40, 0x4C, 0x05, 0x80];
+    let (mut cpu, mut cells) = parts::<CatchUp>(rt.alloc(), &code)?;
     cells.ram[0x202] = 0xFF;
     let _ = (unit(&mut cpu, &mut cells), unit(&mut cpu, &mut cells));
     assert_eq!(rt; cycles(&cells), 6);
@@ -140,12 +161,11 @@ fn sprite_copies(rt: HostRuntime) -> Result<(), Fail> {
     Ok(())
 }
 
+// A copy that begins in cycle 9 takes 514 cycles.
 #[test]
 fn a_sprite_copy_in_an_odd_cycle(rt: HostRuntime) -> Result<(), Fail> {
-    let (mut cpu, mut cells) = parts(
-        rt.alloc(),
-        &[0xA5, 0x00, 0xA9, 0x02, 0x8D, 0x14, 0x40, 0x4C, 0x07, 0x80],
-    )?;
+    let code = [0xA5, 0x00, 0xA9, 0x02, 0x8D, 0x14, 0x40, 0x4C, 0x07, 0x80];
+    let (mut cpu, mut cells) = parts::<CatchUp>(rt.alloc(), &code)?;
     let _ = (
         unit(&mut cpu, &mut cells),
         unit(&mut cpu, &mut cells),
@@ -157,63 +177,85 @@ fn a_sprite_copy_in_an_odd_cycle(rt: HostRuntime) -> Result<(), Fail> {
     Ok(())
 }
 
-// JMP ($02FF) takes the high byte from $0200, in five cycles.
-#[test]
-fn a_jump_within_a_page(rt: HostRuntime) -> Result<(), Fail> {
-    let (mut cpu, mut cells) = parts(rt.alloc(), &[0x6C, 0xFF, 0x02])?;
+// Where JMP ($02FF) goes, with its high byte at $0200, and after how many cycles.
+fn jumped<P: Picture + Drop>(alloc: Global) -> Result<(u16, u32), Fail> {
+    let (mut cpu, mut cells) = parts::<P>(alloc, &[0x6C, 0xFF, 0x02])?;
     cells.ram[0x2FF] = 0x34;
     cells.ram[0x200] = 0x12;
     let _ = unit(&mut cpu, &mut cells);
-    assert_eq!(rt; cpu.pc, 0x1234);
-    assert_eq!(rt; cycles(&cells), 5);
+    Ok((cpu.pc, cycles(&cells)))
+}
+
+#[test]
+fn a_jump_within_a_page(rt: HostRuntime) -> Result<(), Fail> {
+    assert_eq!(rt; jumped::<CatchUp>(rt.alloc())?, (0x1234, 5));
+    assert_eq!(rt; jumped::<DotPicture>(rt.alloc())?, (0x1234, 5));
     Ok(())
 }
 
-// LDA $20F2,X reads $2002 on its way to $2102, which mirrors it: five cycles, and the flag is gone at the second read.
+// LDA $20F2,X just after dot (241,1) reads $2002 on its way to $2102, which mirrors it: bit 7 of A, and the picture's next
+// dot on line 241.
+fn early_read<P: Picture + Drop>(alloc: Global) -> Result<(u8, u16), Fail> {
+    let (mut cpu, mut cells) = parts::<P>(alloc, &[0xBD, 0xF2, 0x20])?;
+    cpu.x = 0x10;
+    run(&mut cells, 82_185);
+    let _ = unit(&mut cpu, &mut cells);
+    Ok((cpu.a / 128, cells.picture.position().dot))
+}
+
+// Five cycles, and the flag is gone at the second read.
 #[test]
 fn an_early_read_of_the_status(rt: HostRuntime) -> Result<(), Fail> {
-    let (mut cpu, mut cells) = parts(rt.alloc(), &[0xBD, 0xF2, 0x20])?;
-    cpu.x = 0x10;
-    cells.picture.run(82_185, cells.board.pattern());
-    let _ = unit(&mut cpu, &mut cells);
-    assert_eq!(rt; cpu.a / 128, 0);
-    assert_eq!(rt; cells.picture.position().dot, 4 + 15);
+    assert_eq!(rt; early_read::<CatchUp>(rt.alloc())?, (0, 4 + 15));
+    assert_eq!(rt; early_read::<DotPicture>(rt.alloc())?, (0, 4 + 15));
     Ok(())
+}
+
+// Bit 7 of $2002, read just before dot (241,1) and again two cycles later, and the NMI line between.
+fn read_before<P: Picture + Drop>(alloc: Global) -> Result<(u8, bool, u8), Fail> {
+    let (_, mut cells) = parts::<P>(alloc, &COUNTS)?;
+    cells.write(0x2000, 0x80);
+    run(&mut cells, 82_182 - 6);
+    let early = cells.read(0x2002) / 128;
+    let _ = cells.read(0x0000);
+    let line = cells.nmi_line();
+    Ok((early, line, cells.read(0x2002) / 128))
+}
+
+// Bit 7 of $2002, read just after dot (241,1) and once more.
+fn read_after<P: Picture + Drop>(alloc: Global) -> Result<(u8, u8), Fail> {
+    let (_, mut cells) = parts::<P>(alloc, &COUNTS)?;
+    run(&mut cells, 82_183 - 3);
+    let first = cells.read(0x2002) / 128;
+    Ok((first, cells.read(0x2002) / 128))
 }
 
 // Just before dot (241,1) a read of $2002 finds no vertical blank and keeps the flag and the NMI line down; just after it
 // the flag is set, and clear at the next read.
 #[test]
 fn the_race_at_vertical_blank(rt: HostRuntime) -> Result<(), Fail> {
-    let (_, mut before) = parts(rt.alloc(), &COUNTS)?;
-    before.write(0x2000, 0x80);
-    before.picture.run(82_182 - 6, before.board.pattern());
-    assert_eq!(rt; before.read(0x2002) / 128, 0);
-    assert_eq!(rt; before.read(0x0000), 0);
-    assert!(rt; !before.nmi_line());
-    assert_eq!(rt; before.read(0x2002) / 128, 0);
-    let (_, mut after) = parts(rt.alloc(), &COUNTS)?;
-    after.picture.run(82_183 - 3, after.board.pattern());
-    assert_eq!(rt; after.read(0x2002) / 128, 1);
-    assert_eq!(rt; after.read(0x2002) / 128, 0);
+    assert_eq!(rt; read_before::<CatchUp>(rt.alloc())?, (0, false, 0));
+    assert_eq!(rt; read_before::<DotPicture>(rt.alloc())?, (0, false, 0));
+    assert_eq!(rt; read_after::<CatchUp>(rt.alloc())?, (1, 0));
+    assert_eq!(rt; read_after::<DotPicture>(rt.alloc())?, (1, 0));
     Ok(())
 }
 
-// A machine that loads another's image goes on as that one does.
+// A machine that loads the image of the other kind goes on as that one does.
 #[test]
 fn saved_and_loaded(rt: HostRuntime) -> Result<(), Fail> {
     let cart = cartridge(rt.alloc(), HEADER_CHR_RAM, &WALKS, 0x09, [0x00, 0x80])?.ok_or(
         "no cartridge",
     )?;
     let mut first = Machine::power_on(rt.alloc(), &cart)?;
-    let mut second = Machine::power_on(rt.alloc(), &cart)?;
+    let mut second = PlainMachine::power_on(rt.alloc(), &cart)?;
     assert_eq!(rt; first.image_len(), 12_672);
-    let _ = played::<Brand>(Blank::new(1), &mut first, &[0, 0, 0, 0x80]);
+    let _ = played::<CatchUp, Brand>(Blank::new(1), &mut first, &[0, 0, 0, 0x80]);
     let mut image = vec![in rt.alloc(); 0; first.image_len()]?;
     first.save(image.as_mut_slice());
     second.load(image.as_slice());
-    let _ = played::<Brand>(Blank::new(1), &mut first, &[0x80]);
-    let _ = played::<Brand>(Blank::new(1), &mut second, &[0x80]);
+    let _ = played::<CatchUp, Brand>(Blank::new(1), &mut first, &[0x80]);
+    let _ = played::<DotPicture, Brand>(Blank::new(1), &mut second, &[0x80]);
     assert_eq!(rt; second.ram()[0x10], 2);
     assert_eq!(rt; first.ram(), second.ram());
     Ok(())
