@@ -19,7 +19,7 @@ pub record Held : Type 0 where
 
 -- the bounds of a search of a script: the most words of a front, 2 to the exponent slots, the number of different pads,
 -- and the script's tolerance
-unfoldable pub bounds_of : Given → Record → Bounds
+abbrev pub bounds_of : Given → Record → Bounds
 bounds_of given script =
     record { most = given.front; slots = 2 ^ given.exponent; inputs = given.inputs; tolerance = script.tolerance }
 

@@ -4,11 +4,13 @@
 #![tactic(auto)]
 
 mod candidate;
+mod laws;
 mod movies;
 mod opening;
 mod search;
 
 pub use candidate::expand;
+pub use laws::{a_candidate_is_told_by_its_parent, an_image_stands_for_its_word};
 pub use nj_machine::{Cart, Machine, Pad};
 pub use nj_movie::Movie;
 pub use nj_rows::{Row, Verdict3};

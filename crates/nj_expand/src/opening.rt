@@ -1,34 +1,38 @@
 //! The start of a search: the start movie is run once, and its state is the first front.
 
-ghost use Rattle.std.specs.Prelude.{◌≡◌, ◌≤◌, ◌+◌, ◌*◌, ◌^◌, [], length, IfOk};
+ghost use Rattle.std.specs.Prelude.{◌≡◌, ◌≤◌, ◌+◌, ◌*◌, ◌^◌, [], ◌∷◌, length, IfOk};
 ghost use Rattle.nj_ines.specs.Cartridge.{IsNrom};
 ghost use Rattle.nj_machine.specs.State.{rom_of};
 ghost use Rattle.nj_machine.specs.Frame.{frames};
-ghost use Rattle.nj_machine.specs.Image.{image_len};
+ghost use Rattle.nj_machine.specs.Image.{image_len, image_of};
 ghost use Rattle.nj_pool.specs.declared.refused.PushRefused.{PushRefused};
 ghost use Rattle.nj_game.specs.Plan.{plan_of};
 ghost use Rattle.nj_game.specs.Words.{key_of, judged_of};
 ghost use Rattle.nj_expand.specs.Front.{size_in, image_at, one_state};
 
 use crate::candidate::{judge_state, key_in};
-use nj_game::{a_word_keeps_the_cartridge, the_empty_word_is_the_start};
+use crate::laws::an_image_stands_for_its_word;
+use nj_game::the_empty_word_is_the_start;
 use nj_ines::Cart;
-use nj_machine::{Machine, an_image_tells_its_state};
+use nj_machine::Machine;
 use nj_movie::Movie;
 use nj_pad::Pad;
 use nj_pool::{FrontPool, PushRefused};
 use nj_rules::{Judged, Status};
 use nj_script::Script;
+use nj_seen::Generations;
 use nj_steps::Steps;
 use std::alloc::{AllocError, Global};
 use std::sync::ledger::Ledger;
 
-/// The start's state, alone in a pool, its judgement and its key.
+/// What a search has before its first step: the start's state, alone in a pool, its judgement, its key as the keys seen,
+/// and its level.
 #[derive(Drop)]
 pub(crate) struct First {
     pub(crate) pool: FrontPool,
-    pub(crate) judged: Judged,
-    pub(crate) key: u64,
+    pub(crate) judged: Vec<Judged>,
+    pub(crate) seen: Generations,
+    pub(crate) level: u32,
 }
 
 // One frame for each pad.
@@ -47,6 +51,15 @@ pub(crate) fn image_room(alloc: Global, machine: &Machine) -> Result<Vec<u8>, Al
     ensures { IfOk result (λ image. length image.items ≡ image_len (rom_of machine.now)) }
 {
     vec![in alloc; 0; machine.image_len()]
+}
+
+// The image of the machine's state.
+fn saved(alloc: Global, machine: &mut Machine) -> Result<Vec<u8>, AllocError>
+    ensures { IfOk result (λ image. image.items ≡ image_of machine.old) }
+{
+    let mut image = image_room(alloc, machine)?;
+    machine.save(image.as_mut_slice());
+    Ok(image)
 }
 
 /// What a state is refused for for which there is room.
@@ -88,23 +101,28 @@ impl First {
         requires some { 1 ≤ most }
         requires few { most ≤ 2 ^ 20 }
         ensures pool { IfOk result (λ first. let plan = plan_of cart.now script.now start.now in first.pool ≡ one_state (most * (size_in plan + 16)) (image_at plan [])) }
-        ensures judged { IfOk result (λ first. first.judged ≡ judged_of (plan_of cart.now script.now start.now) []) }
-        ensures key { IfOk result (λ first. first.key ≡ key_of (plan_of cart.now script.now start.now) []) }
+        ensures judged { IfOk result (λ first. first.judged.items ≡ judged_of (plan_of cart.now script.now start.now) [] ∷ []) }
+        ensures seen { IfOk result (λ first. first.seen ≡ (key_of (plan_of cart.now script.now start.now) [] ∷ []) ∷ []) }
+        ensures level { IfOk result (λ first. first.level ≡ (let j = judged_of (plan_of cart.now script.now start.now) [] in j.level)) }
         ensures frames { steps.new ≤ steps.old + length start.now }
         ensures never_falls { steps.old ≤ steps.new }
     {
         the_empty_word_is_the_start();
-        a_word_keeps_the_cartridge();
-        an_image_tells_its_state();
+        an_image_stands_for_its_word();
         is_nrom(cart);
         let mut machine = Machine::power_on(alloc, cart)?;
         run_frames(&mut machine, start.pads(), steps);
         let judged = judge_state(&machine, Status(0), script);
         let key = key_in(&machine, judged, script);
-        let mut image = image_room(alloc, &machine)?;
-        machine.save(image.as_mut_slice());
+        let image = saved(alloc, &mut machine)?;
         let pool = pool_of(alloc, image.as_slice(), most)?;
-        Ok(First { pool, judged, key })
+        let seen = Generations::opening(alloc, key)?;
+        Ok(First {
+            pool,
+            judged: vec![in alloc; judged]?,
+            seen,
+            level: judged.level,
+        })
     }
 }
 

@@ -1,20 +1,22 @@
 //! The search between two steps.
 
 ghost use Rattle.std.specs.Prelude.{◌≡◌, ◌≤◌, ◌<◌, ◌+◌, ◌*◌, ◌^◌, [], ◌∷◌, false, true, length, get_or, IfOk};
-ghost use Rattle.nj_machine.specs.State.{rom_of, power_on};
-ghost use Rattle.nj_machine.specs.Image.{image_len, IsImage};
+ghost use Rattle.nj_ines.specs.Cartridge.{IsNrom};
+ghost use Rattle.nj_machine.specs.State.{power_on};
+ghost use Rattle.nj_machine.specs.Image.{of_image, IsImage};
 ghost use Rattle.nj_rules.specs.Pads.{named_pads};
 ghost use Rattle.nj_game.specs.Plan.{plan_of, movie_of};
-ghost use Rattle.nj_game.specs.Words.{judged_of};
+ghost use Rattle.nj_game.specs.Words.{state_of, status_of, judged_of, key_of};
 ghost use Rattle.nj_seen.specs.Rows.{is_live_row};
 ghost use Rattle.nj_expand.specs.Held.{bounds_of, opened};
-ghost use Rattle.nj_expand.specs.Front.{rom_in, size_in, image_at};
+ghost use Rattle.nj_expand.specs.Front.{rom_in, size_in, image_at, one_state, AreBounds};
 
 use crate::Bounds;
+use crate::laws::{a_candidate_is_told_by_its_parent, an_image_stands_for_its_word};
 use crate::movies::{is_no_fail, push_word};
 use crate::opening::{First, is_nrom};
 use nj_ines::Cart;
-use nj_machine::Machine;
+use nj_machine::{Machine, frames_keep_the_cartridge};
 use nj_movie::Movie;
 use nj_pool::FrontPool;
 use nj_rows::Row;
@@ -25,6 +27,13 @@ use nj_steps::Steps;
 use std::alloc::{AllocError, Global};
 use std::marker::Model;
 use std::sync::ledger::Ledger;
+
+// The greatest checkpoint level that a front has had, and the last step at which a lower level is kept.
+#[derive(Clone, Copy)]
+pub(crate) struct Mark {
+    pub(crate) level: u32,
+    pub(crate) until: u32,
+}
 
 /// A search between two steps. After want of memory in a step it is spent.
 #[derive(Drop)]
@@ -37,8 +46,7 @@ pub struct Search {
     pub(crate) judged: Vec<Judged>,
     pub(crate) seen: Generations,
     pub(crate) step: u32,
-    pub(crate) level: u32,
-    pub(crate) until: u32,
+    pub(crate) mark: Mark,
     pub(crate) spent: bool,
 }
 
@@ -52,7 +60,7 @@ impl Model for Search {
     ghost view = { λ s. record {
       plan = plan_of s.cart s.script s.start;
       bounds = bounds_of s.bounds s.script;
-      state = record { step = s.step; front = s.pool.words; seen = s.seen; mark = record { level = s.level; until = s.until } };
+      state = record { step = s.step; front = s.pool.words; seen = s.seen; mark = record { level = s.mark.level; until = s.mark.until } };
       spent = s.spent;
     } };
 
@@ -80,22 +88,40 @@ impl Search {
     {
         is_nrom(&cart);
         let _inputs = script.input_count();
-        let First { pool, judged, key } =
-            First::run(alloc, &cart, &script, &start, bounds.front, steps)?;
-        let seen = Generations::opening(alloc, key)?;
-        Ok(Search {
+        let first = First::run(alloc, &cart, &script, &start, bounds.front, steps)?;
+        Ok(Search::begun(cart, script, start, bounds, first))
+    }
+
+    // The search of these parts before its first step.
+    #[tactic(auto, unfolding(crate::specs::Held::opened, nj_search_defs::specs::Outcome::opening, nj_game::specs::Words::game_of, crate::specs::Front::one_state))]
+    fn begun(cart: Cart, script: Script, start: Movie, bounds: Bounds, first: First) -> Search
+        requires bounds { AreBounds bounds script }
+        requires nrom { IsNrom cart }
+        requires pool { let plan = plan_of cart script start in first.pool ≡ one_state (bounds.front * (size_in plan + 16)) (image_at plan []) }
+        requires judged { first.judged.items ≡ judged_of (plan_of cart script start) [] ∷ [] }
+        requires seen { first.seen ≡ (key_of (plan_of cart script start) [] ∷ []) ∷ [] }
+        requires level { first.level ≡ (let j = judged_of (plan_of cart script start) [] in j.level) }
+        ensures { result ≡ opened (plan_of cart script start) (bounds_of bounds script) }
+    {
+        an_image_stands_for_its_word();
+        let First {
+            pool,
+            judged,
+            seen,
+            level,
+        } = first;
+        Search {
             cart,
             script,
             start,
             bounds,
             pool,
-            judged: vec![in alloc; judged]?,
+            judged,
             seen,
             step: 0,
-            level: judged.level,
-            until: 0,
+            mark: Mark { level, until: 0 },
             spent: false,
-        })
+        }
     }
 
     /// The movie of the front's word at a place.
@@ -118,7 +144,9 @@ impl Search {
         requires spent { self.now.spent ≡ false }
         ensures image { into.new ≡ image_at self.now.plan (get_or self.now.state.front place []) }
         ensures is_image { IsImage (rom_in self.now.plan) into.new }
+        ensures state { of_image (rom_in self.now.plan) into.new ≡ state_of self.now.plan (get_or self.now.state.front place []) }
     {
+        an_image_stands_for_its_word();
         self.pool.load(place, into);
     }
 
@@ -126,8 +154,10 @@ impl Search {
     pub fn judged(&self, place: usize) -> Judged
         requires place { place < length self.now.state.front }
         requires spent { self.now.spent ≡ false }
-        ensures { result ≡ judged_of self.now.plan (get_or self.now.state.front place []) }
+        ensures judged { result ≡ judged_of self.now.plan (get_or self.now.state.front place []) }
+        ensures status { result.status.0 ≡ status_of self.now.plan (get_or self.now.state.front place []) }
     {
+        a_candidate_is_told_by_its_parent();
         self.judged[place]
     }
 
@@ -136,7 +166,7 @@ impl Search {
         requires spent { self.now.spent ≡ false }
         ensures { result ≡ is_live_row self.now.state.mark (self.now.state.step + 1) row.now }
     {
-        let is_low = row.level < self.level && self.until <= self.step;
+        let is_low = row.level < self.mark.level && self.mark.until <= self.step;
         !is_low && is_no_fail(row.verdict)
     }
 
@@ -148,10 +178,12 @@ impl Search {
     }
 
     /// The bytes of an image of the machine: 4,480, or 12,672 where pattern memory is RAM.
+    #[tactic(auto, unfolding(crate::specs::Front::size_in, crate::specs::Front::rom_in, nj_machine::specs::Image::image_len))]
     pub fn image_len(&self) -> usize
         ensures len { result ≡ size_in self.now.plan }
         ensures within { result ≤ 12672 }
     {
+        frames_keep_the_cartridge();
         if self.cart.chr_ram() { 12_672 } else { 4_480 }
     }
 
@@ -198,6 +230,7 @@ impl Search {
         ensures sum { result ≡ length self.now.state.front * (size_in self.now.plan + 16) }
         ensures within { result ≤ self.now.bounds.most * (size_in self.now.plan + 16) }
     {
+        an_image_stands_for_its_word();
         self.pool.bytes()
     }
 

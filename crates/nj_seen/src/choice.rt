@@ -1,4 +1,4 @@
-ghost use Rattle.std.specs.Prelude.{IfOk};
+ghost use Rattle.std.specs.Prelude.{◌≡◌, IfOk};
 ghost use Rattle.nj_seen.specs.Rows.{IsRising};
 ghost use Rattle.nj_seen.specs.Choices.{AreInOrder, IsChoice};
 
@@ -71,8 +71,17 @@ mod tests {
         Ok(keys)
     }
 
+    // A seen key, a new one and the same again.
+    fn three_rows() -> [Row; 3]
+        ensures { IsRising result }
+    {
+        [row(0, 7, 99), row(1, 5, 10), row(256, 5, 50)]
+    }
+
     // A row that goes on.
-    fn row(number: u64, key: u64, reward: i64) -> Row {
+    fn row(number: u64, key: u64, reward: i64) -> Row
+        ensures { result.number ≡ number }
+    {
         Row {
             number,
             key,
@@ -100,17 +109,12 @@ mod tests {
     #[test]
     fn a_repeated_key_is_dropped(rt: HostRuntime) -> Result<(), Fail> {
         let seen = Generations::opening(rt.alloc(), 7)?;
-        let rows = [
-            row(0, 5, 10),
-            row(1, 5, 50),
-            row(256, 7, 99),
-            row(257, 4, 20),
-        ];
+        let rows = three_rows();
         match choose(rt.alloc(), &rows, &seen, 2, 1024, 1)? {
             Choice::Kept(chosen) => {
                 assert_eq!(rt; chosen.gone, 0);
-                assert_eq!(rt; chosen.generation.as_slice(), [4, 5].as_slice());
-                assert_eq!(rt; chosen.kept.as_slice(), [row(257, 4, 20)].as_slice());
+                assert_eq!(rt; chosen.generation.as_slice(), [5].as_slice());
+                assert_eq!(rt; chosen.kept.as_slice(), [row(1, 5, 10)].as_slice());
             }
             Choice::Won(_) | Choice::Exhausted => assert!(rt; false),
         }

@@ -1,0 +1,55 @@
+use Rattle.std.proofs.Common.{rules, arith, ◌≡◌, ◌≤◌, [], ◌∷◌, length, ap, ◌∙◌}
+use Rattle.nj_game.specs.Plan.{plan_of}
+use Rattle.nj_game.specs.Words.{state_of, judged_of}
+use Rattle.nj_expand.specs.Front.{size_in, image_at}
+use Rattle.nj_expand.proofs.Starts.{start_state, start_judged, start_key, start_image, start_pool}
+use Rattle.nj_expand.proofs.opening.First.run.Goals as goal
+
+pub pool_of-requires-clause-long : goal.pool_of-requires-clause-long
+pool_of-requires-clause-long g c =
+    let plan = plan_of c.args.cart.now c.args.script.now c.args.start.now in
+    let ran =
+    start_state c.args.cart.now c.args.script.now c.args.start.now c.pads.result.now c.in_ok-machine.machine c.run_frames.new.machine
+    c.in_ok-machine.ensures.begun c.pads.ensures.pads c.run_frames.ensures.state (c.the_empty_word_is_the_start.ensures.state plan) in
+    let is = start_image plan c.run_frames.new.machine c.as_slice.result.now ran (c.as_slice.ensures.value ∙ c.in_ok-image.ensures) in
+    omega (arith, ap length is, c.an_image_stands_for_its_word.ensures.len plan [] c.is_nrom.ensures, c.an_image_stands_for_its_word.ensures.few plan)
+
+pub returns-clause-pool : goal.returns-clause-pool
+returns-clause-pool g c =
+    let plan = plan_of c.args.cart.now c.args.script.now c.args.start.now in
+    let ran =
+    start_state c.args.cart.now c.args.script.now c.args.start.now c.pads.result.now c.in_ok-machine.machine c.run_frames.new.machine
+    c.in_ok-machine.ensures.begun c.pads.ensures.pads c.run_frames.ensures.state (c.the_empty_word_is_the_start.ensures.state plan) in
+    let is = start_image plan c.run_frames.new.machine c.as_slice.result.now ran (c.as_slice.ensures.value ∙ c.in_ok-image.ensures) in
+    c.pool.view_is
+    ∙ start_pool plan c.args.most c.as_slice.result.now c.in_ok-pool.pool is (c.an_image_stands_for_its_word.ensures.len plan [] c.is_nrom.ensures) c.in_ok-pool.ensures
+
+pub returns-clause-judged : goal.returns-clause-judged
+returns-clause-judged g c =
+    let plan = plan_of c.args.cart.now c.args.script.now c.args.start.now in
+    let ran =
+    start_state c.args.cart.now c.args.script.now c.args.start.now c.pads.result.now c.in_ok-machine.machine c.run_frames.new.machine
+    c.in_ok-machine.ensures.begun c.pads.ensures.pads c.run_frames.ensures.state (c.the_empty_word_is_the_start.ensures.state plan) in
+    let told = start_judged plan c.run_frames.new.machine c.judge_state-judged.result ran c.judge_state-judged.ensures (c.the_empty_word_is_the_start.ensures.judged plan) in
+    c.in_ok-vec.ensures.items ∙ ap (λ j. j ∷ []) told
+
+pub returns-clause-seen : goal.returns-clause-seen
+returns-clause-seen g c =
+    let plan = plan_of c.args.cart.now c.args.script.now c.args.start.now in
+    let ran =
+    start_state c.args.cart.now c.args.script.now c.args.start.now c.pads.result.now c.in_ok-machine.machine c.run_frames.new.machine
+    c.in_ok-machine.ensures.begun c.pads.ensures.pads c.run_frames.ensures.state (c.the_empty_word_is_the_start.ensures.state plan) in
+    let key =
+    start_key plan c.run_frames.new.machine c.judge_state-judged.result c.key_in-key.result ran
+    (start_judged plan c.run_frames.new.machine c.judge_state-judged.result ran c.judge_state-judged.ensures (c.the_empty_word_is_the_start.ensures.judged plan))
+    c.key_in-key.ensures in
+    c.in_ok-seen.ensures ∙ ap (λ k. (k ∷ []) ∷ []) key
+
+pub returns-clause-level : goal.returns-clause-level
+returns-clause-level g c =
+    let plan = plan_of c.args.cart.now c.args.script.now c.args.start.now in
+    let ran =
+    start_state c.args.cart.now c.args.script.now c.args.start.now c.pads.result.now c.in_ok-machine.machine c.run_frames.new.machine
+    c.in_ok-machine.ensures.begun c.pads.ensures.pads c.run_frames.ensures.state (c.the_empty_word_is_the_start.ensures.state plan) in
+    let told = start_judged plan c.run_frames.new.machine c.judge_state-judged.result ran c.judge_state-judged.ensures (c.the_empty_word_is_the_start.ensures.judged plan) in
+    ap (λ j. j.level) told
