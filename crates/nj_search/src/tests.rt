@@ -179,39 +179,32 @@ fn found<L: Ledger>(
     blank: Blank,
     start: &[u8],
     limits: Limits,
-) -> Result<(Outcome, u64), Fail>
+) -> Result<((u8, u32, i64, Vec<u8>), u64), Fail>
     requires blank { blank.name ≡ L.name }
     requires limits { AreInRange limits }
 {
     let mut steps = Steps::<L>::open(blank);
     let start = movie(alloc, start)?;
-    let plan = Plan::new(cartridge(alloc, 1, 1)?, script(alloc, FIVE)?, start, limits)
-        .ok()
-        .ok_or("no plan")?;
+    let plan = Plan::new(
+        cartridge(alloc, 1, 1)?,
+        script(alloc, FIVE)?,
+        start,
+        limits,
+    )
+    .ok()
+    .ok_or("no plan")?;
     let outcome = search_plain(alloc, plan, &mut steps)?;
-    Ok((outcome, steps.count()))
+    Ok((told(alloc, &outcome)?, steps.count()))
 }
 
 #[test]
 fn searches(rt: HostRuntime) -> Result<(), Fail> {
     let alloc = rt.alloc();
-    let (outcome, frames) = found::<Brand>(
-        alloc,
-        Blank::new(1),
-        &[0, 0, 0],
-        limits(BUDGET, 5, 20),
-    )?;
-    let (kind, step, reward, pads) = told(alloc, &outcome)?;
-    assert_eq!(rt; (kind, step, reward), (b'W', 5, 105));
-    assert_eq!(rt; pads.as_slice(), &[0, 0, 0, R, R, R, R, R]);
-    assert_eq!(rt; frames, 17);
-    let (outcome, _frames) = found::<Brand>(alloc, Blank::new(1), &[0, 0, 0], limits(8992, 2, 10))?;
-    let (kind, step, reward, pads) = told(alloc, &outcome)?;
-    assert_eq!(rt; (kind, step, reward), (b'L', 2, 2));
-    assert_eq!(rt; pads.as_slice(), &[0, 0, 0, R, R]);
-    let (outcome, frames) = found::<Brand>(alloc, Blank::new(1), &[], limits(BUDGET, 5, 20))?;
-    let (kind, step, _reward, _pads) = told(alloc, &outcome)?;
-    assert_eq!(rt; (kind, step), (b'E', 1));
-    assert_eq!(rt; frames, 2);
+    let won = found::<Brand>(alloc, Blank::new(1), &[0, 0, 0], limits(BUDGET, 5, 20))?;
+    assert_eq!(rt; won, ((b'W', 5, 105, vec![in alloc; 0, 0, 0, R, R, R, R, R]?), 17));
+    let cut = found::<Brand>(alloc, Blank::new(1), &[0, 0, 0], limits(8992, 2, 10))?;
+    assert_eq!(rt; cut, ((b'L', 2, 2, vec![in alloc; 0, 0, 0, R, R]?), 9));
+    let exhausted = found::<Brand>(alloc, Blank::new(1), &[], limits(BUDGET, 5, 20))?;
+    assert_eq!(rt; exhausted, ((b'E', 1, 0, Vec::new(alloc)), 2));
     Ok(())
 }
