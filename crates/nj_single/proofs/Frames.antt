@@ -39,33 +39,33 @@ few_allowed named plan word = named plan.script.inputs.sets (ram_of (state_of pl
 
 -- the candidates of a step are at most the words of its front by the pads that the script names
 few_candidates : ((sets : List InputSet) (ram : List ℕ) → length (allowed_pads sets ram) ≤ length (named_pads sets))
-    → (search : Held) → length (candidates_in search) ≤ length search.state.front * length (named_pads search.plan.script.inputs.sets)
+    → (held : Held) → length (candidates_in held) ≤ length held.state.front * length (named_pads held.plan.script.inputs.sets)
 unfolding candidates_in candidates
-few_candidates named search =
-    few_from (game_of search.plan) (length (named_pads search.plan.script.inputs.sets)) (few_allowed named search.plan) 0 search.state.front
+few_candidates named held =
+    few_from (game_of held.plan) (length (named_pads held.plan.script.inputs.sets)) (few_allowed named held.plan) 0 held.state.front
 
 -- no more candidates are kept than the bound
-few_kept : (search : Held) → length (kept_in search) ≤ search.bounds.most
+few_kept : (held : Held) → length (kept_in held) ≤ held.bounds.most
 unfolding kept_in kept_of kept
-few_kept search =
-    omega (arith, length-take search.bounds.most (in_order (is_before (game_of search.plan)) (fresh_of (game_of search.plan) search.bounds search.state)))
+few_kept held =
+    omega (arith, length-take held.bounds.most (in_order (is_before (game_of held.plan)) (fresh_of (game_of held.plan) held.bounds held.state)))
 
 -- the inputs of the bounds are those of what they were given as
 inputs_are : (given : Given) (script : Record) (bounds : Bounds) → bounds_of given script ≡ bounds → given.inputs ≡ bounds.inputs
 inputs_are given script bounds is = ap (λ (b : Bounds). b.inputs) is
 
 -- so a step runs at most so many steps of a word
-pub few_runs : ((sets : List InputSet) (ram : List ℕ) → length (allowed_pads sets ram) ≤ length (named_pads sets)) → (search : Held) (given : Given)
-    → bounds_of given search.plan.script ≡ search.bounds → given.inputs ≡ length (named_pads search.plan.script.inputs.sets)
-    → length search.state.front ≤ search.bounds.most
-    → length (candidates_in search) + length (kept_in search) ≤ search.bounds.most * (search.bounds.inputs + 1)
-few_runs named search given is inputs words =
-    let pads : length (named_pads search.plan.script.inputs.sets) ≡ search.bounds.inputs = sym inputs ∙ inputs_are given search.plan.script search.bounds is in
-    let first : length (candidates_in search) ≤ length search.state.front * search.bounds.inputs =
-    subst (λ n. length (candidates_in search) ≤ length search.state.front * n) pads (few_candidates named search) in
-    let second : length search.state.front * search.bounds.inputs ≤ search.bounds.most * search.bounds.inputs = mul-le-mul_right search.bounds.inputs words in
-    let product : search.bounds.most * (search.bounds.inputs + 1) ≡ search.bounds.most * search.bounds.inputs + search.bounds.most * 1 = mul-add search.bounds.most search.bounds.inputs 1 in
-    omega (arith, first, second, product, few_kept search)
+pub few_runs : ((sets : List InputSet) (ram : List ℕ) → length (allowed_pads sets ram) ≤ length (named_pads sets)) → (held : Held) (given : Given)
+    → bounds_of given held.plan.script ≡ held.bounds → given.inputs ≡ length (named_pads held.plan.script.inputs.sets)
+    → length held.state.front ≤ held.bounds.most
+    → length (candidates_in held) + length (kept_in held) ≤ held.bounds.most * (held.bounds.inputs + 1)
+few_runs named held given is inputs words =
+    let pads : length (named_pads held.plan.script.inputs.sets) ≡ held.bounds.inputs = sym inputs ∙ inputs_are given held.plan.script held.bounds is in
+    let first : length (candidates_in held) ≤ length held.state.front * held.bounds.inputs =
+    subst (λ n. length (candidates_in held) ≤ length held.state.front * n) pads (few_candidates named held) in
+    let second : length held.state.front * held.bounds.inputs ≤ held.bounds.most * held.bounds.inputs = mul-le-mul_right held.bounds.inputs words in
+    let product : held.bounds.most * (held.bounds.inputs + 1) ≡ held.bounds.most * held.bounds.inputs + held.bounds.most * 1 = mul-add held.bounds.most held.bounds.inputs 1 in
+    omega (arith, first, second, product, few_kept held)
 
 -- the frames of both
 pub both : (hold candidates kept since between after : ℕ) → between ≤ since + hold * candidates → after ≤ between + hold * kept → after ≤ since + hold * (candidates + kept)

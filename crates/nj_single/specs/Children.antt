@@ -18,9 +18,9 @@ child_rows script status parent number (pad ∷ pads) =
 
 -- the rows that are live in the next step of a search
 abbrev pub live_among : Held → List Row → List Row
-live_among search rows = filter (is_live_row search.state.mark (search.state.step + 1)) rows
+live_among held rows = filter (is_live_row held.state.mark (held.state.step + 1)) rows
 
 -- the rows of the live candidates of a word that stands at this place of the front
 unfoldable pub word_rows : Held → ℕ → Word → List Row
-word_rows search place word =
-    live_among search (map (row_of (game_of search.plan)) (extensions (256 * place) word (allowed_of search.plan word)))
+word_rows held place word =
+    live_among held (map (row_of (game_of held.plan)) (extensions (256 * place) word (allowed_of held.plan word)))

@@ -9,7 +9,9 @@ ghost use Rattle.nj_expand.specs.Front.{rom_in, size_in};
 ghost use Rattle.nj_expand.specs.Held.{live_rows, candidates_in};
 ghost use Rattle.nj_single.specs.Children.{child_rows, live_among, word_rows};
 
-use nj_expand::{Row, Search, Status, a_candidate_is_told_by_its_parent, expand};
+use nj_expand::{
+    Row, Search, Status, a_candidate_is_told_by_its_parent, expand, live_rows_are_live,
+};
 use nj_machine::Machine;
 use nj_pad::Pad;
 use nj_rules::allowed;
@@ -29,6 +31,7 @@ pub(crate) fn rows_of<L: Ledger>(
     ensures frames { steps.new ≤ steps.old + search.now.plan.script.hold * length (candidates_in search.now) }
     ensures never_falls { steps.old ≤ steps.new }
 {
+    live_rows_are_live();
     let mut machine = search.machine(alloc)?;
     let mut room = vec![in alloc; 0; search.image_len()]?;
     let image = room.as_mut_slice();

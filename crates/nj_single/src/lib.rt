@@ -2,8 +2,10 @@
 #![tactic(auto)]
 
 mod children;
-// mod step;
+mod step;
+#[cfg(test)]
+mod tests;
 
 pub use nj_expand::{Row, Search, Stepped};
 pub use nj_steps::Steps;
-// pub use step::next_single;
+pub use step::next_single;

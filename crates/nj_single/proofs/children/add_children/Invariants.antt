@@ -5,7 +5,7 @@ use Rattle.nj_single.proofs.children.add_children.Given as goal
 
 abbrev pub invariant-loop-place : goal.invariant-loop-place
 invariant-loop-place g l = AreRun (record {
-  search = l.fn.search;
+  held = l.fn.search;
   status = l.fn.status.0;
   image = l.fn.image;
   first = l.fn.first;

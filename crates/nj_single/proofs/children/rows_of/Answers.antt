@@ -7,7 +7,7 @@ use Rattle.nj_single.proofs.children.rows_of.Goals as goal
 pub loop-place-init : goal.loop-place-init
 loop-place-init g c =
     subst (λ (rows : List Row). AreDone c.args.search.now 0 rows c.args.steps.now c.args.steps.now c.in_ok-machine.machine (length c.as_mut_slice-image.result.now)) (sym c.new-rows.ensures.items)
-    (none_done c.args.search.now c.args.steps.now (length c.as_mut_slice-image.result.now) c.in_ok-machine.machine c.in_ok-machine.ensures (search rules))
+    (none_done c.live_rows_are_live.ensures c.args.search.now c.args.steps.now (length c.as_mut_slice-image.result.now) c.in_ok-machine.machine c.in_ok-machine.ensures (search rules))
 
 pub returns-in_err-add_word-clause-frames : goal.returns-in_err-add_word-clause-frames
 returns-in_err-add_word-clause-frames g c =
