@@ -2,6 +2,7 @@
 #![tactic(auto)]
 
 mod advance;
+mod ending;
 mod idle;
 mod line;
 mod place;
