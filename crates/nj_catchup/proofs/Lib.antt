@@ -10,3 +10,4 @@ pub mod Misses
 pub mod Limits
 pub mod Meets
 pub mod Lines
+pub mod Ends

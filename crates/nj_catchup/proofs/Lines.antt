@@ -1,11 +1,11 @@
 -- The pixels of a line by its tiles, and where a row of sprite zero meets them.
-use Rattle.std.proofs.Common.{◌≡◌, ℕ, zero, suc, ◌+◌, ◌-◌, ◌*◌, ◌/◌, ◌%◌, ◌^◌, ◌<◌, ◌≤◌, Bool, true, false, ◌&&◌, ◌||◌, ◌==◌, nat_lt, nat_le, if◌then◌else◌, List, Option, None, Some, slice_index, refl, ap, sym, ◌∙◌, subst, arith, inl, inr}
-use Rattle.std.proofs.lemmas.Bool.{cases_Bool, cases_lt, true≢false}
+use Rattle.std.proofs.Common.{◌≡◌, ℕ, zero, suc, ◌+◌, ◌-◌, ◌*◌, ◌/◌, ◌%◌, ◌^◌, ◌<◌, Bool, true, false, ◌&&◌, ◌||◌, ◌==◌, nat_lt, nat_le, List, Option, Some, slice_index, refl, ap, sym, ◌∙◌, subst, arith, inl, inr}
+use Rattle.std.proofs.lemmas.Bool.{cases_lt}
 use Rattle.std.proofs.lemmas.Bool.Decides.{nat_tests}
 use Rattle.std.proofs.lemmas.Nat.{field_of, shr-shr, shl-shr}
 use Rattle.std.proofs.Math.Pow.{mod-mod-pow}
 use Rattle.nj_sprite0.specs.declared.row.SpriteRow.{SpriteRow}
-use Rattle.nj_sprite0.specs.Sprite.{has_bit, shows_at, is_opaque_at}
+use Rattle.nj_sprite0.specs.Sprite.{has_bit, is_opaque_at}
 use Rattle.nj_sprite0.specs.Meeting.{background_at, meets_at}
 use Rattle.nj_dots.specs.declared.screen.Screen.{Screen}
 use Rattle.nj_dots.specs.Screen.{shows_both_layers, shows_left_columns}

@@ -1,13 +1,10 @@
 -- A visible line with a row of sprite zero: all but the hits is as without the row.
-use Rattle.std.proofs.Common.{◌≡◌, ℕ, zero, suc, ◌+◌, ◌-◌, ◌*◌, ◌/◌, ◌%◌, ◌^◌, ◌<◌, ◌≤◌, Bool, true, false, ◌&&◌, ◌||◌, ◌==◌, nat_lt, nat_le, if◌then◌else◌, List, Option, None, Some, slice_index, refl, ap, sym, ◌∙◌, subst, arith, lit≤, inl, inr}
-use Rattle.std.proofs.lemmas.Bool.{cases_Bool, cases_eq, true≢false}
-use Rattle.std.proofs.lemmas.Bool.Decides.{nat_tests}
+use Rattle.std.proofs.Common.{◌≡◌, ℕ, zero, suc, ◌+◌, ◌*◌, ◌%◌, ◌<◌, ◌≤◌, Bool, true, false, ◌||◌, ◌==◌, if◌then◌else◌, List, Option, refl, ap, sym, ◌∙◌, subst, arith, lit≤, inl, inr}
+use Rattle.std.proofs.lemmas.Bool.{cases_eq}
 use Rattle.nj_sprite0.specs.declared.row.SpriteRow.{SpriteRow}
-use Rattle.nj_sprite0.specs.Sprite.{has_bit, shows_at}
-use Rattle.nj_sprite0.specs.Meeting.{background_at, meets_at}
 use Rattle.nj_dots.specs.declared.screen.Screen.{Screen}
-use Rattle.nj_dots.specs.Screen.{is_next, is_rendering, shows_both_layers, shows_left_columns}
-use Rattle.nj_dots.specs.Dots.{raised, flagged, background_bit, is_shown_column, is_hit_pixel, pixel, fetched_row, tile_fetched, line_ended, tile_ended, shown, drawn, moved, dot_of, after_dots}
+use Rattle.nj_dots.specs.Screen.{is_rendering}
+use Rattle.nj_dots.specs.Dots.{raised, flagged, is_hit_pixel, pixel, fetched_row, tile_fetched, line_ended, tile_ended, shown, drawn, moved, dot_of, after_dots}
 use Rattle.nj_dots.proofs.Moving.{if-true}
 use Rattle.nj_catchup.specs.Idle.{at_dot}
 use Rattle.nj_catchup.specs.Tiles.{may_hit, IsQuiet}

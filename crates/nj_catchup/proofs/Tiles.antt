@@ -1,5 +1,5 @@
 -- Visible dots without a hit, one by one, in a tile, and over many tiles.
-use Rattle.std.proofs.Common.{◌≡◌, ℕ, zero, suc, ◌+◌, ◌-◌, ◌*◌, ◌/◌, ◌%◌, ◌^◌, ◌<◌, ◌≤◌, Bool, true, false, ◌&&◌, ◌==◌, nat_lt, nat_le, if◌then◌else◌, List, refl, ap, sym, ◌∙◌, subst, arith, lit≤, inl, inr}
+use Rattle.std.proofs.Common.{◌≡◌, ℕ, zero, suc, ◌+◌, ◌-◌, ◌*◌, ◌/◌, ◌%◌, ◌^◌, ◌<◌, ◌≤◌, Bool, true, false, ◌&&◌, nat_lt, nat_le, List, refl, ap, sym, ◌∙◌, subst, arith, lit≤, inl, inr}
 use Rattle.std.proofs.lemmas.Bool.{true≢false, cases_eq, cases_lt, eq-eqb, ne_eqb}
 use Rattle.std.proofs.lemmas.Bool.Decides.{nat_tests}
 use Rattle.std.proofs.lemmas.Nat.{mul-mod_first}
@@ -7,8 +7,8 @@ use Rattle.std.proofs.Math.Nat.{pow-suc, mul_assoc}
 use Rattle.nj_dots.specs.declared.screen.Screen.{Screen}
 use Rattle.nj_dots.specs.Scroll.{next_column}
 use Rattle.nj_sprite0.specs.Sprite.{shows_at}
-use Rattle.nj_dots.specs.Screen.{is_next, is_rendering, shows_both_layers}
-use Rattle.nj_dots.specs.Dots.{raised, flagged, background_bit, is_shown_column, is_hit_pixel, pixel, fetched_row, tile_fetched, line_ended, tile_ended, prefetched, row_stepped, shown, is_drawn_line, drawn, moved, dot_of, after_dots}
+use Rattle.nj_dots.specs.Screen.{is_next, shows_both_layers}
+use Rattle.nj_dots.specs.Dots.{flagged, background_bit, is_shown_column, is_hit_pixel, pixel, fetched_row, tile_fetched, line_ended, tile_ended, prefetched, row_stepped, shown, is_drawn_line, drawn, moved, dot_of, after_dots}
 use Rattle.nj_dots.proofs.Stays.{Stays, stays-tile_ended}
 use Rattle.nj_dots.proofs.Moving.{if-true, if-false}
 use Rattle.nj_catchup.specs.Idle.{at_dot}

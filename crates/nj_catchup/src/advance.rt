@@ -4,6 +4,7 @@ ghost use Rattle.std.specs.Prelude.{◌≡◌, ◌≤◌, length};
 ghost use Rattle.nj_dots.specs.Screen.{IsScreen};
 ghost use Rattle.nj_dots.specs.Dots.{after_dots};
 
+use crate::ending::end_line;
 use crate::idle::idle_dots;
 use crate::line::run_pixels;
 use nj_dots::Screen;
@@ -23,6 +24,23 @@ pub fn advance(screen: &mut Screen, dots: u32, pattern: &[u8])
 
 // Runs some of the next dots as one, one dot at least.
 fn advance_some(screen: &mut Screen, left: u32, pattern: &[u8]) -> u32
+    requires fits { IsScreen screen.old }
+    requires pattern { length pattern.now ≡ 8192 }
+    requires left { 1 ≤ left }
+    ensures dots { screen.new ≡ after_dots result pattern.now screen.old }
+    ensures some { 1 ≤ result }
+    ensures within { result ≤ left }
+    ensures fits { IsScreen screen.new }
+{
+    let ending = end_line(screen, left);
+    if ending > 0 {
+        return ending;
+    }
+    run_idle(screen, left, pattern)
+}
+
+// The same where no line ends.
+fn run_idle(screen: &mut Screen, left: u32, pattern: &[u8]) -> u32
     requires fits { IsScreen screen.old }
     requires pattern { length pattern.now ≡ 8192 }
     requires left { 1 ≤ left }

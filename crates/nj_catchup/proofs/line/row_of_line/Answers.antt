@@ -1,12 +1,12 @@
 -- The row that is latched, if one is.
-use Rattle.std.proofs.Common.{◌≡◌, ◌<◌, ◌+◌, ◌&&◌, ◌||◌, Bool, true, false, ℕ, Option, None, Some, refl, ap, sym, ◌∙◌, arith}
+use Rattle.std.proofs.Common.{◌≡◌, ◌&&◌, ◌||◌, Bool, true, false, ℕ, Option, None, Some, refl, sym, arith}
 use Rattle.std.specs.Option.{IfSome}
 use Rattle.std.proofs.lemmas.Bool.{true≢false}
 use Rattle.nj_sprite0.specs.Sprite.{has_bit}
 use Rattle.nj_sprite0.specs.declared.row.SpriteRow.{SpriteRow}
 use Rattle.nj_dots.specs.declared.screen.Screen.{Screen}
 use Rattle.nj_dots.specs.Screen.{is_rendering, shows_both_layers}
-use Rattle.nj_catchup.specs.Tiles.{may_hit, IsQuiet}
+use Rattle.nj_catchup.specs.Tiles.{may_hit}
 use Rattle.nj_catchup.specs.Line.{IsRowLine}
 use Rattle.nj_catchup.proofs.Misses.{and-false}
 use Rattle.nj_catchup.proofs.line.row_of_line.Goals as goal

@@ -1,13 +1,12 @@
 -- Met or not.
-use Rattle.std.proofs.Common.{◌≡◌, ◌||◌, Bool, true, false, ℕ, List, Option, None, Some, ◌+◌, ◌*◌, suc, refl, ap, sym, ◌∙◌, subst, arith}
+use Rattle.std.proofs.Common.{◌≡◌, ◌||◌, Bool, true, false, ℕ, List, Option, None, Some, ◌*◌, suc, refl, ap, sym, ◌∙◌, arith}
 use Rattle.std.specs.Option.{is_some, IfSome, IfNone}
 use Rattle.std.proofs.lemmas.Bool.{true≢false}
 use Rattle.nj_sprite0.specs.declared.row.SpriteRow.{SpriteRow}
 use Rattle.nj_sprite0.specs.Meeting.{meets_at}
 use Rattle.nj_dots.specs.declared.screen.Screen.{Screen}
-use Rattle.nj_dots.specs.Screen.{shows_left_columns}
 use Rattle.nj_dots.specs.Dots.{after_dots}
-use Rattle.nj_catchup.specs.Tiles.{IsQuiet, tiles_run, line_finished}
+use Rattle.nj_catchup.specs.Tiles.{tiles_run, line_finished}
 use Rattle.nj_catchup.specs.Line.{shown_byte}
 use Rattle.nj_catchup.proofs.Meets.{with_hit, any-after}
 use Rattle.nj_catchup.proofs.Lines.{IsLine, line-after, line-none, line-some, tiles-with_hit, finished-with_hit, line-tiles}
