@@ -21,11 +21,11 @@ use Rattle.nj_catchup.proofs.Tiles.{misses-hit}
 use Rattle.nj_catchup.proofs.Status.{hit-dot}
 
 -- `near` stays, the row of sprite zero stays
-record SameNear (s e : Screen) : Type 0 where
-  near : e.near ≡ s.near
+pub record SameNear (s e : Screen) : Type 0 where
+  pub near : e.near ≡ s.near
 
-record SameRow (s e : Screen) : Type 0 where
-  row : e.sprite_row ≡ s.sprite_row
+pub record SameRow (s e : Screen) : Type 0 where
+  pub row : e.sprite_row ≡ s.sprite_row
 
 -- no hit is near
 record Far (e : Screen) : Type 0 where
@@ -64,7 +64,7 @@ near-tile_fetched : (p : List ℕ) (s : Screen) → SameNear s (tile_fetched p s
 unfolding tile_fetched
 near-tile_fetched p s = record { near = refl }
 
-near-tile_ended : (p : List ℕ) (s : Screen) → SameNear s (tile_ended p s)
+pub near-tile_ended : (p : List ℕ) (s : Screen) → SameNear s (tile_ended p s)
 unfolding tile_ended
 near-tile_ended p s = near-if _ s _ _ (near-line_ended p s) (near-if _ s _ _ (near-tile_fetched p s) (near-refl s))
 
@@ -124,7 +124,7 @@ row-tile_fetched : (p : List ℕ) (s : Screen) → SameRow s (tile_fetched p s)
 unfolding tile_fetched
 row-tile_fetched p s = record { row = refl }
 
-row-tile_ended : (p : List ℕ) (s : Screen) → SameRow s (tile_ended p s)
+pub row-tile_ended : (p : List ℕ) (s : Screen) → SameRow s (tile_ended p s)
 unfolding tile_ended
 row-tile_ended p s = row-if _ s _ _ (row-line_ended p s) (row-if _ s _ _ (row-tile_fetched p s) (row-refl s))
 
@@ -297,7 +297,7 @@ below-miss n k p s fits within below from frame =
       | inr past ↦ absurd (omega (arith, past.place, frame, within, dots-least (place_of s.position) (skips-of s)))
     ]
 
-and-false : (a b : Bool) → b ≡ false → (a && b) ≡ false
+pub and-false : (a b : Bool) → b ≡ false → (a && b) ≡ false
 and-false true b h = h
 and-false false b h = refl
 

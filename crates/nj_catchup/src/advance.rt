@@ -5,7 +5,7 @@ ghost use Rattle.nj_dots.specs.Screen.{IsScreen};
 ghost use Rattle.nj_dots.specs.Dots.{after_dots};
 
 use crate::idle::idle_dots;
-use crate::visible::run_visible;
+use crate::line::run_pixels;
 use nj_dots::Screen;
 
 /// Runs the next dots.
@@ -55,7 +55,7 @@ fn run_shown(screen: &mut Screen, left: u32, pattern: &[u8]) -> u32
     ensures within { result ≤ left }
     ensures fits { IsScreen screen.new }
 {
-    let dots = run_visible(screen, left, pattern);
+    let dots = run_pixels(screen, left, pattern);
     if dots > 0 {
         dots
     } else {

@@ -3,6 +3,7 @@
 
 mod advance;
 mod idle;
+mod line;
 mod place;
 mod steady;
 mod visible;
