@@ -1,6 +1,6 @@
 -- What holds of a plan of which nothing is refused.
-use Rattle.std.proofs.Common.{◌≡◌, ℕ, ◌+◌, ◌*◌, ◌/◌, ◌^◌, ◌<◌, ◌≤◌, Bool, true, false, cond, List, [], ◌∷◌, length, min, refl, ap, ap₂, ◌∙◌, arith}
-use Rattle.std.specs.Prelude.{Option, Some, None, nat_lt}
+use Rattle.std.proofs.Common.{◌≡◌, ℕ, ◌*◌, ◌/◌, ◌^◌, ◌<◌, ◌≤◌, Bool, true, false, cond, length, refl, ap₂, arith}
+use Rattle.std.specs.Prelude.{Option, Some, None}
 use Rattle.std.proofs.lemmas.Bool.{ltb-false}
 use Rattle.std.proofs.lemmas.Nat.{le-div}
 use Rattle.nj_ines.specs.Cartridge.{Cartridge}
@@ -8,7 +8,7 @@ use Rattle.nj_rules.specs.Pads.{named_pads}
 use Rattle.nj_game.specs.Plan.{Plan}
 use Rattle.nj_search.specs.declared.planning.Limits.{Limits}
 use Rattle.nj_search.specs.declared.planning.PlanRefused.{PlanRefused}
-use Rattle.nj_search.specs.Plans.{pages_of, cost_of, most_of, slots_of, need_of, rows_of, frames_of, refusals, first_refusal, refusal_of}
+use Rattle.nj_search.specs.Plans.{cost_of, most_of, slots_of, need_of, rows_of, frames_of, refusals, refusal_of}
 
 -- where the first of a list is not refused the rest decides
 unrefused_by : (b : Bool) (x : PlanRefused) (rest : Option PlanRefused) → cond b (Some x) rest ≡ None → (b ≡ false) × (rest ≡ None)

@@ -1,8 +1,8 @@
 -- A search step by step up to its limit.
-use Rattle.std.proofs.Common.{◌≡◌, ℕ, suc, ◌+◌, ◌-◌, ◌*◌, ◌<◌, ◌≤◌, false, List, [], ◌∷◌, length, get_or, refl, ap, ap₂, sym, subst, ◌∙◌, arith}
+use Rattle.std.proofs.Common.{◌≡◌, ℕ, ◌+◌, ◌-◌, ◌*◌, ◌<◌, ◌≤◌, false, List, [], ◌∷◌, length, get_or, refl, ap, ap₂, sym, subst, ◌∙◌, arith}
 use Rattle.std.proofs.Math.Nat.{mul-le-mul_left}
-use Rattle.nj_search_defs.specs.Game.{Word, Go, Win, Fail}
-use Rattle.nj_search_defs.specs.Outcome.{State, WonAt, ExhaustedAt, LimitAt, searched, judged_first, opening, outcome, Outcome as SearchOutcome}
+use Rattle.nj_search_defs.specs.Game.{Word}
+use Rattle.nj_search_defs.specs.Outcome.{WonAt, ExhaustedAt, LimitAt, searched, judged_first, opening, outcome}
 use Rattle.nj_rules.specs.declared.record.Judged.{Judged}
 use Rattle.nj_rules.specs.declared.record.Verdict.{Verdict}
 use Rattle.nj_rules.specs.declared.record.Verdict.TheVariants.{Go as ToldGo, Win as ToldWin, Fail as ToldFail}

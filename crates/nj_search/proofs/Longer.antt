@@ -1,5 +1,5 @@
 -- A longer search begins as the shorter one.
-use Rattle.std.proofs.Common.{◌≡◌, ℕ, ◌+◌, refl}
+use Rattle.std.proofs.Common.{◌≡◌, refl}
 use Rattle.nj_search_defs.specs.Game.{Verdict, Go, Win, Fail}
 use Rattle.nj_search_defs.specs.Outcome.{State, Outcome, opening, judged_first, outcome}
 use Rattle.nj_search_defs.specs.Laws.{gone_on, LimitsAdd}

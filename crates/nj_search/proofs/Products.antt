@@ -1,5 +1,5 @@
 -- Products that fit 64 bits.
-use Rattle.std.proofs.Common.{ℕ, ◌*◌, ◌<◌, ◌≤◌, ◌^◌, Fits, w64, arith}
+use Rattle.std.proofs.Common.{ℕ, ◌*◌, ◌≤◌, ◌^◌, Fits, w64, arith}
 use Rattle.std.proofs.lemmas.Nat.{mul-le}
 
 -- words of a front times pads or steps

@@ -3,9 +3,9 @@ use Rattle.std.proofs.Common.{◌≡◌, ℕ, suc, ◌+◌, ◌/◌, ◌<◌, �
 use Rattle.std.specs.Prelude.{Some, slice_get}
 use Rattle.std.proofs.lemmas.Grind.{flat_map-append}
 use Rattle.std.proofs.lemmas.Option.{slice_get_within, get_or_from_slice_get}
-use Rattle.nj_search_defs.specs.Game.{Word, Game}
+use Rattle.nj_search_defs.specs.Game.{Word}
 use Rattle.nj_search_defs.specs.Candidates.{Candidate, word_of}
-use Rattle.nj_search_defs.specs.Outcome.{State, Next, Won as NextWon, Exhausted as NextExhausted, Goes, WonAt, ExhaustedAt, then_go_on, searched, next}
+use Rattle.nj_search_defs.specs.Outcome.{State, Next, Won as NextWon, Exhausted as NextExhausted, Goes, WonAt, ExhaustedAt, then_go_on, searched}
 use Rattle.nj_search_defs.specs.Laws.{StepsAreCounted, WinnersTellParents}
 use Rattle.nj_rules.specs.declared.record.InputSet.{InputSet}
 use Rattle.nj_rules.specs.Pads.{allowed_pads, named_pads}
@@ -13,7 +13,6 @@ use Rattle.nj_rows.specs.declared.Row.{Row}
 use Rattle.nj_script.specs.Script.{Record}
 use Rattle.nj_game.specs.Plan.{Plan, held_pads, movie_of}
 use Rattle.nj_game.specs.Words.{ram_after, judged_of, allowed_of, game_of}
-use Rattle.nj_expand.specs.declared.Stepped.{Stepped}
 use Rattle.nj_expand.specs.declared.Stepped.TheVariants.{Won as WonRow, Exhausted as NothingKept, Go}
 use Rattle.nj_expand.specs.Rows.{row_of}
 use Rattle.nj_expand.specs.Held.{Held, next_in}

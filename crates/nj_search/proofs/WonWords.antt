@@ -1,10 +1,9 @@
 -- The movie of a word that won is read and replayed.
-use Rattle.std.proofs.Common.{◌≡◌, ℕ, ◌+◌, ◌*◌, ◌^◌, ◌≤◌, List, [], ◌∷◌, ◌++◌, length, replicate, Ok, refl, ap, sym, ◌∙◌, arith, length-append}
-use Rattle.std.specs.Prelude.{None, ◌↔◌}
+use Rattle.std.proofs.Common.{◌≡◌, ℕ, ◌+◌, ◌*◌, ◌^◌, ◌≤◌, List, [], ◌∷◌, ◌++◌, length, Ok, refl, ap, ◌∙◌, arith, length-append}
+use Rattle.std.specs.Prelude.{◌↔◌}
 use Rattle.std.proofs.lemmas.List.{length-replicate}
 use Rattle.std.proofs.Math.Nat.{mul-le-mul_left}
-use Rattle.nj_search_defs.specs.Game.{Word, Game, Win as Wins}
-use Rattle.nj_search_defs.specs.Outcome.{WonAt, outcome}
+use Rattle.nj_search_defs.specs.Game.{Word, Win as Wins}
 use Rattle.nj_search_defs.specs.Laws.{WonWins, WonWordsAreAsLong}
 use Rattle.nj_rules.specs.declared.record.Verdict.{Verdict}
 use Rattle.nj_rules.specs.declared.record.Verdict.TheVariants.{Go, Win, Fail}
@@ -12,9 +11,9 @@ use Rattle.nj_game.specs.Plan.{Plan, held_pads, movie_of}
 use Rattle.nj_game.specs.Words.{judged_of, search_verdict, game_of}
 use Rattle.nj_replay.specs.Reading.{word_of}
 use Rattle.nj_replay.specs.Replay.{replayed_of, replay_of}
-use Rattle.nj_search.specs.Plans.{Planned, refusal_of, bounds_in}
+use Rattle.nj_search.specs.Plans.{bounds_in}
 use Rattle.nj_search.specs.Ends.{outcome_of, reward_in}
-use Rattle.nj_search.specs.Laws.{Replays, AWonWordReplays}
+use Rattle.nj_search.specs.Laws.{AWonWordReplays}
 use Rattle.nj_search.proofs.Accepted.{accepted}
 
 -- a movie is read as its word

@@ -1,5 +1,5 @@
 -- What is left of a search between two steps. All of it is this project's own.
-use Rattle.std.specs.Prelude.{◌≡◌, ◌<◌, ◌≤◌, ℕ, ◌+◌, ◌*◌, false, List, []}
+use Rattle.std.specs.Prelude.{◌≡◌, ℕ, ◌+◌, ◌*◌, false}
 use Rattle.nj_search_defs.specs.Outcome.{Outcome, searched}
 use Rattle.nj_game.specs.Words.{game_of}
 use Rattle.nj_expand.specs.Held.{Held}

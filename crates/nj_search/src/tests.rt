@@ -185,14 +185,9 @@ fn found<L: Ledger>(
 {
     let mut steps = Steps::<L>::open(blank);
     let start = movie(alloc, start)?;
-    let plan = Plan::new(
-        cartridge(alloc, 1, 1)?,
-        script(alloc, FIVE)?,
-        start,
-        limits,
-    )
-    .ok()
-    .ok_or("no plan")?;
+    let plan = Plan::new(cartridge(alloc, 1, 1)?, script(alloc, FIVE)?, start, limits)
+        .ok()
+        .ok_or("no plan")?;
     let outcome = search_plain(alloc, plan, &mut steps)?;
     Ok((told(alloc, &outcome)?, steps.count()))
 }
@@ -201,7 +196,10 @@ fn found<L: Ledger>(
 fn searches(rt: HostRuntime) -> Result<(), Fail> {
     let alloc = rt.alloc();
     let won = found::<Brand>(alloc, Blank::new(1), &[0, 0, 0], limits(BUDGET, 5, 20))?;
-    assert_eq!(rt; won, ((b'W', 5, 105, vec![in alloc; 0, 0, 0, R, R, R, R, R]?), 17));
+    assert_eq!(rt;
+        won,
+        ((b'W', 5, 105, vec![in alloc; 0, 0, 0, R, R, R, R, R]?), 17)
+    );
     let cut = found::<Brand>(alloc, Blank::new(1), &[0, 0, 0], limits(8992, 2, 10))?;
     assert_eq!(rt; cut, ((b'L', 2, 2, vec![in alloc; 0, 0, 0, R, R]?), 9));
     let exhausted = found::<Brand>(alloc, Blank::new(1), &[], limits(BUDGET, 5, 20))?;

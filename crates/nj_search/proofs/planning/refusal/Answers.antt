@@ -1,4 +1,4 @@
-use Rattle.std.proofs.Common.{◌<◌, ◌*◌, ◌≤◌, ◌^◌, ℕ, Fits, w64, arith}
+use Rattle.std.proofs.Common.{arith}
 use Rattle.nj_search.proofs.Products.{product_fits}
 use Rattle.nj_search.proofs.planning.refusal.Goals as goal
 

@@ -40,15 +40,15 @@ returns-in-Go-clause-outcome g c =
     IfOk-weaker c.search_on.result (λ outcome. told_of search.plan (rest_of search c.steps-limit.result) ≡ outcome)
     (λ outcome. told_of c.args.plan.plan (outcome_of c.args.plan) ≡ outcome)
     (λ outcome told. goes_on c.args.plan search c.judged-first.result c.steps-limit.result outcome (begun c.args.plan _ c.in_ok-search.ensures.opened)
-    c.judged-first.ensures c.in-Go.is c.steps-limit.ensures.steps told)
+    c.judged-first.ensures.judged c.in-Go.is c.steps-limit.ensures.steps told)
     c.search_on.ensures.outcome
 
 pub returns-in_ok-movie-in-Win-clause-outcome : goal.returns-in_ok-movie-in-Win-clause-outcome
 returns-in_ok-movie-in-Win-clause-outcome g c =
     start_wins c.args.plan _ c.judged-first.result c.in_ok-movie-in-Win.movie (begun c.args.plan _ c.in_ok-search.ensures.opened)
-    c.judged-first.ensures c.in-Win.is c.in_ok-movie-in-Win.ensures
+    c.judged-first.ensures.judged c.in-Win.is c.in_ok-movie-in-Win.ensures
     ∙ sym c.won_at_once.ensures
 
 pub returns-in-Fail-clause-outcome : goal.returns-in-Fail-clause-outcome
 returns-in-Fail-clause-outcome g c =
-    start_fails c.args.plan _ c.judged-first.result (begun c.args.plan _ c.in_ok-search.ensures.opened) c.judged-first.ensures c.in-Fail.is
+    start_fails c.args.plan _ c.judged-first.result (begun c.args.plan _ c.in_ok-search.ensures.opened) c.judged-first.ensures.judged c.in-Fail.is

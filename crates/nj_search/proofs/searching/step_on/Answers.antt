@@ -1,4 +1,4 @@
-use Rattle.std.proofs.Common.{◌≡◌, ◌<◌, subst, ap, ◌∙◌, arith}
+use Rattle.std.proofs.Common.{◌≡◌, subst, ap, ◌∙◌, arith}
 use Rattle.nj_expand.specs.declared.Stepped.{Stepped}
 use Rattle.nj_expand.specs.Held.{Held}
 use Rattle.nj_expand.specs.Step.{IsStep}
