@@ -1,4 +1,5 @@
 pub mod Chains
+pub mod Digits
 pub mod Judging
 pub mod Limits
 pub mod Planned

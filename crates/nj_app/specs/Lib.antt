@@ -2,6 +2,7 @@ pub mod Answer
 pub mod Asm
 pub mod Causes
 pub mod Check
+pub mod Laws
 pub mod Loading
 pub mod Made
 pub mod Outcomes

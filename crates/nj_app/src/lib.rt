@@ -18,7 +18,7 @@ mod stops;
 #[cfg(test)]
 mod tests;
 
-pub use laws::won_text_is_a_movie;
+pub use laws::{won_text_is_a_movie, won_text_replays};
 pub use nj_outside::{Shelf, Sink};
 pub use nj_steps::Steps;
 pub use running::run_plain;

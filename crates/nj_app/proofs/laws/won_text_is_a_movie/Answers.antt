@@ -3,6 +3,7 @@ use Rattle.std.proofs.Common.{◌≡◌, ℕ, ℤ, List, [], ◌∷◌, ◌++◌
 use Rattle.std.specs.Fmt.{decimal, signed_decimal}
 use Rattle.nj_movie.specs.Text.{movie_of, movie_text}
 use Rattle.nj_app.specs.Replay.{outcome_line}
+use Rattle.nj_app.proofs.Digits.{decimal_plain, signed_plain}
 use Rattle.nj_app.proofs.laws.won_text_is_a_movie.Goals as goal
 
 -- what stands behind the number of frames
@@ -25,15 +26,14 @@ won_line step frames reward =
     ∙ ap (λ rest. decimal step ++ (codes " frames=" ++ rest)) (append_assoc (decimal frames) (behind_frames reward) (10 ∷ [])))
 
 pub returns : goal.returns
-returns c = λ step frames reward pads steps_fit frames_fit reward_fits bytes few.
+returns c = λ step frames reward pads bytes few.
     let joined = c.printed_numbers_have_no_line_feed.ensures.joined in
-    let unsigned = c.printed_numbers_have_no_line_feed.ensures.unsigned in
     let plain =
     joined (codes " won step=") _ refl
-    (joined (decimal step) _ (unsigned step steps_fit)
+    (joined (decimal step) _ (decimal_plain step)
     (joined (codes " frames=") _ refl
-    (joined (decimal frames) _ (unsigned frames frames_fit)
-    (joined (codes " reward=") (signed_decimal reward) refl (c.printed_numbers_have_no_line_feed.ensures.signed reward reward_fits))))) in
+    (joined (decimal frames) _ (decimal_plain frames)
+    (joined (codes " reward=") (signed_decimal reward) refl (signed_plain reward))))) in
     let P : List ℕ → Type 0 = λ line. movie_of (line ++ movie_text pads) ≡ Ok pads in
     subst P (won_line step frames reward)
     (c.what_was_written_is_read.ensures.behind_one (won_words step frames reward) pads plain bytes few)

@@ -1,0 +1,91 @@
+-- The text is a movie within its limit, and its replay is told by the line that the text begins with.
+use Rattle.std.proofs.Common.{◌≡◌, ◌≤◌, ◌*◌, ◌++◌, ℕ, ℤ, List, [], ◌∷◌, length, false, nat_lt, Result, Ok, codes, refl, ap, sym, ◌∙◌, arith, length-append}
+use Rattle.std.proofs.lemmas.Bool.Decides.{nat_tests}
+use Rattle.nj_game.specs.Plan.{Plan, movie_of as movie_of_word}
+use Rattle.nj_movie.specs.Text.{movie_of, movie_text, written_line}
+use Rattle.nj_pad.specs.Pad.{pad_text}
+use Rattle.nj_replay.specs.Replay.{replay_of}
+use Rattle.nj_replay.specs.declared.Replayed.{Replayed}
+use Rattle.nj_replay.specs.declared.ReplayRefused.{ReplayRefused}
+use Rattle.nj_rules.specs.declared.record.Verdict.TheVariants.{Win}
+use Rattle.nj_search_defs.specs.Game.{Word}
+use Rattle.nj_search_defs.specs.Outcome.{WonAt}
+use Rattle.nj_search.specs.Ends.{outcome_of, reward_in, told_of}
+use Rattle.nj_search.specs.Plans.{Planned}
+use Rattle.nj_search.specs.declared.searching.Outcome.{Outcome}
+use Rattle.nj_search.specs.declared.searching.Outcome.TheVariants.{Won}
+use Rattle.nj_app.specs.Outcomes.{outcome_head, outcome_text}
+use Rattle.nj_app.specs.Play.{movie_limit, movie_reading}
+use Rattle.nj_app.specs.Refusals.{movie_refusal, replay_refusal}
+use Rattle.nj_app.specs.Replay.{judged_work, outcome_line, replay_done}
+use Rattle.nj_app.specs.Search.{told}
+use Rattle.nj_app.specs.Work.{Done, accepted, done, refusal_told}
+use Rattle.nj_app.proofs.Digits.{decimal_short, signed_short}
+use Rattle.nj_app.proofs.laws.won_text_replays.Goals as goal
+
+-- a line of a movie has 14 bytes
+line_length : (pad : ℕ) → length (written_line pad) ≡ 14
+unfolding written_line pad_text
+line_length pad = refl
+
+lines_length : (pads : List ℕ) → length (movie_text pads) ≡ 14 * length pads
+lines_length [] = refl
+lines_length (pad ∷ pads) =
+    let rest = lines_length pads in
+    omega (arith, length-append (written_line pad) (movie_text pads), line_length pad, rest)
+
+-- the first line is short
+head_length : (step frames : ℕ) (reward : ℤ) → length (outcome_line (codes "won") step frames reward) ≤ 300
+unfolding outcome_line
+head_length step frames reward =
+    simp length-append (omega (arith, decimal_short step, decimal_short frames, signed_short reward))
+
+-- what the definitions of the outcome come to where it is won
+told_won : (planned : Planned) (step : ℕ) (word : Word) → outcome_of planned ≡ WonAt step word →
+    told planned ≡ Won step (reward_in planned.plan word) (movie_of_word planned.plan word)
+unfolding told_of
+told_won planned step word won = ap (told_of planned.plan) won
+
+text_won : (step : ℕ) (reward : ℤ) (pads : List ℕ) → outcome_text (Won step reward pads) ≡ outcome_line (codes "won") step (length pads) reward ++ movie_text pads
+unfolding outcome_text
+text_won step reward pads = refl
+
+-- bytes within the limit are read as the movie that they are
+reading_within : (bytes pads : List ℕ) → length bytes ≤ movie_limit → movie_of bytes ≡ Ok pads → movie_reading bytes ≡ Ok pads
+unfolding movie_reading
+reading_within bytes pads short read =
+    let test : nat_lt movie_limit (length bytes) ≡ false = grind (arith, nat_tests) in
+    rw test (ap (refusal_told movie_refusal) read)
+
+won_read : (step : ℕ) (reward : ℤ) (pads : List ℕ) → length pads ≤ 1048576 →
+    movie_of (outcome_line (codes "won") step (length pads) reward ++ movie_text pads) ≡ Ok pads → movie_reading (outcome_text (Won step reward pads)) ≡ Ok pads
+won_read step reward pads few read =
+    ap movie_reading (text_won step reward pads)
+    ∙ reading_within (outcome_line (codes "won") step (length pads) reward ++ movie_text pads) pads
+    (omega (arith, length-append (outcome_line (codes "won") step (length pads) reward) (movie_text pads), head_length step (length pads) reward, lines_length pads))
+    read
+
+won_answered : (plan : Plan) (step : ℕ) (reward : ℤ) (pads : List ℕ) →
+    replay_of plan pads ≡ Ok (record { step = step; frames = length pads; reward = reward; verdict = Win }) →
+    judged_work plan.cartridge plan.script plan.start pads ≡ Done (done 0 (outcome_line (codes "won") step (length pads) reward) (length pads))
+unfolding judged_work
+won_answered plan step reward pads replayed =
+    ap (λ (r : Result Replayed ReplayRefused). accepted 6 (codes "movie") (replay_done (length pads)) (refusal_told replay_refusal r)) replayed
+
+pub returns : goal.returns
+returns c = λ planned step word some_hold none won bytes.
+    let replays = c.a_won_word_replays.ensures planned step word some_hold none won in
+    let pads = movie_of_word planned.plan word in
+    let reward = reward_in planned.plan word in
+    let is_told = told_won planned step word won in
+    let few : length pads ≤ 1048576 = replays.short_enough in
+    record {
+      read =
+          ap (λ (o : Outcome). movie_reading (outcome_text o)) is_told
+          ∙ won_read step reward pads few (c.won_text_is_a_movie.ensures step (length pads) reward pads bytes few);
+      is_of_word = replays.read;
+      replayed = replays.replayed;
+      answered =
+          won_answered planned.plan step reward pads replays.replayed
+          ∙ ap (λ (o : Outcome). Done (done 0 (outcome_head o) (length pads))) (sym is_told);
+    }
