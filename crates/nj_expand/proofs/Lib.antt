@@ -1,3 +1,9 @@
 pub mod Words
 pub mod Starts
 pub mod Played
+pub mod Rising
+pub mod Lifts
+pub mod Agains
+pub mod Ends
+pub mod Nexts
+pub mod Counts

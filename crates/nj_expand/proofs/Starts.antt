@@ -1,5 +1,5 @@
 -- The state, judgement, key and pool at the start of a search.
-use Rattle.std.proofs.Common.{◌≡◌, ◌+◌, ◌*◌, ◌≤◌, ℕ, List, [], length, sym, ap, ap₂, ◌∙◌}
+use Rattle.std.proofs.Common.{◌≡◌, ◌+◌, ◌*◌, ℕ, List, [], length, sym, ap, ap₂, ◌∙◌}
 use Rattle.nj_ines.specs.Cartridge.{Cartridge}
 use Rattle.nj_machine.specs.State.{State, power_on, ram_of, is_jammed}
 use Rattle.nj_machine.specs.Frame.{frames, play}

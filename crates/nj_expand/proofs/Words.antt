@@ -1,5 +1,5 @@
 -- Words: their images, and the rows of their children.
-use Rattle.std.proofs.Common.{◌≡◌, ◌≤◌, ◌+◌, ◌*◌, ◌<◌, ℕ, Bool, true, false, cond, zero, suc, arith, map, get_or, suc-mul, zero-mul, List, [], ◌∷◌, ◌++◌, length, refl, sym, ap, ap₂, subst, ◌∙◌}
+use Rattle.std.proofs.Common.{◌≡◌, ◌≤◌, ◌+◌, ◌*◌, ◌<◌, ℕ, Bool, true, false, cond, arith, map, get_or, suc-mul, zero-mul, List, [], ◌∷◌, ◌++◌, length, refl, sym, ap, subst, ◌∙◌}
 use Rattle.std.specs.Prelude.{All, sum_by}
 use Rattle.std.proofs.lemmas.List.{get_or-map, length-map}
 use Rattle.std.proofs.lemmas.List.Sums.{sum_by-cons}
@@ -11,7 +11,6 @@ use Rattle.nj_machine.specs.Frame.{IsReady}
 use Rattle.nj_machine.specs.Image.{image_of, image_len, of_image, IsImage}
 use Rattle.nj_rules.specs.declared.record.Verdict.{Verdict}
 use Rattle.nj_rules.specs.declared.record.Verdict.TheVariants.{Go, Win, Fail}
-use Rattle.nj_rules.specs.declared.record.Judged.{Judged}
 use Rattle.nj_rules.specs.Rules.{status_after, judged_of as judged_in}
 use Rattle.nj_rules.specs.Pads.{allowed_pads}
 use Rattle.nj_rules.specs.Key.{key_in}
@@ -19,7 +18,7 @@ use Rattle.nj_game.specs.Plan.{Plan}
 use Rattle.nj_game.specs.Words.{state_of, status_of, judged_of, allowed_of, key_of, held, search_verdict, game_of}
 use Rattle.nj_rows.specs.declared.Row.{Row}
 use Rattle.nj_pool.specs.Front.{need}
-use Rattle.nj_expand.specs.Rows.{row_verdict, told_verdict, row_with, row_of, judged_at, key_at, row_told, row_at}
+use Rattle.nj_expand.specs.Rows.{row_verdict, told_verdict, row_of, judged_at, key_at, row_told, row_at}
 use Rattle.nj_expand.specs.Front.{rom_in, size_in, image_at}
 
 pub is_image : (plan : Plan) (word : Word) → IsReady (state_of plan word) → rom_of (state_of plan word) ≡ rom_of (power_on plan.cartridge)

@@ -1,6 +1,6 @@
 -- A search between two steps, and what its next step comes to. All of it is this project's own.
-use Rattle.std.specs.Prelude.{ℕ, Bool, false, List, ◌^◌, length, map}
-use Rattle.nj_search_defs.specs.Game.{Bounds, Game}
+use Rattle.std.specs.Prelude.{Bool, false, List, ◌^◌, map}
+use Rattle.nj_search_defs.specs.Game.{Bounds}
 use Rattle.nj_search_defs.specs.Candidates.{Candidate, candidates}
 use Rattle.nj_search_defs.specs.Outcome.{State, Next, lives_of, kept_of, next, opening}
 use Rattle.nj_script.specs.Script.{Record}

@@ -1,5 +1,5 @@
 -- The rows of candidates, by their words and by the states of their parents. All of it is this project's own.
-use Rattle.std.specs.Prelude.{ℕ, List, length}
+use Rattle.std.specs.Prelude.{ℕ, length}
 use Rattle.nj_search_defs.specs.Game.{Verdict, Go, Win, Fail, Judged, Game}
 use Rattle.nj_search_defs.specs.Candidates.{Candidate}
 use Rattle.nj_search_defs.specs.Pruning.{judged_of, key_of}

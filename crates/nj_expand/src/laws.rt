@@ -1,18 +1,24 @@
 //! Laws of candidates, each the contract of a function that does nothing.
 
-ghost use Rattle.std.specs.Prelude.{◌≡◌, ◌≤◌, ◌++◌, ◌∷◌, [], ℕ, length};
+ghost use Rattle.std.specs.Prelude.{◌≡◌, ◌≤◌, ◌++◌, ◌∷◌, [], ◌+◌, ◌*◌, ℕ, All, length, map, filter};
 ghost use Rattle.nj_search_defs.specs.Game.{Word, Game};
+ghost use Rattle.nj_search_defs.specs.Outcome.{State, Goes};
+ghost use Rattle.nj_search_defs.specs.Laws.{IsChild};
 ghost use Rattle.nj_ines.specs.Cartridge.{IsNrom};
 ghost use Rattle.nj_machine.specs.State.{ram_of};
 ghost use Rattle.nj_machine.specs.Image.{of_image, IsImage};
-ghost use Rattle.nj_rules.specs.Pads.{allowed_pads};
+ghost use Rattle.nj_rules.specs.Pads.{allowed_pads, named_pads};
 ghost use Rattle.nj_game.specs.Plan.{Plan};
 ghost use Rattle.nj_game.specs.Words.{state_of, status_of, judged_of, game_of};
+ghost use Rattle.nj_seen.specs.Rows.{is_live_row};
 ghost use Rattle.nj_expand.specs.Rows.{row_of, row_at};
+ghost use Rattle.nj_expand.specs.Held.{Held, live_rows, candidates_in, kept_in, next_in};
 ghost use Rattle.nj_expand.specs.Front.{rom_in, size_in, image_at};
 
 use nj_game::{a_word_goes_on, a_word_keeps_the_cartridge};
 use nj_machine::an_image_tells_its_state;
+use nj_rules::allowed_pads_come_once;
+use nj_search_defs::{front_is_bounded, parents_stood_before, words_are_equally_long};
 
 /// The image of a word's state is one of its cartridge, and the state is made again from it.
 pub fn an_image_stands_for_its_word()
@@ -33,4 +39,32 @@ pub fn a_candidate_is_told_by_its_parent()
     ensures allowed { (plan : Plan) (word : Word) → (let g : Game = game_of plan in g.allowed word) ≡ allowed_pads plan.script.inputs.sets (ram_of (state_of plan word)) }
 {
     a_word_goes_on();
+}
+
+/// The rows of the live candidates are the live among the rows of all.
+pub fn live_rows_are_live()
+    ensures { (held : Held) → live_rows held ≡ filter (is_live_row held.state.mark (held.state.step + 1)) (map (row_of (game_of held.plan)) (candidates_in held)) }
+{}
+
+/// A step has at most as many candidates as the front has words, times the pads that the script names; it keeps no more than
+/// a front may have.
+pub fn a_step_is_bounded()
+    ensures candidates { (held : Held) → held.bounds.inputs ≡ length (named_pads held.plan.script.inputs.sets) → length (candidates_in held) ≤ length held.state.front * held.bounds.inputs }
+    ensures kept { (held : Held) → length (kept_in held) ≤ held.bounds.most }
+    ensures both { (held : Held) → held.bounds.inputs ≡ length (named_pads held.plan.script.inputs.sets) → length held.state.front ≤ held.bounds.most → length (candidates_in held) + length (kept_in held) ≤ held.bounds.most * (held.bounds.inputs + 1) }
+{
+    allowed_pads_come_once();
+}
+
+/// The front after a step has at most as many words as its bound, each as long as the steps that were made, and each one
+/// allowed pad longer than a word of the front before.
+#[tactic(auto, unfolding(crate::specs::Held::next_in))]
+pub fn a_front_follows_the_one_before()
+    ensures few { (held : Held) (state : State) → next_in held ≡ Goes state → length state.front ≤ held.bounds.most }
+    ensures long { (held : Held) (state : State) → All (λ word. length word ≡ held.state.step) held.state.front → next_in held ≡ Goes state → All (λ word. length word ≡ state.step) state.front }
+    ensures parents { (held : Held) (state : State) → next_in held ≡ Goes state → All (IsChild (game_of held.plan) held.state.front) state.front }
+{
+    front_is_bounded();
+    words_are_equally_long();
+    parents_stood_before();
 }

@@ -3,14 +3,19 @@
 //! The images of the front's states are kept, so that no word is ever run again from power-on.
 #![tactic(auto)]
 
+mod again;
 mod candidate;
+mod ending;
 mod laws;
 mod movies;
 mod opening;
 mod search;
 
 pub use candidate::expand;
-pub use laws::{a_candidate_is_told_by_its_parent, an_image_stands_for_its_word};
+pub use laws::{
+    a_candidate_is_told_by_its_parent, a_front_follows_the_one_before, a_step_is_bounded,
+    an_image_stands_for_its_word, live_rows_are_live,
+};
 pub use nj_machine::{Cart, Machine, Pad};
 pub use nj_movie::Movie;
 pub use nj_rows::{Row, Verdict3};

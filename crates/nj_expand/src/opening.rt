@@ -58,8 +58,18 @@ fn saved(alloc: Global, machine: &mut Machine) -> Result<Vec<u8>, AllocError>
     ensures { IfOk result (λ image. image.items ≡ image_of machine.old) }
 {
     let mut image = image_room(alloc, machine)?;
-    machine.save(image.as_mut_slice());
+    save_into(machine, &mut image);
     Ok(image)
+}
+
+/// Writes the image of the machine's state.
+pub(crate) fn save_into(machine: &mut Machine, image: &mut Vec<u8>)
+    requires { length image.old.items ≡ image_len (rom_of machine.old) }
+    ensures image { image.new.items ≡ image_of machine.old }
+    ensures long { length image.new.items ≡ image_len (rom_of machine.old) }
+    ensures same { machine.new ≡ machine.old }
+{
+    machine.save(image.as_mut_slice());
 }
 
 /// What a state is refused for for which there is room.

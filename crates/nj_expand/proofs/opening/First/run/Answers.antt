@@ -1,7 +1,5 @@
-use Rattle.std.proofs.Common.{rules, arith, ◌≡◌, ◌≤◌, [], ◌∷◌, length, ap, ◌∙◌}
+use Rattle.std.proofs.Common.{arith, [], ◌∷◌, length, ap, ◌∙◌}
 use Rattle.nj_game.specs.Plan.{plan_of}
-use Rattle.nj_game.specs.Words.{state_of, judged_of}
-use Rattle.nj_expand.specs.Front.{size_in, image_at}
 use Rattle.nj_expand.proofs.Starts.{start_state, start_judged, start_key, start_image, start_pool}
 use Rattle.nj_expand.proofs.opening.First.run.Goals as goal
 

@@ -1,4 +1,4 @@
-use Rattle.std.proofs.Common.{◌≡◌, ◌<◌, [], length, get_or, sym, subst}
+use Rattle.std.proofs.Common.{◌<◌, [], length, get_or, sym, subst}
 use Rattle.nj_machine.specs.Image.{IsImage}
 use Rattle.nj_game.specs.Plan.{plan_of}
 use Rattle.nj_expand.specs.Held.{Held}

@@ -1,0 +1,53 @@
+-- The states of rows, run again from the images and statuses of the front before. All of it is this project's own.
+use Rattle.std.specs.Prelude.{ℕ, ◌/◌, List, [], map, get_or}
+use Rattle.nj_machine.specs.State.{State, Rom}
+use Rattle.nj_machine.specs.Image.{image_of, of_image}
+use Rattle.nj_rules.specs.declared.record.Judged.{Judged}
+use Rattle.nj_script.specs.Script.{Record}
+use Rattle.nj_game.specs.Words.{held}
+use Rattle.nj_rows.specs.declared.Row.{Row}
+use Rattle.nj_pool.specs.declared.birth.Birth.{Birth}
+use Rattle.nj_pool.specs.Front.{Front}
+use Rattle.nj_expand.specs.Rows.{judged_at}
+
+-- the front before: what the cartridge fixes, the script, and the images and statuses of the front's states
+pub record Before : Type 0 where
+  pub rom : Rom
+  pub script : Record
+  pub images : List (List ℕ)
+  pub statuses : List ℕ
+
+-- the statuses of judgements
+abbrev pub statuses_of : List Judged → List ℕ
+statuses_of judged = map (λ j. j.status.0) judged
+
+-- the place of a row's parent in the front
+abbrev pub parent_of : Row → ℕ
+parent_of row = row.number / 256
+
+-- how the state of a row is born of the front
+abbrev pub birth_of : Row → Birth
+birth_of row = record { parent = parent_of row; pad = row.pad }
+
+-- the state of a row: its pad, held for a step, from its parent's image
+unfoldable pub state_again : Before → Row → State
+state_again before row = held before.script.hold row.pad (of_image before.rom (get_or before.images (parent_of row) []))
+
+-- the image of the state of a row
+unfoldable pub image_again : Before → Row → List ℕ
+image_again before row = image_of (state_again before row)
+
+-- how the rules judge the state of a row
+unfoldable pub judged_again : Before → Row → Judged
+judged_again before row = judged_at before.script (get_or before.statuses (parent_of row) 0) (state_again before row)
+
+-- a pool for a front to come, of the states of these rows
+unfoldable pub pool_again : Before → ℕ → ℕ → List Row → Front
+pool_again before size limit rows = record {
+  size = size;
+  limit = limit;
+  images = map (image_again before) rows;
+  words = [];
+  depth = 0;
+  born = map birth_of rows;
+}

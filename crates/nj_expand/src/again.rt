@@ -1,0 +1,141 @@
+//! The states of the rows that are kept, run again into a new pool.
+
+ghost use Rattle.std.specs.Prelude.{◌≡◌, ◌≤◌, ◌<◌, ◌+◌, ◌*◌, ◌/◌, ◌^◌, [], ◌∷◌, ◌++◌, All, length, map, get_or, IfOk, OnOk};
+ghost use Rattle.nj_machine.specs.State.{rom_of};
+ghost use Rattle.nj_machine.specs.Image.{image_len, IsImage};
+ghost use Rattle.nj_pool.specs.Front.{with_birth, bytes_held};
+ghost use Rattle.nj_expand.specs.Again.{Before, statuses_of, parent_of, birth_of, image_again, judged_again, pool_again};
+
+use crate::candidate::run_step;
+use crate::opening::{image_room, save_into, want_of_memory};
+use nj_machine::Machine;
+use nj_pad::Pad;
+use nj_pool::FrontPool;
+use nj_rows::Row;
+use nj_rules::{Judged, Status};
+use nj_script::Script;
+use nj_steps::Steps;
+use std::alloc::{AllocError, Global};
+use std::sync::ledger::Ledger;
+
+/// The states of rows in a pool, and how the rules judge them.
+#[derive(Drop)]
+pub(crate) struct Again {
+    pub(crate) pool: FrontPool,
+    pub(crate) judged: Vec<Judged>,
+}
+
+// The status at a place.
+fn status_at(judged: &[Judged], place: usize) -> Status
+    requires { place < length judged.now }
+    ensures { result.0 ≡ get_or (statuses_of judged.now) place 0 }
+{
+    judged[place].status
+}
+
+// Copies the image at a place of the front.
+fn load_into(front: &FrontPool, place: usize, image: &mut Vec<u8>)
+    requires place { place < length front.now.images }
+    requires long { length image.old.items ≡ front.now.size }
+    ensures image { image.new.items ≡ get_or front.now.images place [] }
+    ensures long { length image.new.items ≡ front.now.size }
+{
+    front.load(place, image.as_mut_slice());
+}
+
+// The state of a row, run again from its parent's image; `image` becomes its own.
+fn child_again<L: Ledger>(
+    machine: &mut Machine,
+    front: &FrontPool,
+    judged: &[Judged],
+    row: &Row,
+    script: &Script,
+    image: &mut Vec<u8>,
+    steps: &mut Steps<L>,
+) -> Judged
+    requires parent { parent_of row.now < length front.now.images }
+    requires judged { length judged.now ≡ length front.now.images }
+    requires images { All (IsImage (rom_of machine.old)) front.now.images }
+    requires size { front.now.size ≡ image_len (rom_of machine.old) }
+    requires long { length image.old.items ≡ front.now.size }
+    ensures judged { let before : Before = record { rom = rom_of machine.old; script = script.now; images = front.now.images; statuses = statuses_of judged.now } in result ≡ judged_again before row.now }
+    ensures image { let before : Before = record { rom = rom_of machine.old; script = script.now; images = front.now.images; statuses = statuses_of judged.now } in image.new.items ≡ image_again before row.now }
+    ensures long { length image.new.items ≡ front.now.size }
+    ensures cartridge { rom_of machine.new ≡ rom_of machine.old }
+    ensures frames { steps.new ≤ steps.old + script.now.hold }
+    ensures never_falls { steps.old ≤ steps.new }
+{
+    let parent = (row.number / 256) as usize;
+    load_into(front, parent, image);
+    let status = status_at(judged, parent);
+    let told = run_step(
+        machine,
+        image.as_slice(),
+        status,
+        Pad(row.pad),
+        script,
+        steps,
+    );
+    save_into(machine, image);
+    told
+}
+
+impl Again {
+    // Adds the state of a row.
+    fn push(
+        &mut self,
+        alloc: Global,
+        image: &[u8],
+        row: &Row,
+        judged: Judged,
+    ) -> Result<(), AllocError>
+        requires long { length image.now ≡ self.old.pool.size }
+        requires room { bytes_held self.old.pool + (length image.now + 16) ≤ self.old.pool.limit }
+        requires parent { parent_of row.now < 2 ^ 32 }
+        ensures pool { OnOk result (self.new.pool ≡ with_birth image.now (birth_of row.now) self.old.pool) }
+        ensures judged { OnOk result (self.new.judged.items ≡ self.old.judged.items ++ judged ∷ []) }
+    {
+        let parent = (row.number / 256) as u32;
+        match self.pool.push(alloc, image, parent, Pad(row.pad)) {
+            Ok(()) => {}
+            Err(refused) => return Err(want_of_memory(refused)),
+        }
+        self.judged.push(judged)?;
+        Ok(())
+    }
+}
+
+/// Runs the states of rows again into a pool with this limit, one after another.
+pub(crate) fn run_again<L: Ledger>(
+    alloc: Global,
+    machine: &mut Machine,
+    front: &FrontPool,
+    judged: &[Judged],
+    kept: &[Row],
+    script: &Script,
+    limit: u64,
+    steps: &mut Steps<L>,
+) -> Result<Again, AllocError>
+    requires parents { All (λ row. parent_of row < length front.now.images) kept.now }
+    requires few { length front.now.images ≤ 2 ^ 20 }
+    requires judged { length judged.now ≡ length front.now.images }
+    requires images { All (IsImage (rom_of machine.old)) front.now.images }
+    requires size { front.now.size ≡ image_len (rom_of machine.old) }
+    requires room { length kept.now * (front.now.size + 16) ≤ limit }
+    ensures pool { let before : Before = record { rom = rom_of machine.old; script = script.now; images = front.now.images; statuses = statuses_of judged.now } in IfOk result (λ again. again.pool ≡ pool_again before front.now.size limit kept.now) }
+    ensures judged { let before : Before = record { rom = rom_of machine.old; script = script.now; images = front.now.images; statuses = statuses_of judged.now } in IfOk result (λ again. again.judged.items ≡ map (judged_again before) kept.now) }
+    ensures frames { steps.new ≤ steps.old + script.now.hold * length kept.now }
+    ensures never_falls { steps.old ≤ steps.new }
+{
+    let mut image = image_room(alloc, machine)?;
+    let pool = FrontPool::new(alloc, image.as_slice(), limit)?;
+    let mut again = Again {
+        pool,
+        judged: Vec::new(alloc),
+    };
+    for row in kept {
+        let told = child_again(machine, front, judged, row, script, &mut image, steps);
+        again.push(alloc, image.as_slice(), row, told)?;
+    }
+    Ok(again)
+}
