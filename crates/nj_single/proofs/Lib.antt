@@ -1,0 +1,4 @@
+pub mod Lifts
+pub mod Fronts
+pub mod Frames
+pub mod Runs
