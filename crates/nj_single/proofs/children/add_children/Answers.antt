@@ -1,6 +1,5 @@
 -- One child more.
-use Rattle.std.proofs.Common.{arith}
-use Rattle.nj_single.proofs.Runs.{one_run, all_run}
+use Rattle.nj_single.proofs.Runs.{one_run}
 use Rattle.nj_single.proofs.children.add_children.Goals as goal
 
 pub loop-place-preserved : goal.loop-place-preserved

@@ -1,6 +1,6 @@
 -- The children before this place are run.
 use Rattle.nj_machine.specs.State.{rom_of}
-use Rattle.nj_single.proofs.Runs.{Task, AreRun}
+use Rattle.nj_single.proofs.Runs.{AreRun}
 use Rattle.nj_single.proofs.children.add_children.Given as goal
 
 abbrev pub invariant-loop-place : goal.invariant-loop-place

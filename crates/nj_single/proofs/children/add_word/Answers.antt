@@ -1,5 +1,5 @@
 -- The word's state, its pads and its children.
-use Rattle.std.proofs.Common.{◌≡◌, ℕ, ◌+◌, ◌*◌, ◌≤◌, ap, ◌∙◌, sym, subst, length, take, get_or, []}
+use Rattle.std.proofs.Common.{ℕ, ◌+◌, ◌*◌, ◌≤◌, ap, ◌∙◌, sym, subst, get_or, []}
 use Rattle.nj_machine.specs.State.{Rom, ram_of, rom_of}
 use Rattle.nj_machine.specs.Image.{of_image}
 use Rattle.nj_rules.specs.Pads.{allowed_pads}

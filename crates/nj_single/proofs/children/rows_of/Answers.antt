@@ -1,7 +1,7 @@
 -- One word more.
-use Rattle.std.proofs.Common.{◌≡◌, ap, ◌∙◌, sym, subst, arith, length, rules, List, []}
+use Rattle.std.proofs.Common.{sym, subst, length, rules, List}
 use Rattle.nj_rows.specs.declared.Row.{Row}
-use Rattle.nj_single.proofs.Fronts.{AreDone, none_done, one_done, left_off, all_done}
+use Rattle.nj_single.proofs.Fronts.{AreDone, none_done, one_done, left_off}
 use Rattle.nj_single.proofs.children.rows_of.Goals as goal
 
 pub loop-place-init : goal.loop-place-init

@@ -1,5 +1,5 @@
 -- By the pads that the script names, and the words of the front.
-use Rattle.std.proofs.Common.{subst, sym, ◌≤◌, ℕ}
+use Rattle.std.proofs.Common.{subst, ◌≤◌, ℕ}
 use Rattle.nj_single.proofs.Frames.{few_runs}
 use Rattle.nj_single.proofs.step.runs_are_bounded.Goals as goal
 
