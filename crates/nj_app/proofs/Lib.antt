@@ -1,3 +1,4 @@
+pub mod Bytes
 pub mod Chains
 pub mod Digits
 pub mod Judging

@@ -34,8 +34,9 @@ pub record ReplaysToItsLine (planned : Planned) (step : ℕ) (word : Word) : Typ
   pub answered : judged_work planned.plan.cartridge planned.plan.script planned.plan.start (movie_of_word planned.plan word)
       ≡ Done (done 0 (outcome_head (told planned)) (length (movie_of_word planned.plan word)))
 
--- so does the text of each search that is not refused and is won, its pads being bytes
+-- so does the text of each search that is not refused and is won, the pads of its start and of its script being bytes
 abbrev pub WonTextReplays : Type 0
 WonTextReplays = (planned : Planned) (step : ℕ) (word : Word) → 1 ≤ planned.plan.script.hold
     → refusal_of planned.plan planned.limits ≡ None → outcome_of planned ≡ WonAt step word
-    → All (λ pad. pad < 256) (movie_of_word planned.plan word) → ReplaysToItsLine planned step word
+    → All (λ pad. pad < 256) planned.plan.start → All (λ set. All (λ pad. pad < 256) set.pads) planned.plan.script.inputs.sets
+    → ReplaysToItsLine planned step word

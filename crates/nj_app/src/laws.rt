@@ -5,6 +5,7 @@ ghost use Rattle.nj_app.specs.Laws.{WonTextIsAMovie, WonTextReplays};
 use nj_lines::printed_numbers_have_no_line_feed;
 use nj_movie::what_was_written_is_read;
 use nj_search::a_won_word_replays;
+use nj_search_defs::{parents_stood_before, winner_is_best};
 
 /// The text of a won outcome, its line and the lines of its movie, is read as this movie: the line is a comment.
 pub fn won_text_is_a_movie()
@@ -20,4 +21,6 @@ pub fn won_text_replays()
 {
     won_text_is_a_movie();
     a_won_word_replays();
+    parents_stood_before();
+    winner_is_best();
 }

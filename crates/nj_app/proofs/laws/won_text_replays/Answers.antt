@@ -20,6 +20,7 @@ use Rattle.nj_app.specs.Refusals.{movie_refusal, replay_refusal}
 use Rattle.nj_app.specs.Replay.{judged_work, outcome_line, replay_done}
 use Rattle.nj_app.specs.Search.{told}
 use Rattle.nj_app.specs.Work.{Done, accepted, done, refusal_told}
+use Rattle.nj_app.proofs.Bytes.{won_movie_bytes}
 use Rattle.nj_app.proofs.Digits.{decimal_short, signed_short}
 use Rattle.nj_app.proofs.laws.won_text_replays.Goals as goal
 
@@ -73,7 +74,8 @@ won_answered plan step reward pads replayed =
     ap (λ (r : Result Replayed ReplayRefused). accepted 6 (codes "movie") (replay_done (length pads)) (refusal_told replay_refusal r)) replayed
 
 pub returns : goal.returns
-returns c = λ planned step word some_hold none won bytes.
+returns c = λ planned step word some_hold none won start sets.
+    let bytes = won_movie_bytes c.parents_stood_before.ensures c.winner_is_best.ensures planned step word won start sets in
     let replays = c.a_won_word_replays.ensures planned step word some_hold none won in
     let pads = movie_of_word planned.plan word in
     let reward = reward_in planned.plan word in
