@@ -32,7 +32,7 @@ fetched-idle s line clear =
     ∙ ap (λ n. record s { oam_address = n }) (sym clear)
 
 -- a choice whose ways are one
-either : {X : Type 0} (b : Bool) (x y z : X) → x ≡ z → y ≡ z → (if b then x else y) ≡ z
+pub either : {X : Type 0} (b : Bool) (x y z : X) → x ≡ z → y ≡ z → (if b then x else y) ≡ z
 either true x y z h k = h
 either false x y z h k = k
 

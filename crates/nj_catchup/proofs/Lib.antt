@@ -8,3 +8,6 @@ pub mod Tiles
 pub mod Status
 pub mod Misses
 pub mod Limits
+pub mod Meets
+pub mod Lines
+pub mod Ends

@@ -1,13 +1,12 @@
 -- Dots before an event of which none is a hit leave the hit flag.
-use Rattle.std.proofs.Common.{◌≡◌, ◌≢◌, ℕ, zero, suc, ◌+◌, ◌-◌, ◌<◌, ◌≤◌, Bool, true, false, ◌&&◌, ◌||◌, ◌==◌, if◌then◌else◌, nat_le, nat_lt, List, Option, refl, ap, sym, ◌∙◌, subst, arith, inl, inr, ◌⊎◌}
+use Rattle.std.proofs.Common.{◌≡◌, ◌≢◌, ℕ, zero, suc, ◌+◌, ◌-◌, ◌<◌, ◌≤◌, Bool, true, false, ◌&&◌, ◌||◌, ◌==◌, if◌then◌else◌, nat_le, nat_lt, List, refl, ap, ◌∙◌, subst, arith, inl, inr, ◌⊎◌}
 use Rattle.std.proofs.lemmas.Bool.{cases_Bool, cases_eq, cases_lt, true≢false, eq-eqb, ne_eqb}
 use Rattle.std.proofs.lemmas.Bool.Decides.{nat_tests}
-use Rattle.nj_sprite0.specs.declared.row.SpriteRow.{SpriteRow}
 use Rattle.nj_sprite0.specs.Sprite.{shows_at}
 use Rattle.nj_dots.specs.declared.position.Position.{Position}
 use Rattle.nj_dots.specs.declared.screen.Screen.{Screen}
-use Rattle.nj_dots.specs.Screen.{IsScreen, IsPlaced, is_next, is_rendering, shows_both_layers}
-use Rattle.nj_dots.specs.Dots.{raised, flagged, background_bit, is_shown_column, is_hit_pixel, pixel, tile_fetched, line_ended, tile_ended, latched, sprites_fetched, prefetched, shown, emptied, hidden, drawn, moved, is_last_dot, after_position, dot_of, after_dots, to_event}
+use Rattle.nj_dots.specs.Screen.{IsScreen, is_next, shows_both_layers}
+use Rattle.nj_dots.specs.Dots.{raised, background_bit, is_shown_column, is_hit_pixel, pixel, tile_fetched, line_ended, tile_ended, latched, sprites_fetched, prefetched, shown, emptied, hidden, drawn, moved, is_last_dot, after_position, dot_of, after_dots, to_event}
 use Rattle.nj_dots.specs.Laws.{IsEvent}
 use Rattle.nj_dots.proofs.Timing.{Moves, moves-moved}
 use Rattle.nj_dots.proofs.Moving.{place_of, if-true, if-false, IsLastPlace, last-place, not-next, GoesOn, goes-on, Restarts, restarts}
@@ -16,16 +15,16 @@ use Rattle.nj_dots.proofs.Events.{event-one, to_event-after}
 use Rattle.nj_catchup.specs.Tiles.{may_hit}
 use Rattle.nj_catchup.specs.Steady.{IsAlong, IsAside}
 use Rattle.nj_catchup.proofs.Calm.{Calm, calm-after, flagged-apart, raised-next}
-use Rattle.nj_catchup.proofs.Ahead.{skips-of, dots-least, Before, Past, ahead}
+use Rattle.nj_catchup.proofs.Ahead.{skips-of, dots-least, ahead}
 use Rattle.nj_catchup.proofs.Tiles.{misses-hit}
 use Rattle.nj_catchup.proofs.Status.{hit-dot}
 
 -- `near` stays, the row of sprite zero stays
-record SameNear (s e : Screen) : Type 0 where
-  near : e.near ≡ s.near
+pub record SameNear (s e : Screen) : Type 0 where
+  pub near : e.near ≡ s.near
 
-record SameRow (s e : Screen) : Type 0 where
-  row : e.sprite_row ≡ s.sprite_row
+pub record SameRow (s e : Screen) : Type 0 where
+  pub row : e.sprite_row ≡ s.sprite_row
 
 -- no hit is near
 record Far (e : Screen) : Type 0 where
@@ -64,7 +63,7 @@ near-tile_fetched : (p : List ℕ) (s : Screen) → SameNear s (tile_fetched p s
 unfolding tile_fetched
 near-tile_fetched p s = record { near = refl }
 
-near-tile_ended : (p : List ℕ) (s : Screen) → SameNear s (tile_ended p s)
+pub near-tile_ended : (p : List ℕ) (s : Screen) → SameNear s (tile_ended p s)
 unfolding tile_ended
 near-tile_ended p s = near-if _ s _ _ (near-line_ended p s) (near-if _ s _ _ (near-tile_fetched p s) (near-refl s))
 
@@ -124,7 +123,7 @@ row-tile_fetched : (p : List ℕ) (s : Screen) → SameRow s (tile_fetched p s)
 unfolding tile_fetched
 row-tile_fetched p s = record { row = refl }
 
-row-tile_ended : (p : List ℕ) (s : Screen) → SameRow s (tile_ended p s)
+pub row-tile_ended : (p : List ℕ) (s : Screen) → SameRow s (tile_ended p s)
 unfolding tile_ended
 row-tile_ended p s = row-if _ s _ _ (row-line_ended p s) (row-if _ s _ _ (row-tile_fetched p s) (row-refl s))
 
@@ -297,7 +296,7 @@ below-miss n k p s fits within below from frame =
       | inr past ↦ absurd (omega (arith, past.place, frame, within, dots-least (place_of s.position) (skips-of s)))
     ]
 
-and-false : (a b : Bool) → b ≡ false → (a && b) ≡ false
+pub and-false : (a b : Bool) → b ≡ false → (a && b) ≡ false
 and-false true b h = h
 and-false false b h = refl
 

@@ -11,7 +11,6 @@ use Rattle.nj_dots.specs.Laws.{IsEvent}
 use Rattle.nj_dots.proofs.Stays.{Stays, stays-drawn}
 use Rattle.nj_dots.proofs.Timing.{Moves, moves-moved}
 use Rattle.nj_dots.proofs.Moving.{if-true, not-next}
-use Rattle.nj_dots.proofs.Kept.{after_dots-fits}
 use Rattle.nj_dots.proofs.Events.{event-one, to_event-after}
 use Rattle.nj_catchup.specs.Steady.{IsSteady}
 use Rattle.nj_catchup.proofs.Calm.{Calm, calm-after, flagged-apart, raised-next}

@@ -1,5 +1,5 @@
 -- Visible dots without a hit, one by one, in a tile, and over many tiles.
-use Rattle.std.proofs.Common.{◌≡◌, ℕ, zero, suc, ◌+◌, ◌-◌, ◌*◌, ◌/◌, ◌%◌, ◌^◌, ◌<◌, ◌≤◌, Bool, true, false, ◌&&◌, ◌==◌, nat_lt, nat_le, if◌then◌else◌, List, refl, ap, sym, ◌∙◌, subst, arith, lit≤, inl, inr}
+use Rattle.std.proofs.Common.{◌≡◌, ℕ, zero, suc, ◌+◌, ◌-◌, ◌*◌, ◌/◌, ◌%◌, ◌^◌, ◌<◌, ◌≤◌, Bool, true, false, ◌&&◌, nat_lt, nat_le, List, refl, ap, sym, ◌∙◌, subst, arith, lit≤, inl, inr}
 use Rattle.std.proofs.lemmas.Bool.{true≢false, cases_eq, cases_lt, eq-eqb, ne_eqb}
 use Rattle.std.proofs.lemmas.Bool.Decides.{nat_tests}
 use Rattle.std.proofs.lemmas.Nat.{mul-mod_first}
@@ -7,8 +7,8 @@ use Rattle.std.proofs.Math.Nat.{pow-suc, mul_assoc}
 use Rattle.nj_dots.specs.declared.screen.Screen.{Screen}
 use Rattle.nj_dots.specs.Scroll.{next_column}
 use Rattle.nj_sprite0.specs.Sprite.{shows_at}
-use Rattle.nj_dots.specs.Screen.{is_next, is_rendering, shows_both_layers}
-use Rattle.nj_dots.specs.Dots.{raised, flagged, background_bit, is_shown_column, is_hit_pixel, pixel, fetched_row, tile_fetched, line_ended, tile_ended, prefetched, row_stepped, shown, is_drawn_line, drawn, moved, dot_of, after_dots}
+use Rattle.nj_dots.specs.Screen.{is_next, shows_both_layers}
+use Rattle.nj_dots.specs.Dots.{flagged, background_bit, is_shown_column, is_hit_pixel, pixel, fetched_row, tile_fetched, line_ended, tile_ended, prefetched, row_stepped, shown, is_drawn_line, drawn, moved, dot_of, after_dots}
 use Rattle.nj_dots.proofs.Stays.{Stays, stays-tile_ended}
 use Rattle.nj_dots.proofs.Moving.{if-true, if-false}
 use Rattle.nj_catchup.specs.Idle.{at_dot}
@@ -33,22 +33,22 @@ misses-hit s h =
     (shows_at s.sprite_row (s.position.dot - 1)) (is_shown_column s.mask (s.position.dot - 1)) h
 
 -- the shift register moved on by a pixel
-abbrev with_shift : Screen → ℕ → Screen
+abbrev pub with_shift : Screen → ℕ → Screen
 with_shift s n = record s { shift = n }
 
 pixel-quiet : (s : Screen) → s.near ≡ false → is_hit_pixel s ≡ false → pixel s ≡ with_shift s (s.shift * 2 % 65536)
 unfolding pixel
 pixel-quiet s far miss = ap (λ b. record s { near = b; shift = s.shift * 2 % 65536 }) (miss ∙ sym far)
 
-above : (l : ℕ) (s : Screen) → s.position.line < 240 → 240 ≤ l → is_next l 1 s ≡ false
+pub above : (l : ℕ) (s : Screen) → s.position.line < 240 → 240 ≤ l → is_next l 1 s ≡ false
 unfolding is_next
 above l s line from = grind (arith, nat_tests, line, from)
 
-drawn-line : (line : ℕ) → line < 240 → is_drawn_line line ≡ true
+pub drawn-line : (line : ℕ) → line < 240 → is_drawn_line line ≡ true
 unfolding is_drawn_line
 drawn-line line below = grind (arith, nat_tests, below)
 
-pixel-dot : (dot : ℕ) → 1 ≤ dot → dot ≤ 256 → (nat_le 1 dot && nat_le dot 256) ≡ true
+pub pixel-dot : (dot : ℕ) → 1 ≤ dot → dot ≤ 256 → (nat_le 1 dot && nat_le dot 256) ≡ true
 pixel-dot dot from last = grind (arith, nat_tests, from, last)
 
 drawn-quiet : (p : List ℕ) (s : Screen) → IsQuiet 1 s → drawn p s ≡ tile_ended p (with_shift s (s.shift * 2 % 65536))
@@ -58,14 +58,16 @@ drawn-quiet p s h =
     ∙ if-true _ _ _ (pixel-dot s.position.dot h.from (omega (arith, h.last)))
     ∙ ap (tile_ended p) (pixel-quiet s h.far (misses-hit s (h.misses s.position.dot (omega arith) (omega arith))))
 
-moved-tile : (p : List ℕ) (s : Screen) → s.position.dot ≤ 256 → moved (tile_ended p s) ≡ at_dot (tile_ended p s) (s.position.dot + 1)
+pub tile_ended-dot : (p : List ℕ) (s : Screen) → (tile_ended p s).position.dot ≡ s.position.dot
+tile_ended-dot p s = let st : Stays s (tile_ended p s) = stays-tile_ended p s in ap (λ e. e.position.dot) st.same
+
+pub moved-tile : (p : List ℕ) (s : Screen) → s.position.dot ≤ 256 → moved (tile_ended p s) ≡ at_dot (tile_ended p s) (s.position.dot + 1)
 moved-tile p s last =
-    let st : Stays s (tile_ended p s) = stays-tile_ended p s in
-    let at : (tile_ended p s).position.dot ≡ s.position.dot = ap (λ e. e.position.dot) st.same in
+    let at : (tile_ended p s).position.dot ≡ s.position.dot = tile_ended-dot p s in
     moved-along (tile_ended p s) (omega (arith, at, last)) ∙ ap (λ d. at_dot (tile_ended p s) (d + 1)) at
 
 -- one dot
-quiet-dot : (p : List ℕ) (s : Screen) → IsQuiet 1 s → dot_of p s ≡ at_dot (tile_ended p (with_shift s (s.shift * 2 % 65536))) (s.position.dot + 1)
+pub quiet-dot : (p : List ℕ) (s : Screen) → IsQuiet 1 s → dot_of p s ≡ at_dot (tile_ended p (with_shift s (s.shift * 2 % 65536))) (s.position.dot + 1)
 unfolding dot_of
 quiet-dot p s h =
     ap (λ e. moved (drawn p (flagged e))) (raised-far s h.far)
@@ -74,7 +76,7 @@ quiet-dot p s h =
     ∙ moved-tile p (with_shift s (s.shift * 2 % 65536)) (omega (arith, h.last))
 
 -- the shift register after a number of pixels
-pub shifted : ℕ → ℕ → ℕ
+unfoldable pub shifted : ℕ → ℕ → ℕ
 shifted zero shift = shift
 shifted (suc n) shift = shifted n shift * 2 % 65536
 
@@ -95,11 +97,11 @@ tile-inside p s q r at inside =
     if-false _ _ _ (ne_eqb _ _ whole) ∙ if-false _ _ _ (ne_eqb _ _ part)
 
 -- the picture after n pixels of a tile
-abbrev after_pixels : ℕ → Screen → Screen
+abbrev pub after_pixels : ℕ → Screen → Screen
 after_pixels n s = at_dot (with_shift s (shifted n s.shift)) (s.position.dot + n)
 
 -- the first of them, and the one after n, are quiet by themselves
-fewer-quiet : (n m : ℕ) (s : Screen) → m ≤ n → IsQuiet n s → IsQuiet m s
+pub fewer-quiet : (n m : ℕ) (s : Screen) → m ≤ n → IsQuiet n s → IsQuiet m s
 fewer-quiet n m s within h = record {
   line = h.line;
   from = h.from;
@@ -109,7 +111,7 @@ fewer-quiet n m s within h = record {
   misses = λ d from below. h.misses d from (omega (arith, below, within));
 }
 
-later-quiet : (n k m shift : ℕ) (s : Screen) → k + m ≤ n → IsQuiet n s → IsQuiet m (at_dot (with_shift s shift) (s.position.dot + k))
+pub later-quiet : (n k m shift : ℕ) (s : Screen) → k + m ≤ n → IsQuiet n s → IsQuiet m (at_dot (with_shift s shift) (s.position.dot + k))
 later-quiet n k m shift s within h = record {
   line = h.line;
   from = omega (arith, h.from);
@@ -144,11 +146,11 @@ line-ends : (p : List ℕ) (s : Screen) → s.position.dot ≡ 256 → tile_ende
 unfolding tile_ended
 line-ends p s last = if-true _ _ _ (eq-eqb _ _ last)
 
-finished-last : (e : Screen) → e.position.dot ≡ 257 → line_finished e ≡ record e { scroll = row_stepped e.scroll }
+pub finished-last : (e : Screen) → e.position.dot ≡ 257 → line_finished e ≡ record e { scroll = row_stepped e.scroll }
 unfolding line_finished
 finished-last e last = if-true _ _ _ (eq-eqb _ _ last)
 
-finished-inner : (e : Screen) → (e.position.dot ≡ 257 → ⊥) → line_finished e ≡ e
+pub finished-inner : (e : Screen) → (e.position.dot ≡ 257 → ⊥) → line_finished e ≡ e
 unfolding line_finished
 finished-inner e inner = if-false _ _ _ (ne_eqb _ _ inner)
 
@@ -252,7 +254,7 @@ jumped-none s =
     ap (at_dot s) d
     ∙ ap (λ (v : ℕ). at_dot (record s { scroll = (let c = s.scroll in record c { v = v }) }) (s.position.dot + 8 * 0)) (columns-none s.scroll.v)
 
-tiles-jump : (n : ℕ) (p : List ℕ) (s : Screen) → n ≤ 31 → tiles_run n p s ≡ with_shift (jumped n s) (tiles_run n p s).shift
+pub tiles-jump : (n : ℕ) (p : List ℕ) (s : Screen) → n ≤ 31 → tiles_run n p s ≡ with_shift (jumped n s) (tiles_run n p s).shift
 unfolding tiles_run
 tiles-jump zero p s within = jumped-none s
 tiles-jump (suc n) p s within =
@@ -288,7 +290,7 @@ pub tile-dot : (p : List ℕ) (s : Screen) → (tile_run p s).position.dot ≡ s
 unfolding tile_run
 tile-dot p s = refl
 
-tiles-step : (n : ℕ) (p : List ℕ) (s : Screen) (q : ℕ) → IsQuiet (8 * suc n) s → s.position.dot ≡ q * 8 + 1 → after_dots (8 * n) p s ≡ tiles_run n p s → after_dots (8 * suc n) p s ≡ line_finished (tiles_run (suc n) p s)
+pub tiles-step : (n : ℕ) (p : List ℕ) (s : Screen) (q : ℕ) → IsQuiet (8 * suc n) s → s.position.dot ≡ q * 8 + 1 → after_dots (8 * n) p s ≡ tiles_run n p s → after_dots (8 * suc n) p s ≡ line_finished (tiles_run (suc n) p s)
 unfolding tiles_run
 tiles-step n p s q h at before =
     let z : ℕ = (tiles_run n p s).shift in
@@ -301,7 +303,7 @@ tiles-step n p s q h at before =
     ∙ ap (λ (x : Screen). line_finished (tile_run p x)) (sym is)
 
 -- tiles of which the line's last is none
-tiles-inner : (n : ℕ) (p : List ℕ) (s : Screen) (q : ℕ) → IsQuiet (8 * n) s → s.position.dot ≡ q * 8 + 1 → s.position.dot + 8 * n < 257 → after_dots (8 * n) p s ≡ tiles_run n p s
+pub tiles-inner : (n : ℕ) (p : List ℕ) (s : Screen) (q : ℕ) → IsQuiet (8 * n) s → s.position.dot ≡ q * 8 + 1 → s.position.dot + 8 * n < 257 → after_dots (8 * n) p s ≡ tiles_run n p s
 unfolding tiles_run
 tiles-inner zero p s q h at inner = dots-zero (8 * zero) p s (omega arith)
 tiles-inner (suc n) p s q h at inner =

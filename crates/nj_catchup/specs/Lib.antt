@@ -7,3 +7,4 @@ pub mod Place
 pub mod Tiles
 pub mod Steady
 pub mod Limit
+pub mod Line

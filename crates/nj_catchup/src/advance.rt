@@ -4,8 +4,9 @@ ghost use Rattle.std.specs.Prelude.{◌≡◌, ◌≤◌, length};
 ghost use Rattle.nj_dots.specs.Screen.{IsScreen};
 ghost use Rattle.nj_dots.specs.Dots.{after_dots};
 
+use crate::ending::end_line;
 use crate::idle::idle_dots;
-use crate::visible::run_visible;
+use crate::line::run_pixels;
 use nj_dots::Screen;
 
 /// Runs the next dots.
@@ -23,6 +24,23 @@ pub fn advance(screen: &mut Screen, dots: u32, pattern: &[u8])
 
 // Runs some of the next dots as one, one dot at least.
 fn advance_some(screen: &mut Screen, left: u32, pattern: &[u8]) -> u32
+    requires fits { IsScreen screen.old }
+    requires pattern { length pattern.now ≡ 8192 }
+    requires left { 1 ≤ left }
+    ensures dots { screen.new ≡ after_dots result pattern.now screen.old }
+    ensures some { 1 ≤ result }
+    ensures within { result ≤ left }
+    ensures fits { IsScreen screen.new }
+{
+    let ending = end_line(screen, left);
+    if ending > 0 {
+        return ending;
+    }
+    run_idle(screen, left, pattern)
+}
+
+// The same where no line ends.
+fn run_idle(screen: &mut Screen, left: u32, pattern: &[u8]) -> u32
     requires fits { IsScreen screen.old }
     requires pattern { length pattern.now ≡ 8192 }
     requires left { 1 ≤ left }
@@ -55,7 +73,7 @@ fn run_shown(screen: &mut Screen, left: u32, pattern: &[u8]) -> u32
     ensures within { result ≤ left }
     ensures fits { IsScreen screen.new }
 {
-    let dots = run_visible(screen, left, pattern);
+    let dots = run_pixels(screen, left, pattern);
     if dots > 0 {
         dots
     } else {

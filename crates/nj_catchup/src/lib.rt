@@ -2,7 +2,9 @@
 #![tactic(auto)]
 
 mod advance;
+mod ending;
 mod idle;
+mod line;
 mod place;
 mod steady;
 mod visible;
@@ -20,7 +22,7 @@ use nj_dots::Screen;
 pub use nj_dots::{Picture, Position};
 
 /// A picture with dots pending: fewer than there are up to the next change of the vertical blank flag, and none once an
-/// end is marked.
+/// end is marked. That limit is kept, so that a run of a few dots is one comparison and one sum.
 #[derive(Drop)]
 pub struct CatchUp {
     screen: Screen,

@@ -9,8 +9,8 @@ ghost use Rattle.nj_catchup.specs.Tiles.{IsQuiet, columns_on, jumped, line_finis
 use nj_dots::Screen;
 use nj_sprite0::{SpriteRow, has_bit, opaque_row};
 
-/// Runs some of the next dots as one, where they are visible and none of their pixels can be a hit: how many, 0 where
-/// the next dot is another.
+/// Runs some of the next dots as one, where they are visible and none of their pixels can be a hit. Tells how many, 0
+/// where the next dot is another.
 pub fn run_visible(screen: &mut Screen, left: u32, pattern: &[u8]) -> u32
     requires pattern { length pattern.now ≡ 8192 }
     ensures dots { screen.new ≡ after_dots result pattern.now screen.old }
@@ -102,9 +102,9 @@ fn columns_on(tiles: u16, v: u16) -> u16
     }
 }
 
-// The eight dots of a tile.
+/// The eight dots of a tile.
 #[tactic(auto, unfolding(crate::specs::Tiles::tile_run, nj_dots::specs::Dots::prefetched))]
-fn run_tile(screen: &mut Screen, pattern: &[u8])
+pub fn run_tile(screen: &mut Screen, pattern: &[u8])
     requires dot { screen.old.position.dot ≤ 249 }
     requires pattern { length pattern.now ≡ 8192 }
     ensures { screen.new ≡ tile_run pattern.now screen.old }
@@ -146,9 +146,9 @@ fn fetch_place(control: u8, tile: u8, v: u16) -> u16
     table + u16::from(tile) * 16 + v / 4096 % 8
 }
 
-// After the line's last tile Y moves on.
+/// After the line's last tile Y moves on.
 #[tactic(auto, unfolding(crate::specs::Tiles::line_finished))]
-fn finish_line(screen: &mut Screen)
+pub fn finish_line(screen: &mut Screen)
     ensures { screen.new ≡ line_finished screen.old }
 {
     if screen.position.dot == 257 {
@@ -186,7 +186,7 @@ fn quiet_end(screen: &Screen, dot: u16) -> u16
     }
 }
 
-// Both layers are shown.
+/// Both layers are shown.
 #[tactic(auto, unfolding(nj_dots::specs::Screen::shows_both_layers))]
 pub fn shows_both_layers(mask: u8) -> bool
     ensures { result ≡ shows_both_layers mask }

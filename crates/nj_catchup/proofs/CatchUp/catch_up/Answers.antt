@@ -1,5 +1,5 @@
 -- None is pending then.
-use Rattle.std.proofs.Common.{◌≡◌, ◌≤◌, ◌-◌, refl, ap, sym, ◌∙◌, subst, arith}
+use Rattle.std.proofs.Common.{◌≤◌, ◌-◌, refl, ap, sym, ◌∙◌, arith}
 use Rattle.nj_dots.proofs.Events.{to_event-positive}
 use Rattle.nj_catchup.specs.Limit.{limit_of}
 use Rattle.nj_catchup.proofs.Limits.{within-limit, limit-after}

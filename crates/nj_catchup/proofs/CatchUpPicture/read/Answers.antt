@@ -1,5 +1,5 @@
 -- The pending dots run first, or the read and they change places.
-use Rattle.std.proofs.Common.{◌≡◌, ◌<◌, ap, sym, ◌∙◌, subst}
+use Rattle.std.proofs.Common.{◌<◌, ap, sym, ◌∙◌, subst}
 use Rattle.nj_dots.specs.Dots.{after_dots}
 use Rattle.nj_dots.specs.Registers.{after_read}
 use Rattle.nj_catchup.proofs.Sums.{dots-zero}

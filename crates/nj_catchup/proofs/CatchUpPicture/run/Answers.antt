@@ -1,6 +1,5 @@
 -- Dots that stay pending are counted; at an event the pending ones run first, and then the others.
-use Rattle.std.proofs.Common.{◌≡◌, ◌≤◌, ◌<◌, ◌+◌, ap, sym, ◌∙◌, arith}
-use Rattle.nj_dots.specs.Dots.{after_dots}
+use Rattle.std.proofs.Common.{◌≡◌, ◌≤◌, ◌<◌, ◌+◌, sym, ◌∙◌, arith}
 use Rattle.nj_catchup.specs.Limit.{limit_of}
 use Rattle.nj_catchup.proofs.Sums.{dots-sum, dots-zero}
 use Rattle.nj_catchup.proofs.Limits.{within-limit, Fit, fit-more}

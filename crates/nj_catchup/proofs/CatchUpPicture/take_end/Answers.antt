@@ -1,5 +1,5 @@
 -- Where dots are pending no end is marked.
-use Rattle.std.proofs.Common.{◌≡◌, sym, ap, ◌∙◌}
+use Rattle.std.proofs.Common.{sym, ap, ◌∙◌}
 use Rattle.nj_dots.specs.Dots.{after_dots}
 use Rattle.nj_catchup.proofs.Calm.{ended-after, unmarked-same}
 use Rattle.nj_catchup.proofs.Marks.{unmarked-after}

@@ -1,16 +1,24 @@
 -- Dots keep the ranges.
-use Rattle.std.proofs.Common.{◌≤◌, sym, ◌∙◌, subst, arith}
+use Rattle.std.proofs.Common.{◌≡◌, ap, sym, ◌∙◌, subst, arith}
 use Rattle.nj_dots.specs.Screen.{IsScreen}
+use Rattle.nj_dots.specs.Dots.{after_dots}
 use Rattle.nj_dots.proofs.Kept.{after_dots-fits}
+use Rattle.nj_catchup.proofs.Sums.{dots-zero}
 use Rattle.nj_catchup.proofs.advance.advance_some.Goals as goal
-use Rattle.nj_catchup.proofs.advance.advance_some.Goals.{then-from-left, else-from-left}
 
-pub returns-after-from-left-clause-fits : goal.returns-after-from-left-clause-fits
-returns-after-from-left-clause-fits c =
-    let s = c.args.screen.now in
-    let n = c.if-from-left.dots in
-    let within : n ≤ c.idle_dots-idle.result = elim c.if-from-left.branch [
-      | then-from-left w ↦ omega (arith, w.dots-is)
-      | else-from-left w ↦ omega (arith, w.dots-is, w.if-from-left, c.from.ensures)
-    ] in
-    subst IsScreen (c.idle_dots-idle.ensures.idle c.args.pattern.now n within) (after_dots-fits n c.args.pattern.now s c.requires.fits)
+pub returns-then-ending-gt0-clause-fits : goal.returns-then-ending-gt0-clause-fits
+returns-then-ending-gt0-clause-fits c =
+    let p = c.args.pattern.now in
+    subst IsScreen (sym (c.end_line-ending.ensures.dots p)) (after_dots-fits c.end_line-ending.result p c.args.screen.now c.requires.fits)
+
+pub run_idle-requires-clause-fits : goal.run_idle-requires-clause-fits
+run_idle-requires-clause-fits c =
+    let p = c.args.pattern.now in
+    subst IsScreen (sym (c.end_line-ending.ensures.dots p)) (after_dots-fits c.end_line-ending.result p c.args.screen.now c.requires.fits)
+
+pub returns-clause-dots : goal.returns-clause-dots
+returns-clause-dots c =
+    let p = c.args.pattern.now in
+    let none : c.end_line-ending.result ≡ 0 = omega (arith, c.if-ending-gt0.false) in
+    c.run_idle.ensures.dots
+    ∙ ap (after_dots c.run_idle.result p) (c.end_line-ending.ensures.dots p ∙ dots-zero c.end_line-ending.result p c.args.screen.now none)

@@ -1,6 +1,5 @@
 -- Beside the row, and not at dot 257.
 use Rattle.std.proofs.Common.{◌≡◌, ◌≤◌, ◌<◌, ◌+◌, ◌-◌, ℕ, false, ◌⊎◌, arith, rules, inl, inr}
-use Rattle.std.proofs.lemmas.Bool.{cases_lt}
 use Rattle.std.proofs.lemmas.Bool.Decides.{nat_tests}
 use Rattle.nj_sprite0.specs.declared.row.SpriteRow.{SpriteRow}
 use Rattle.nj_sprite0.specs.Sprite.{is_opaque_at}

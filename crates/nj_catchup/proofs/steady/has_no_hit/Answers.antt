@@ -1,5 +1,5 @@
 -- Each of the three tests by itself.
-use Rattle.std.proofs.Common.{◌≡◌, true, sym, ◌∙◌, subst, arith}
+use Rattle.std.proofs.Common.{◌≡◌, true, sym, ◌∙◌, arith}
 use Rattle.std.proofs.lemmas.Bool.Decides.{nat_tests}
 use Rattle.nj_catchup.proofs.Ahead.{to_event-small}
 use Rattle.nj_catchup.proofs.Misses.{layers-miss, below-miss, row-miss}

@@ -1,6 +1,5 @@
 -- The hit flag is up, or no pending dot is a hit.
-use Rattle.std.proofs.Common.{◌≡◌, ◌<◌, ◌+◌, sym, ◌∙◌, subst, arith}
-use Rattle.nj_dots.specs.Dots.{to_event}
+use Rattle.std.proofs.Common.{sym, ◌∙◌, arith}
 use Rattle.nj_catchup.proofs.Ahead.{to_event-small}
 use Rattle.nj_catchup.proofs.Status.{hit-after}
 use Rattle.nj_catchup.proofs.Misses.{hit-missed}

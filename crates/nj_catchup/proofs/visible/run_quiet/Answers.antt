@@ -1,5 +1,5 @@
 -- No dot at all.
-use Rattle.std.proofs.Common.{◌≡◌, ap, sym, ◌∙◌, arith}
+use Rattle.std.proofs.Common.{sym}
 use Rattle.nj_catchup.proofs.Sums.{dots-none}
 use Rattle.nj_catchup.proofs.visible.run_quiet.Goals as goal
 

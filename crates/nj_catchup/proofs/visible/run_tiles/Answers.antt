@@ -1,7 +1,6 @@
 -- All but the last two tiles are passed over.
 use Rattle.std.proofs.Common.{◌≡◌, suc, ◌+◌, ◌-◌, ◌*◌, ap, sym, ◌∙◌, arith}
-use Rattle.nj_dots.specs.declared.screen.Screen.{Screen}
-use Rattle.nj_catchup.specs.Tiles.{jumped, tile_run, line_finished}
+use Rattle.nj_catchup.specs.Tiles.{tile_run, line_finished}
 use Rattle.nj_catchup.proofs.Tiles.{tiles, jumped-dot, tile-dot}
 use Rattle.nj_catchup.proofs.visible.run_tiles.Goals as goal
 
