@@ -249,7 +249,8 @@ impl<P: Picture + Drop> Console<P> {
         ensures cartridge { rom_of self.new ≡ rom_of self.old }
     {
         let bytes = rest_part(image);
-        self.cells.picture.settle(self.cells.board.pattern());
+        let pattern = self.cells.board.pattern();
+        self.cells.picture.settle(pattern);
         self.cells.picture.get(image);
         self.cells.ram.copy_from_slice(ram_part(image));
         take_pattern(&mut self.cells.board, image);

@@ -59,11 +59,7 @@ fn parts<P: Picture + Drop>(alloc: Global, code: &[u8]) -> Result<(Cpu, Cells<P>
     Ok((cpu, cells))
 }
 
-fn played<P: Picture + Drop, L: Ledger>(
-    blank: Blank,
-    machine: &mut Console<P>,
-    pads: &[u8],
-) -> u64
+fn played<P: Picture + Drop, L: Ledger>(blank: Blank, machine: &mut Console<P>, pads: &[u8]) -> u64
     requires { blank.name ≡ L.name }
     ensures { rom_of machine.new ≡ rom_of machine.old }
 {
@@ -103,7 +99,10 @@ fn frames_of_programs(rt: HostRuntime) -> Result<(), Fail> {
     assert_eq!(rt; of_programs::<CatchUp>(rt.alloc())?, [0x61, 0xEB, 1, 0]);
     assert_eq!(rt; of_programs::<DotPicture>(rt.alloc())?, [0x61, 0xEB, 1, 0]);
     let mut jams = machine::<CatchUp>(rt.alloc(), &[0x02], 0x00)?;
-    assert_eq!(rt; played::<CatchUp, Brand>(Blank::new(1), &mut jams, &[0, 0, 0]), 3);
+    assert_eq!(rt;
+        played::<CatchUp, Brand>(Blank::new(1), &mut jams, &[0, 0, 0]),
+        3
+    );
     assert!(rt; jams.jammed());
     Ok(())
 }
@@ -130,7 +129,10 @@ fn a_walk_with_interrupts(rt: HostRuntime) -> Result<(), Fail> {
         };
         assert_eq!(rt; *byte, want);
     }
-    assert_eq!(rt; walked::<DotPicture>(rt.alloc())?.as_slice(), memory.as_slice());
+    assert_eq!(rt;
+        walked::<DotPicture>(rt.alloc())?.as_slice(),
+        memory.as_slice()
+    );
     Ok(())
 }
 

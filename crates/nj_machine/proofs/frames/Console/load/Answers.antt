@@ -16,7 +16,7 @@ get-requires-clause-long g c = omega (arith, c.requires.sized, image-long (rom_o
 
 pub get-requires-clause-stored : goal.get-requires-clause-stored
 get-requires-clause-stored g c =
-    let settled = c.settle.ensures.same [] ∙ ap (λ q. g.P.Picture.meaning c.self.inside.cells.picture q) c.pattern.ensures.bytes in
+    let settled = c.settle.ensures.same [] ∙ ap (λ q. g.P.Picture.meaning c.self.inside.cells.picture q) c.pattern-pattern.ensures.bytes in
     let mirroring = ap (λ x. x.vram.vertical) settled ∙ ap (λ s. s.cells.screen.vram.vertical) c.self.view_is in (
       [],
       (
@@ -36,7 +36,7 @@ take_pattern-requires g c is_ram =
 pub returns-clause-state : goal.returns-clause-state
 returns-clause-state g c =
     let p = c.take_pattern.new.board.chr in
-    let settled = c.settle.ensures.same p ∙ ap (λ q. g.P.Picture.meaning c.self.inside.cells.picture q) c.pattern.ensures.bytes in
+    let settled = c.settle.ensures.same p ∙ ap (λ q. g.P.Picture.meaning c.self.inside.cells.picture q) c.pattern-pattern.ensures.bytes in
     let mirroring = ap (λ x. x.vram.vertical) settled ∙ ap (λ s. s.cells.screen.vram.vertical) c.self.view_is in
     load_chain c.args.self.now c.args.image.now _ _ _ _ _ _ _ _ _ (record {
       rest_is = c.rest_part-bytes.ensures.part;
