@@ -19,7 +19,7 @@ fn look<B: Bus>(cpu: &mut Cpu, rises: &mut Rises, bus: &B)
 }
 
 /// One cycle that reads.
-#[inline]
+#[inline(always)]
 pub(crate) fn read<B: Bus>(cpu: &mut Cpu, rises: &mut Rises, bus: &mut B, at: u16) -> u8
     ensures byte { result ≡ B.acts.byte (B.held bus.old) at }
     ensures held { B.held bus.new ≡ B.acts.after_read (B.held bus.old) at }
@@ -32,7 +32,7 @@ pub(crate) fn read<B: Bus>(cpu: &mut Cpu, rises: &mut Rises, bus: &mut B, at: u1
 }
 
 /// One cycle that writes.
-#[inline]
+#[inline(always)]
 pub(crate) fn write<B: Bus>(cpu: &mut Cpu, rises: &mut Rises, bus: &mut B, at: u16, value: u8)
     ensures held { B.held bus.new ≡ B.acts.after_write (B.held bus.old) at value }
     ensures cpu { cpu.new ≡ record cpu.old { line = B.acts.line (B.held bus.new) } }
@@ -43,7 +43,7 @@ pub(crate) fn write<B: Bus>(cpu: &mut Cpu, rises: &mut Rises, bus: &mut B, at: u
 }
 
 /// Reads at PC and lets the byte go.
-#[inline]
+#[inline(always)]
 pub(crate) fn idle<B: Bus>(cpu: &mut Cpu, rises: &mut Rises, bus: &mut B)
     ensures held { B.held bus.new ≡ B.acts.after_read (B.held bus.old) cpu.old.pc }
     ensures cpu { cpu.new ≡ record cpu.old { line = B.acts.line (B.held bus.new) } }
@@ -53,7 +53,7 @@ pub(crate) fn idle<B: Bus>(cpu: &mut Cpu, rises: &mut Rises, bus: &mut B)
 }
 
 /// Reads the next byte of the instruction.
-#[inline]
+#[inline(always)]
 pub(crate) fn fetch<B: Bus>(cpu: &mut Cpu, rises: &mut Rises, bus: &mut B) -> u8
     ensures byte { result ≡ B.acts.byte (B.held bus.old) cpu.old.pc }
     ensures held { B.held bus.new ≡ B.acts.after_read (B.held bus.old) cpu.old.pc }

@@ -91,7 +91,7 @@ impl<P: Picture + Drop> Bus for Cells<P> {
 
     ghost acts = { wires };
 
-    #[inline]
+    #[inline(always)]
     #[tactic(auto, unfolding(crate::specs::Wires::byte_read, crate::specs::Wires::after_read, crate::specs::Wires::dots_run, crate::specs::Wires::answer, crate::specs::Wires::answered, crate::specs::Wires::over))]
     fn read(&mut self, at: u16) -> u8 {
         self.picture.run(3, self.board.pattern());
@@ -107,7 +107,7 @@ impl<P: Picture + Drop> Bus for Cells<P> {
         byte
     }
 
-    #[inline]
+    #[inline(always)]
     #[tactic(auto, unfolding(crate::specs::Wires::after_write, crate::specs::Wires::dots_run, crate::specs::Wires::written, crate::specs::Wires::ram_put, crate::specs::Wires::over))]
     fn write(&mut self, at: u16, value: u8) {
         self.picture.run(3, self.board.pattern());
