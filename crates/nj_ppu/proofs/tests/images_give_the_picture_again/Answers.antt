@@ -1,5 +1,5 @@
 -- The image holds the picture that wrote it, and neither dots nor reads change the mirroring.
-use Rattle.std.proofs.Common.{◌≡◌, ℕ, ◌≤◌, List, ap, subst, sym, ◌∙◌, [], length, replicate, arith, false}
+use Rattle.std.proofs.Common.{◌≡◌, ℕ, ◌≤◌, List, ap, refl, subst, sym, ◌∙◌, [], length, replicate, arith, false}
 use Rattle.std.proofs.Math.ListN.{length-replicate}
 use Rattle.nj_dots.specs.declared.screen.Screen.{Screen}
 use Rattle.nj_dots.specs.Screen.{IsScreen}
@@ -25,5 +25,5 @@ pub get-requires-clause-stored : goal.get-requires-clause-stored
 get-requires-clause-stored g c = (
   [],
   stored_further c.take_end.new.self.screen c.run-2.new.self.screen c.read-status.new.self.screen _ c.put.new.image 70000 2
-      c.take_end.new.self.fits (ap (λ (s : Screen). s.ended) (c.take_end.ensures.taken [])) (c.put.ensures []) c.run-2.ensures (c.read-status.ensures.after []),
+      c.take_end.new.self.fits (ap (λ (s : Screen). s.ended) (c.take_end.ensures.taken [])) (c.put.ensures []) c.run-2.ensures (c.read-status.ensures.after _ (λ _. refl)),
 )
