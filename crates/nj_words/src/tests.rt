@@ -29,7 +29,7 @@ fn expect_play(
             assert_eq!(rt; cart.as_str(), names.0, "in {line:?}");
             assert_eq!(rt; movie.as_str(), names.1, "in {line:?}");
         }
-        _ => assert!(rt; false, "another command in {line:?}"),
+        _other => assert!(rt; false, "another command in {line:?}"),
     }
     Ok(())
 }
@@ -61,7 +61,7 @@ fn names_of_replay(rt: HostRuntime) -> Result<(), Fail> {
             assert_eq!(rt; start.as_str(), "-");
             assert_eq!(rt; movie.as_str(), "M");
         }
-        _ => assert!(rt; false, "another command"),
+        _other => assert!(rt; false, "another command"),
     }
     Ok(())
 }
@@ -82,7 +82,7 @@ fn options_of_search(rt: HostRuntime) -> Result<(), Fail> {
             assert_eq!(rt; options.steps, 5);
             assert_eq!(rt; options.exponent, 10);
         }
-        _ => assert!(rt; false, "another command"),
+        _other => assert!(rt; false, "another command"),
     }
     Ok(())
 }
@@ -94,15 +94,15 @@ fn names_of_the_others(rt: HostRuntime) -> Result<(), Fail> {
             assert_eq!(rt; cart.as_str(), "W");
             assert_eq!(rt; script.as_str(), "S");
         }
-        _ => assert!(rt; false, "another command"),
+        _other => assert!(rt; false, "another command"),
     }
     match read_line(rt.alloc(), "workload 18446744073709551615")? {
         Command::Workload { number } => assert_eq!(rt; number, 18_446_744_073_709_551_615),
-        _ => assert!(rt; false, "another command"),
+        _other => assert!(rt; false, "another command"),
     }
     match read_line(rt.alloc(), "asm -")? {
         Command::Asm { source } => assert_eq!(rt; source.as_str(), "-"),
-        _ => assert!(rt; false, "another command"),
+        _other => assert!(rt; false, "another command"),
     }
     Ok(())
 }
