@@ -13,6 +13,8 @@ mod playing;
 mod refusals;
 mod replaying;
 mod running;
+#[cfg(test)]
+mod search_tests;
 mod searching;
 mod stops;
 #[cfg(test)]

@@ -111,7 +111,7 @@ fn run<L: Ledger>(
 }
 
 // The status, `out` and `err`, where the calls of these numbers of the shelf, of `out` and of `err` fail.
-fn outcome(
+pub fn outcome(
     alloc: Global,
     line: &str,
     movie: &str,
