@@ -240,6 +240,18 @@ fn plays_and_refuses(rt: HostRuntime) -> Result<(), Fail> {
             "nj: script 3 UnknownKey key=??\n",
         ),
         ("replay walk goal start", "", 3, "", "nj: usage\n"),
+    ] {
+        let (answered, wrote, told) = outcome(rt.alloc(), line, movie, (&[], &[], &[]))?;
+        assert_eq!(rt; answered, status, "{line}");
+        assert_eq!(rt; wrote.bytes(), out.as_bytes(), "{line}");
+        assert_eq!(rt; told.bytes(), err.as_bytes(), "{line}");
+    }
+    Ok(())
+}
+
+#[test]
+fn checks(rt: HostRuntime) -> Result<(), Fail> {
+    for (line, movie, status, out, err) in [
         ("check walk goal", "", 0, CHECKED, ""),
         ("check disk goal", "", 0, CHECKED, ""),
         ("check pal goal", "", 4, "", "nj: cartridge 7 Timing n=1\n"),
@@ -254,6 +266,18 @@ fn plays_and_refuses(rt: HostRuntime) -> Result<(), Fail> {
         ),
         ("check long goal", "", 0, CHECKED, ""),
         ("check walk movie", "", 5, "", "nj: script 1 NotJson\n"),
+    ] {
+        let (answered, wrote, told) = outcome(rt.alloc(), line, movie, (&[], &[], &[]))?;
+        assert_eq!(rt; answered, status, "{line}");
+        assert_eq!(rt; wrote.bytes(), out.as_bytes(), "{line}");
+        assert_eq!(rt; told.bytes(), err.as_bytes(), "{line}");
+    }
+    Ok(())
+}
+
+#[test]
+fn refuses_plans(rt: HostRuntime) -> Result<(), Fail> {
+    for (line, movie, status, out, err) in [
         (
             "search walk goal start --budget 8991",
             "",
@@ -284,6 +308,18 @@ fn plays_and_refuses(rt: HostRuntime) -> Result<(), Fail> {
         ),
         ("search walk goal start --steps=0", "", 3, "", "nj: usage\n"),
         ("search walk none start", "", 7, "", "nj: read fault\n"),
+    ] {
+        let (answered, wrote, told) = outcome(rt.alloc(), line, movie, (&[], &[], &[]))?;
+        assert_eq!(rt; answered, status, "{line}");
+        assert_eq!(rt; wrote.bytes(), out.as_bytes(), "{line}");
+        assert_eq!(rt; told.bytes(), err.as_bytes(), "{line}");
+    }
+    Ok(())
+}
+
+#[test]
+fn assembles(rt: HostRuntime) -> Result<(), Fail> {
+    for (line, movie, status, out, err) in [
         ("asm movie", "", 0, "", ""),
         (
             "asm movie",
