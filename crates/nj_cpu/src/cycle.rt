@@ -7,12 +7,24 @@ use crate::state::{Cpu, Rises};
 use nj_isa::Bus;
 
 /// Looks at the NMI line after an access.
-#[inline]
+#[inline(always)]
 fn look<B: Bus>(cpu: &mut Cpu, rises: &mut Rises, bus: &B)
     ensures cpu { cpu.new ≡ record cpu.old { line = B.acts.line (B.held bus.now) } }
     ensures rises { rises.new ≡ risen cpu.old.line (B.acts.line (B.held bus.now)) rises.old }
 {
     let level = bus.nmi_line();
+    if level != cpu.line || rises.last {
+        note_change(cpu, rises, level);
+    }
+}
+
+// The same where the line has changed, or rose in the cycle before.
+#[cold]
+#[inline(never)]
+fn note_change(cpu: &mut Cpu, rises: &mut Rises, level: bool)
+    ensures cpu { cpu.new ≡ record cpu.old { line = level } }
+    ensures rises { rises.new ≡ risen cpu.old.line level rises.old }
+{
     rises.before = rises.before || rises.last;
     rises.last = level && !cpu.line;
     cpu.line = level;
