@@ -2,11 +2,12 @@
 
 ghost use Rattle.std.specs.Prelude.{◌≡◌, ◌+◌, ◌*◌};
 ghost use Rattle.nj_alu.specs.Bits.{is_negative};
-ghost use Rattle.nj_cpu.specs.Effects.{stored_by, changed_by, carry_by, is_taken, with_result, in_a, in_x, in_y, with_sum, compared, with_changed, a_changed, shifted, tested, done};
+ghost use Rattle.nj_isa.specs.declared.operations.Op.TheVariants.{Asl as AslOp, Lsr as LsrOp, Rol as RolOp, Ror as RorOp, Inc as IncOp, Dec as DecOp};
+ghost use Rattle.nj_cpu.specs.Effects.{stored_by, changed_by, is_taken, with_result, in_a, in_x, in_y, with_sum, compared, with_changed, shifted, tested, done};
 ghost use Rattle.nj_cpu.specs.Walk.{word, index_of, target_of};
 
 use crate::state::Cpu;
-use nj_alu::{Flags, Flags3, Sum, adc, asl, compare, lsr, rol, ror, sbc};
+use nj_alu::{Flags, Flags3, Shifted, Sum, adc, asl, compare, lsr, rol, ror, sbc};
 use nj_isa::{Index, Mode, Op};
 
 /// The word of two bytes.
@@ -68,21 +69,6 @@ pub(crate) fn changed(op: Op, carry: bool, value: u8) -> u8
         Op::Inc => value.wrapping_add(1),
         Op::Dec => value.wrapping_sub(1),
         _ => value,
-    }
-}
-
-/// The carry after it.
-#[tactic(auto, unfolding(crate::specs::Effects::carry_by))]
-#[inline(always)]
-fn carry_out(op: Op, carry: bool, value: u8) -> bool
-    ensures { result ≡ carry_by op carry value }
-{
-    match op {
-        Op::Asl => asl(value).carry,
-        Op::Lsr => lsr(value).carry,
-        Op::Rol => rol(value, carry).carry,
-        Op::Ror => ror(value, carry).carry,
-        _ => carry,
     }
 }
 
@@ -155,32 +141,88 @@ fn set_comparison(cpu: &mut Cpu, comparison: Flags3)
     cpu.flags.n = comparison.negative;
 }
 
-#[inline]
-fn set_changed(cpu: &mut Cpu, op: Op, value: u8)
-    ensures { cpu.new ≡ with_changed op value cpu.old }
+// The flags of a byte that a shift made.
+#[inline(always)]
+fn set_shifted(cpu: &mut Cpu, made: Shifted)
+    ensures { cpu.new ≡ record cpu.old { flags = record (with_result made.value cpu.old.flags) { c = made.carry } } }
 {
-    let carry = cpu.flags.c;
-    set_result(&mut cpu.flags, changed(op, carry, value));
-    cpu.flags.c = carry_out(op, carry, value);
+    set_result(&mut cpu.flags, made.value);
+    cpu.flags.c = made.carry;
 }
 
-#[inline]
-fn change_a(cpu: &mut Cpu, op: Op)
-    ensures { cpu.new ≡ a_changed op cpu.old }
+// The same, and the byte is A.
+#[inline(always)]
+fn put_in_a(cpu: &mut Cpu, made: Shifted)
+    ensures { cpu.new ≡ record cpu.old { flags = record (with_result made.value cpu.old.flags) { c = made.carry }; a = made.value } }
 {
-    let value = changed(op, cpu.flags.c, cpu.a);
-    set_changed(cpu, op, cpu.a);
-    cpu.a = value;
+    set_shifted(cpu, made);
+    cpu.a = made.value;
 }
 
-#[inline]
-fn shift(cpu: &mut Cpu, op: Op, mode: Mode, value: u8)
-    ensures { cpu.new ≡ shifted op mode value cpu.old }
+/// ASL, of A or of a byte in memory.
+#[tactic(auto, unfolding(crate::specs::Effects::changed_by, crate::specs::Effects::carry_by))]
+#[inline(always)]
+fn shift_left(cpu: &mut Cpu, mode: Mode, value: u8)
+    ensures { cpu.new ≡ shifted AslOp mode value cpu.old }
 {
     match mode {
-        Mode::Accumulator => change_a(cpu, op),
-        _ => set_changed(cpu, op, value),
+        Mode::Accumulator => put_in_a(cpu, asl(cpu.a)),
+        _ => set_shifted(cpu, asl(value)),
     }
+}
+
+/// LSR.
+#[tactic(auto, unfolding(crate::specs::Effects::changed_by, crate::specs::Effects::carry_by))]
+#[inline(always)]
+fn shift_right(cpu: &mut Cpu, mode: Mode, value: u8)
+    ensures { cpu.new ≡ shifted LsrOp mode value cpu.old }
+{
+    match mode {
+        Mode::Accumulator => put_in_a(cpu, lsr(cpu.a)),
+        _ => set_shifted(cpu, lsr(value)),
+    }
+}
+
+/// ROL.
+#[tactic(auto, unfolding(crate::specs::Effects::changed_by, crate::specs::Effects::carry_by))]
+#[inline(always)]
+fn rotate_left(cpu: &mut Cpu, mode: Mode, value: u8)
+    ensures { cpu.new ≡ shifted RolOp mode value cpu.old }
+{
+    match mode {
+        Mode::Accumulator => put_in_a(cpu, rol(cpu.a, cpu.flags.c)),
+        _ => set_shifted(cpu, rol(value, cpu.flags.c)),
+    }
+}
+
+/// ROR.
+#[tactic(auto, unfolding(crate::specs::Effects::changed_by, crate::specs::Effects::carry_by))]
+#[inline(always)]
+fn rotate_right(cpu: &mut Cpu, mode: Mode, value: u8)
+    ensures { cpu.new ≡ shifted RorOp mode value cpu.old }
+{
+    match mode {
+        Mode::Accumulator => put_in_a(cpu, ror(cpu.a, cpu.flags.c)),
+        _ => set_shifted(cpu, ror(value, cpu.flags.c)),
+    }
+}
+
+/// INC: the flags of the byte after it.
+#[tactic(auto, unfolding(crate::specs::Effects::changed_by, crate::specs::Effects::carry_by))]
+#[inline(always)]
+fn count_up(cpu: &mut Cpu, value: u8)
+    ensures { cpu.new ≡ with_changed IncOp value cpu.old }
+{
+    set_result(&mut cpu.flags, value.wrapping_add(1));
+}
+
+/// DEC: the flags of the byte after it.
+#[tactic(auto, unfolding(crate::specs::Effects::changed_by, crate::specs::Effects::carry_by))]
+#[inline(always)]
+fn count_down(cpu: &mut Cpu, value: u8)
+    ensures { cpu.new ≡ with_changed DecOp value cpu.old }
+{
+    set_result(&mut cpu.flags, value.wrapping_sub(1));
 }
 
 #[inline]
@@ -221,8 +263,12 @@ pub(crate) fn finish(cpu: &mut Cpu, op: Op, mode: Mode, value: u8)
         Op::Cpx => set_comparison(cpu, compare(cpu.x, value)),
         Op::Cpy => set_comparison(cpu, compare(cpu.y, value)),
         Op::Bit => test_bits(cpu, value),
-        Op::Asl | Op::Lsr | Op::Rol | Op::Ror => shift(cpu, op, mode, value),
-        Op::Inc | Op::Dec => set_changed(cpu, op, value),
+        Op::Asl => shift_left(cpu, mode, value),
+        Op::Lsr => shift_right(cpu, mode, value),
+        Op::Rol => rotate_left(cpu, mode, value),
+        Op::Ror => rotate_right(cpu, mode, value),
+        Op::Inc => count_up(cpu, value),
+        Op::Dec => count_down(cpu, value),
         Op::Clc => cpu.flags.c = false,
         Op::Sec => cpu.flags.c = true,
         Op::Cli => cpu.flags.i = false,

@@ -141,7 +141,7 @@ fn write_indexed<B: Bus>(
 }
 
 /// Reads a byte, writes it back, and writes what the operation makes of it. Answers the byte read.
-#[inline]
+#[inline(always)]
 fn change_at<B: Bus>(cpu: &mut Cpu, rises: &mut Rises, bus: &mut B, op: Op, at: u16) -> u8
     ensures ends { EndsAs (walk B.acts op (end_on (At at) ModifyKind) (begun cpu.old (B.held bus.old) rises.old)) cpu.new (B.held bus.new) rises.new }
     ensures byte { result ≡ (walk B.acts op (end_on (At at) ModifyKind) (begun cpu.old (B.held bus.old) rises.old)).data_ }

@@ -106,9 +106,21 @@ fn run_active<B: Bus>(cpu: &mut Cpu, rises: &mut Rises, bus: &mut B)
     }
 }
 
+/// Sets the note at a unit's end. Where the line did not rise and the note was not Late, it stays as it is.
+#[tactic(auto, unfolding(crate::specs::Unit::note_after))]
+#[inline(always)]
+fn set_note(cpu: &mut Cpu, began: Note, rises: Rises)
+    ensures { cpu.new ≡ record cpu.old { note = note_after began cpu.old.note rises } }
+{
+    if rises.before || rises.last || began == Note::Late {
+        cpu.note = next_note(began, cpu.note, rises);
+    }
+}
+
 /// The note at a unit's end.
 #[tactic(auto, unfolding(crate::specs::Unit::note_after))]
-#[inline]
+#[cold]
+#[inline(never)]
 fn next_note(began: Note, now: Note, rises: Rises) -> Note
     ensures { result ≡ note_after began now rises }
 {
@@ -138,7 +150,7 @@ pub fn unit<B: Bus>(cpu: &mut Cpu, bus: &mut B) -> UnitEnd
         last: false,
     };
     run_active(cpu, &mut rises, bus);
-    cpu.note = next_note(began, cpu.note, rises);
+    set_note(cpu, began, rises);
     end_now(cpu)
 }
 

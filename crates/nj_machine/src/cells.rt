@@ -128,7 +128,11 @@ impl<P: Picture + Drop> Bus for Cells<P> {
     #[inline]
     #[tactic(auto, unfolding(crate::specs::Wires::page_taken))]
     fn take_dma(&mut self) -> Option<u8> {
-        self.page.take()
+        if self.page.is_some() {
+            self.page.take()
+        } else {
+            None
+        }
     }
 
     #[inline]

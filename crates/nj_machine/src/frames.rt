@@ -128,7 +128,7 @@ impl<P: Picture + Drop> Console<P> {
     }
 
     /// One unit of the processor in a frame with this pad, and how it ended the frame, if it did.
-    #[inline]
+    #[inline(always)]
     #[tactic(auto, unfolding(crate::specs::Frame::unit_step))]
     fn unit_step(&mut self, pad: Pad) -> Option<FrameEnd>
         ensures step { unit_step pad self.old ≡ (self.new, result) }
