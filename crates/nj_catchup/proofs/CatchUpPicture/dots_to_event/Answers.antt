@@ -9,5 +9,5 @@ pub returns : goal.returns
 returns c = λ p.
     let s = c.args.self.now in
     let left : to_event (after_dots (pending_of s.lull) p s.screen) + pending_of s.lull ≡ to_event s.screen =
-        to_event-after (pending_of s.lull) p s.screen s.fits s.lulls.before_event in
+    to_event-after (pending_of s.lull) p s.screen s.fits s.lulls.before_event in
     omega (arith, left, c.dots_to_event.ensures, c.pending.ensures)
