@@ -1,6 +1,6 @@
 //! The NROM board.
 
-ghost use Rattle.std.specs.Prelude.{◌≡◌, ℕ, ◌+◌, ◌<◌, ◌≤◌, length, Bool, true};
+ghost use Rattle.std.specs.Prelude.{◌≡◌, ℕ, ◌+◌, ◌-◌, ◌%◌, ◌<◌, ◌≤◌, length, Bool, true};
 ghost use Rattle.nj_board.specs.Nrom.{Memory, IsProgram, nrom, byte_at};
 
 use crate::boards::Board;
@@ -43,6 +43,16 @@ impl Nrom {
         self.chr_ram
     }
 
+    // Where program memory has the byte of an address from $8000 on: the length is a power of two, so a mask leaves the
+    // rest of the division by it.
+    #[inline(always)]
+    fn place(&self, at: u16) -> usize
+        requires { 0x8000 ≤ at }
+        ensures { result ≡ (at - 0x8000) % length self.now.prg }
+    {
+        at as usize & (self.prg.len() - 1)
+    }
+
     /// Replaces all of pattern memory, which is RAM.
     pub fn load_pattern(&mut self, bytes: &[u8])
         requires ram { self.old.chr_ram ≡ true }
@@ -60,16 +70,11 @@ impl Board for Nrom {
 
     ghost acts = { nrom };
 
-    #[inline]
+    #[inline(always)]
     #[tactic(auto, unfolding(crate::specs::Nrom::byte_at))]
     fn cpu_read(&self, at: u16) -> Option<u8> {
         if at >= 0x8000 {
-            let place = (at - 0x8000) as usize;
-            Some(if self.prg.len() == 0x4000 {
-                self.prg[place % 0x4000]
-            } else {
-                self.prg[place]
-            })
+            Some(self.prg[self.place(at)])
         } else {
             None
         }
@@ -78,7 +83,7 @@ impl Board for Nrom {
     #[inline]
     fn cpu_write(&mut self, _at: u16, _value: u8) {}
 
-    #[inline]
+    #[inline(always)]
     fn pattern(&self) -> &[u8] {
         self.chr.as_slice()
     }

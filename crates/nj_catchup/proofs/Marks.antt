@@ -1,25 +1,13 @@
 -- Taking the mark of an end, before or after dots.
-use Rattle.std.proofs.Common.{◌≡◌, ℕ, ◌<◌, true, false, List, ap, sym, ◌∙◌, subst, inl, inr}
-use Rattle.std.proofs.lemmas.Bool.{cases_Bool, true≢false}
+use Rattle.std.proofs.Common.{◌≡◌, ℕ, ◌<◌, true, false, List, ap, sym, ◌∙◌, inl, inr}
+use Rattle.std.proofs.lemmas.Bool.{cases_Bool}
 use Rattle.nj_dots.specs.declared.screen.Screen.{Screen}
 use Rattle.nj_dots.specs.Screen.{IsScreen}
 use Rattle.nj_dots.specs.Dots.{after_dots, to_event}
 use Rattle.nj_catchup.proofs.Sums.{dots-none}
 use Rattle.nj_catchup.proofs.Calm.{ended-after, unmarked-same}
 
--- a picture whose mark is taken may have the same dots pending
-pub record TakesMark (k : ℕ) (e : Screen) : Type 0 where
-  pub before_event : k < to_event e
-  pub unmarked : e.ended ≡ true → k ≡ 0
-
-pub takes-mark : (k : ℕ) (s e : Screen) → k < to_event s → e ≡ record s { ended = false } → TakesMark k e
-unfolding to_event
-takes-mark k s e below taken = record {
-  before_event = subst (λ (x : Screen). k < to_event x) (sym taken) below;
-  unmarked = λ marked. absurd (true≢false (sym marked ∙ ap (λ x. x.ended) taken));
-}
-
--- taking it commutes with dots, since none are pending where it is set
+-- it commutes with dots, since none are pending where it is set
 pub unmarked-after : (k : ℕ) (p : List ℕ) (s e : Screen) → IsScreen s → k < to_event s → (s.ended ≡ true → k ≡ 0) → e ≡ record s { ended = false } → after_dots k p e ≡ record (after_dots k p s) { ended = false }
 unmarked-after k p s e fits below none taken = elim (cases_Bool s.ended) [
   | inl marked ↦ (

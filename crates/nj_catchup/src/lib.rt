@@ -5,33 +5,34 @@ mod advance;
 mod ending;
 mod idle;
 mod line;
+mod lull;
 mod place;
 mod steady;
 mod visible;
 
 ghost use Rattle.std.specs.Prelude.{◌≡◌, ◌<◌, ℕ, List, true, false, length};
-ghost use Rattle.nj_dots.specs.Screen.{IsPlaced, IsScreen, power_on};
-ghost use Rattle.nj_dots.specs.Dots.{after_dots, to_event};
-ghost use Rattle.nj_catchup.specs.Limit.{limit_of};
+ghost use Rattle.nj_dots.specs.Screen.{IsScreen, power_on};
+ghost use Rattle.nj_dots.specs.Dots.{after_dots};
+ghost use Rattle.nj_catchup.specs.Limit.{pending_of, IsLull};
 ghost use Rattle.nj_catchup.specs.Steady.{IsSteady};
 
 use crate::advance::advance;
+use crate::lull::Lull;
 use crate::place::position_ahead;
 use crate::steady::is_steady;
 use nj_dots::Screen;
 pub use nj_dots::{Picture, Position};
 
 /// A picture with dots pending: fewer than there are up to the next change of the vertical blank flag, and none once an
-/// end is marked. That limit is kept, so that a run of a few dots is one comparison and one sum.
+/// end is marked. The lull says how many more may be, so that a run of a few dots is one comparison and one difference.
 #[derive(Drop)]
 pub struct CatchUp {
+    // The picture before its pending dots.
     screen: Screen,
-    pending: u32,
-    limit: u32,
+    // What is kept of it: the dots that are pending and may be, and the NMI line.
+    lull: Lull,
     ghost fits: { IsScreen screen },
-    ghost limited: { limit ≡ limit_of screen },
-    ghost before_event: { pending < to_event screen },
-    ghost unmarked: { screen.ended ≡ true → pending ≡ 0 },
+    ghost lulls: { IsLull lull screen },
 }
 
 impl CatchUp {
@@ -40,84 +41,72 @@ impl CatchUp {
         ensures { (p : List ℕ) → ⟦<CatchUp as Picture>⟧.meaning result p ≡ power_on vertical }
     {
         let screen = Screen::power_on(vertical);
-        let limit = limit(&screen);
-        CatchUp {
-            screen,
-            pending: 0,
-            limit,
-        }
+        let lull = Lull::of(&screen);
+        CatchUp { screen, lull }
     }
 
     // The register is $2002, and no pending dot changes what a read of it does.
     fn is_steady(&self, reg: u8) -> bool
         ensures status { result ≡ true → reg ≡ 2 }
-        ensures steady { (p : List ℕ) → result ≡ true → IsSteady self.now.pending p self.now.screen }
+        ensures steady { (p : List ℕ) → result ≡ true → IsSteady (pending_of self.now.lull) p self.now.screen }
     {
-        reg == 2 && is_steady(&self.screen, self.pending)
+        reg == 2 && is_steady(&self.screen, self.lull.pending())
     }
 
     // Runs the pending dots.
     fn catch_up(&mut self, pattern: &[u8])
         requires { length pattern.now ≡ 8192 }
-        ensures pending { self.new.pending ≡ 0 }
-        ensures screen { self.new.screen ≡ after_dots self.old.pending pattern.now self.old.screen }
+        ensures pending { pending_of self.new.lull ≡ 0 }
+        ensures screen { self.new.screen ≡ after_dots (pending_of self.old.lull) pattern.now self.old.screen }
     {
-        advance(&mut self.screen, self.pending, pattern);
-        self.limit -= self.pending;
-        self.pending = 0;
+        let pending = self.lull.pending();
+        advance(&mut self.screen, pending, pattern);
+        self.lull.limit = self.lull.spare;
     }
 
     // Runs the pending dots and so many more.
+    #[cold]
+    #[inline(never)]
     fn run_all(&mut self, dots: u32, pattern: &[u8])
         requires { length pattern.now ≡ 8192 }
-        ensures pending { self.new.pending ≡ 0 }
-        ensures screen { self.new.screen ≡ after_dots dots pattern.now (after_dots self.old.pending pattern.now self.old.screen) }
+        ensures pending { pending_of self.new.lull ≡ 0 }
+        ensures screen { self.new.screen ≡ after_dots dots pattern.now (after_dots (pending_of self.old.lull) pattern.now self.old.screen) }
     {
         self.catch_up(pattern);
         advance(&mut self.screen, dots, pattern);
-        self.limit = limit(&self.screen);
+        self.lull = Lull::of(&self.screen);
     }
 
     // Takes the mark of an end.
+    #[cold]
+    #[inline(never)]
     fn take_mark(&mut self)
         requires { self.old.screen.ended ≡ true }
-        ensures pending { self.new.pending ≡ self.old.pending }
+        ensures pending { pending_of self.new.lull ≡ 0 }
         ensures screen { self.new.screen ≡ record self.old.screen { ended = false } }
     {
         self.screen.ended = false;
-        self.limit = self.screen.dots_to_event();
-    }
-}
-
-// The limit of pending dots.
-#[tactic(auto, unfolding(crate::specs::Limit::limit_of))]
-fn limit(screen: &Screen) -> u32
-    requires { IsPlaced screen.now.position }
-    ensures { result ≡ limit_of screen.now }
-{
-    if screen.ended {
-        0
-    } else {
-        screen.dots_to_event()
+        self.lull = Lull::of(&self.screen);
     }
 }
 
 impl Picture for CatchUp {
     ghost use Rattle.nj_dots.specs.Dots.{after_dots};
     ghost use Rattle.nj_dots.proofs.Kept.{after_dots-fits};
+    ghost use Rattle.nj_catchup.specs.Limit.{pending_of};
 
-    ghost meaning = { λ s p. after_dots s.pending p s.screen };
+    ghost meaning = { λ s p. after_dots (pending_of s.lull) p s.screen };
 
-    ghost settled = { λ s. s.pending ≡ 0 };
+    ghost settled = { λ s. pending_of s.lull ≡ 0 };
 
     fn power_on(vertical: bool) -> CatchUp {
         CatchUp::new(vertical)
     }
 
-    #[inline]
+    #[inline(always)]
     fn run(&mut self, dots: u32, pattern: &[u8]) {
-        if dots < self.limit - self.pending {
-            self.pending += dots;
+        if dots < self.lull.spare {
+            self.lull.spare -= dots;
         } else {
             self.run_all(dots, pattern);
         }
@@ -125,27 +114,29 @@ impl Picture for CatchUp {
 
     fn read(&mut self, reg: u8, pattern: &[u8]) -> u8 {
         if self.is_steady(reg) {
-            return self.screen.read(reg, pattern);
+            let byte = self.screen.read(reg, pattern);
+            self.lull.line = self.screen.nmi_line();
+            return byte;
         }
         self.catch_up(pattern);
         let byte = self.screen.read(reg, pattern);
-        self.limit = limit(&self.screen);
+        self.lull = Lull::of(&self.screen);
         byte
     }
 
     fn write(&mut self, reg: u8, value: u8, pattern: &[u8]) -> Option<(u16, u8)> {
         self.catch_up(pattern);
         let left = self.screen.write(reg, value);
-        self.limit = limit(&self.screen);
+        self.lull = Lull::of(&self.screen);
         left
     }
 
-    #[inline]
+    #[inline(always)]
     fn nmi_line(&self) -> bool {
-        self.screen.vertical_blank && self.screen.nmi_line()
+        self.lull.line
     }
 
-    #[inline]
+    #[inline(always)]
     fn take_end(&mut self) -> bool {
         let ended = self.screen.ended;
         if ended {
@@ -155,11 +146,11 @@ impl Picture for CatchUp {
     }
 
     fn position(&self) -> Position {
-        position_ahead(&self.screen, self.pending)
+        position_ahead(&self.screen, self.lull.pending())
     }
 
     fn dots_to_event(&self) -> u32 {
-        self.screen.dots_to_event() - self.pending
+        self.screen.dots_to_event() - self.lull.pending()
     }
 
     fn settle(&mut self, pattern: &[u8]) {
@@ -171,12 +162,11 @@ impl Picture for CatchUp {
     }
 
     fn get(&mut self, image: &[u8]) {
-        self.pending = 0;
         self.screen.get(image);
-        self.limit = limit(&self.screen);
+        self.lull = Lull::of(&self.screen);
     }
 
-    ghost fits = { λ s p. after_dots-fits s.pending p s.screen s.fits };
+    ghost fits = { λ s p. after_dots-fits (pending_of s.lull) p s.screen s.fits };
 }
 
 #[cfg(test)]

@@ -1,16 +1,9 @@
 -- None is pending at power-on.
-use Rattle.std.proofs.Common.{refl, ◌∙◌}
-use Rattle.nj_dots.proofs.Events.{to_event-positive}
-use Rattle.nj_catchup.proofs.Sums.{dots-none}
+use Rattle.std.proofs.Common.{◌∙◌}
+use Rattle.nj_catchup.specs.Limit.{pending_of}
+use Rattle.nj_catchup.proofs.Sums.{dots-zero}
 use Rattle.nj_catchup.proofs.CatchUp.new.Goals as goal
 
-pub invariant_of-result : goal.invariant_of-result
-invariant_of-result c = record {
-  fits = c.power_on-screen.ensures.fits;
-  limited = c.limit-limit.ensures;
-  before_event = to_event-positive c.power_on-screen.result c.power_on-screen.ensures.fits.placed;
-  unmarked = λ marked. refl;
-}
-
 pub returns : goal.returns
-returns c = λ p. dots-none p c.power_on-screen.result ∙ c.power_on-screen.ensures.screen
+returns c = λ p.
+    dots-zero (pending_of c.of-lull.result) p c.power_on-screen.result c.of-lull.ensures.pending ∙ c.power_on-screen.ensures.screen
