@@ -37,10 +37,11 @@ abbrev pub LeastIsTheLeast : Type 0
 LeastIsTheLeast = (opening : Option ℕ) (numbers : List ℕ) (owner : Option ℕ)
     → IsLeast opening numbers owner ↔ (owner ≡ least opening numbers)
 
--- claims by rising number are the claims, and their numbers do not fall
+-- claims by rising number are the claims, their numbers do not fall, and claims whose numbers rise stay as they are
 pub record AreRising (claims sorted : List Claim) : Type 0 where
   pub moved : IsPermutation claims sorted
   pub rising : AllPairs (λ a b. a.number ≤ b.number) sorted
+  pub stays : AllPairs (λ a b. a.number < b.number) claims → sorted ≡ claims
 
 abbrev pub ByNumberIsRising : Type 0
 ByNumberIsRising = (claims : List Claim) → AreRising claims (by_number claims)
