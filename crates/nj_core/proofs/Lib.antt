@@ -1,3 +1,6 @@
 pub mod Counts
 pub mod Numbers
 pub mod Ownership
+pub mod Steps
+pub mod Dealt
+pub mod Orders
