@@ -4,3 +4,4 @@ pub mod Ownership
 pub mod Steps
 pub mod Dealt
 pub mod Orders
+pub mod Seen

@@ -11,7 +11,7 @@ use Rattle.nj_core.specs.declared.claim.Hand.{Hand}
 use Rattle.nj_core.specs.declared.event.Event.{Event}
 use Rattle.nj_core.specs.declared.event.Event.TheVariants.{Pop, Steal, ClaimNext, Finish}
 use Rattle.nj_core.specs.Owners.{owner, lesser, claimed, least, numbers_of}
-use Rattle.nj_core.specs.Machine.{Piece, WorkerState, State, is_idle, first_piece, next_claim, done_piece, without_first, holding, next_place, moved_on, finishing, changed, with_worker, read_of, taken, claimed_next, finished_by, step, Runs}
+use Rattle.nj_core.specs.Machine.{Piece, WorkerState, State, is_idle, first_piece, next_claim, done_piece, without_first, holding, next_place, moved_on, finishing, changed, taken, claimed_next, finished_by, with_workers, step, Runs}
 use Rattle.nj_core.proofs.Ownership.{takes_lesser}
 
 -- the weight of what a hand holds
@@ -125,16 +125,20 @@ take_made f workers w v piece idle =
     let none : sum_by f (take 0 piece) ≡ 0 = refl in
     omega arith
 
-taken_makes : (w v : ℕ) (start end : State) → taken w v start ≡ Some end → Makes start end []
+-- the state with other workers
+abbrev among : State → List WorkerState → State
+among state workers = record state { workers = workers }
+
+taken_makes : (w v : ℕ) (start end : State) → with_workers start (taken w v start.workers) ≡ Some end → Makes start end []
 taken_makes w v start end is =
-    go (is_idle (slice_get start.workers w)) refl (read_of first_piece v start) refl is where
-  go : (b : Bool) → is_idle (slice_get start.workers w) ≡ b → (o : Option Piece) → read_of first_piece v start ≡ o
-      → (if b then option_map (λ piece. with_worker (holding piece) w (with_worker without_first v start)) o else None) ≡ Some end → Makes start end []
+    go (is_idle (slice_get start.workers w)) refl (option_and_then first_piece (slice_get start.workers v)) refl is where
+  go : (b : Bool) → is_idle (slice_get start.workers w) ≡ b → (o : Option Piece) → option_and_then first_piece (slice_get start.workers v) ≡ o
+      → with_workers start (if b then option_map (λ piece. changed (holding piece) w (changed without_first v start.workers)) o else None) ≡ Some end → Makes start end []
   go false idle o first is = absurd (cc)
   go true idle None first is = absurd (cc)
   go true idle (Some piece) first is =
-      subst (λ (s : State). Makes start s []) (same_Some (with_worker (holding piece) w (with_worker without_first v start)) end is)
-      (no_claims start (with_worker (holding piece) w (with_worker without_first v start))
+      subst (λ (s : State). Makes start s []) (same_Some (among start (changed (holding piece) w (changed without_first v start.workers))) end is)
+      (no_claims start (among start (changed (holding piece) w (changed without_first v start.workers)))
         (λ h. take_pieces h start.workers w v piece idle first) (λ f. take_made f start.workers w v piece idle) refl)
 
 -- the piece of a hand that has no claim at its place
@@ -177,14 +181,15 @@ change_kept : (f : WorkerState → ℕ) (change : WorkerState → WorkerState) (
     → slice_get workers w ≡ Some worker → f (change worker) ≡ f worker → sum_by f (changed change w workers) ≡ sum_by f workers
 change_kept f change workers w worker there kept = omega (arith, sum_changed f change workers w worker there)
 
-finished_makes : (w : ℕ) (start end : State) → finished_by w start ≡ Some end → Makes start end []
-finished_makes w start end is = go (read_of done_piece w start) refl is where
-  go : (o : Option Piece) → read_of done_piece w start ≡ o → option_map (λ piece. with_worker (finishing piece) w start) o ≡ Some end → Makes start end []
+finished_makes : (w : ℕ) (start end : State) → with_workers start (finished_by w start.workers) ≡ Some end → Makes start end []
+finished_makes w start end is = go (option_and_then done_piece (slice_get start.workers w)) refl is where
+  go : (o : Option Piece) → option_and_then done_piece (slice_get start.workers w) ≡ o
+      → with_workers start (option_map (λ piece. changed (finishing piece) w start.workers) o) ≡ Some end → Makes start end []
   go None read is = absurd (cc)
   go (Some piece) read is =
       let worker = was_read done_piece (slice_get start.workers w) piece read in
-      subst (λ (s : State). Makes start s []) (same_Some (with_worker (finishing piece) w start) end is)
-      (no_claims start (with_worker (finishing piece) w start)
+      subst (λ (s : State). Makes start s []) (same_Some (among start (changed (finishing piece) w start.workers)) end is)
+      (no_claims start (among start (changed (finishing piece) w start.workers))
         (λ h. change_kept (weigh h) (finishing piece) start.workers w worker.0 worker.1 (finish_pieces h worker.0 piece worker.2))
         (λ f. change_kept (made_by f) (finishing piece) start.workers w worker.0 worker.1 (finish_made f worker.0 piece worker.2)) refl)
 
@@ -221,14 +226,14 @@ claim_least claim owners key = takes_lesser claim owners key ∙ go (eqb claim.k
   go false = refl
 
 claim_makes : (w : ℕ) (start end : State) → claimed_next w start ≡ Some end → (claims : List Claim) × Makes start end claims
-claim_makes w start end is = go (read_of next_claim w start) refl is where
-  go : (o : Option Claim) → read_of next_claim w start ≡ o
-      → option_map (λ claim. record (with_worker moved_on w start) { owners = claimed claim start.owners }) o ≡ Some end
+claim_makes w start end is = go (option_and_then next_claim (slice_get start.workers w)) refl is where
+  go : (o : Option Claim) → option_and_then next_claim (slice_get start.workers w) ≡ o
+      → option_map (λ claim. record { workers = changed moved_on w start.workers; owners = claimed claim start.owners }) o ≡ Some end
       → (claims : List Claim) × Makes start end claims
   go None read is = absurd (cc)
   go (Some claim) read is =
       let worker = was_read next_claim (slice_get start.workers w) claim read in
-      let after : State = record (with_worker moved_on w start) { owners = claimed claim start.owners } in
+      let after : State = record { workers = changed moved_on w start.workers; owners = claimed claim start.owners } in
       (claim ∷ [], subst (λ (s : State). Makes start s (claim ∷ [])) (same_Some after end is) (record {
         pieces = λ h. sum_kept (weigh h) moved_on start.workers w (claim_pieces h);
         made = λ f. (
@@ -240,7 +245,7 @@ claim_makes w start end is = go (read_of next_claim w start) refl is where
         owners = claim_least claim start.owners;
       }))
 
-steal_makes : (w v : ℕ) (start end : State) (same : Bool) → (if same then None else taken w v start) ≡ Some end → Makes start end []
+steal_makes : (w v : ℕ) (start end : State) (same : Bool) → (if same then None else with_workers start (taken w v start.workers)) ≡ Some end → Makes start end []
 steal_makes w v start end true is = absurd (cc)
 steal_makes w v start end false is = taken_makes w v start end is
 

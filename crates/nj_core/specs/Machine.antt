@@ -69,36 +69,34 @@ changed change place [] = []
 changed change zero (x ∷ xs) = change x ∷ xs
 changed change (suc place) (x ∷ xs) = x ∷ changed change place xs
 
--- what is read of the worker of this number, if it exists
-abbrev pub read_of : {A : Type 0} → (WorkerState → Option A) → ℕ → State → Option A
-read_of read w state = option_and_then read (slice_get state.workers w)
-
--- the state with the worker of this number changed
-abbrev pub with_worker : (WorkerState → WorkerState) → ℕ → State → State
-with_worker change w state = record state { workers = changed change w state.workers }
-
--- the first piece of v's list comes into w's hand, where the hand is empty and the list is not
-abbrev pub taken : ℕ → ℕ → State → Option State
-taken w v state =
-    if is_idle (slice_get state.workers w)
-    then option_map (λ piece. with_worker (holding piece) w (with_worker without_first v state)) (read_of first_piece v state)
+-- the workers after the first piece of v's list came into w's hand, where the hand is empty and the list is not
+abbrev pub taken : ℕ → ℕ → List WorkerState → Option (List WorkerState)
+taken w v workers =
+    if is_idle (slice_get workers w)
+    then option_map (λ piece. changed (holding piece) w (changed without_first v workers)) (option_and_then first_piece (slice_get workers v))
     else None
 
--- the claim at the place of w's hand is made, and the place rises
+-- the workers after the piece in w's hand is finished, where it has no claim at its place
+abbrev pub finished_by : ℕ → List WorkerState → Option (List WorkerState)
+finished_by w workers =
+    option_map (λ piece. changed (finishing piece) w workers) (option_and_then done_piece (slice_get workers w))
+
+-- the state after the claim at the place of w's hand is made, where there is one; the place rises
 abbrev pub claimed_next : ℕ → State → Option State
 claimed_next w state =
-    option_map (λ claim. record (with_worker moved_on w state) { owners = claimed claim state.owners }) (read_of next_claim w state)
+    option_map (λ claim. record { workers = changed moved_on w state.workers; owners = claimed claim state.owners })
+    (option_and_then next_claim (slice_get state.workers w))
 
--- the piece in w's hand is finished, where it has no claim at its place
-abbrev pub finished_by : ℕ → State → Option State
-finished_by w state = option_map (λ piece. with_worker (finishing piece) w state) (read_of done_piece w state)
+-- the state with other workers, if there are such
+abbrev pub with_workers : State → Option (List WorkerState) → Option State
+with_workers state workers = option_map (λ others. record state { workers = others }) workers
 
 -- the state after an event, if it is enabled: a worker pops its own list, steals from another's, claims or finishes
 unfoldable pub step : State → Event → Option State
-step state (Pop w) = taken w w state
-step state (Steal w v) = if w == v then None else taken w v state
+step state (Pop w) = with_workers state (taken w w state.workers)
+step state (Steal w v) = if w == v then None else with_workers state (taken w v state.workers)
 step state (ClaimNext w) = claimed_next w state
-step state (Finish w) = finished_by w state
+step state (Finish w) = with_workers state (finished_by w state.workers)
 
 -- the answer to an event: done where there is a state after it
 abbrev pub answer : {A : Type 0} → Option A → Applied

@@ -1,7 +1,7 @@
-ghost use Rattle.std.specs.Prelude.{◌≡◌, ◌≤◌, [], map, is_ok, slice_get, option_and_then, unwrap_or, IfOk, if◌then◌else◌};
+ghost use Rattle.std.specs.Prelude.{◌≡◌, ◌≤◌, [], map, is_ok, IsSome, slice_get, option_and_then, unwrap_or, IfOk, if◌then◌else◌};
 ghost use Rattle.std.specs.List.{range_with_len};
 ghost use Rattle.nj_core.specs.Owners.{claimed};
-ghost use Rattle.nj_core.specs.Machine.{beginning, opening, step, answer, taken, claimed_next, finished_by, is_idle, next_claim, first_piece, without_first, changed};
+ghost use Rattle.nj_core.specs.Machine.{beginning, opening, step, answer, taken, claimed_next, finished_by, is_idle, next_claim, first_piece, without_first, holding, moved_on, changed};
 
 use crate::claim::Claim;
 use crate::event::{Applied, Event};
@@ -66,19 +66,10 @@ impl Core {
 
     // The first piece of v's list comes into w's hand.
     fn take(&mut self, w: usize, v: usize) -> Applied
-        ensures answer { result ≡ answer (taken w v self.old) }
-        ensures state { self.new ≡ unwrap_or (taken w v self.old) self.old }
+        ensures answer { result ≡ answer (taken w v self.old.workers) }
+        ensures state { self.new ≡ record self.old { workers = unwrap_or (taken w v self.old.workers) self.old.workers } }
     {
-        if !is_idle_at(self.workers.as_slice(), w) {
-            return Applied::NotEnabled;
-        }
-        match take_first_at(self.workers.as_mut_slice(), v) {
-            None => Applied::NotEnabled,
-            Some(piece) => {
-                self.workers[w].hold(piece);
-                Applied::Done
-            }
-        }
+        take_at(self.workers.as_mut_slice(), w, v)
     }
 
     // The claim at the place of w's hand is made.
@@ -90,7 +81,7 @@ impl Core {
             None => Ok(Applied::NotEnabled),
             Some(claim) => {
                 make(&mut self.owners, claim)?;
-                self.workers[w].move_on();
+                move_on_at(self.workers.as_mut_slice(), w);
                 Ok(Applied::Done)
             }
         }
@@ -98,13 +89,10 @@ impl Core {
 
     // The piece in w's hand is finished.
     fn finish(&mut self, w: usize) -> Result<Applied, AllocError>
-        ensures answer { IfOk result (λ applied. applied ≡ answer (finished_by w self.old)) }
-        ensures state { self.new ≡ (if is_ok result then unwrap_or (finished_by w self.old) self.old else self.old) }
+        ensures answer { IfOk result (λ applied. applied ≡ answer (finished_by w self.old.workers)) }
+        ensures state { self.new ≡ (if is_ok result then record self.old { workers = unwrap_or (finished_by w self.old.workers) self.old.workers } else self.old) }
     {
-        if w >= self.workers.len() {
-            return Ok(Applied::NotEnabled);
-        }
-        self.workers[w].finish()
+        finish_at(self.workers.as_mut_slice(), w)
     }
 }
 
@@ -136,6 +124,23 @@ fn next_claim_at(workers: &[Worker], w: usize) -> Option<Claim>
     workers.get(w)?.next_claim()
 }
 
+// The first piece of v's list comes into w's hand.
+fn take_at(workers: &mut [Worker], w: usize, v: usize) -> Applied
+    ensures answer { result ≡ answer (taken w v workers.old) }
+    ensures workers { workers.new ≡ unwrap_or (taken w v workers.old) workers.old }
+{
+    if !is_idle_at(workers, w) {
+        return Applied::NotEnabled;
+    }
+    match take_first_at(workers, v) {
+        None => Applied::NotEnabled,
+        Some(piece) => {
+            hold_at(workers, w, piece);
+            Applied::Done
+        }
+    }
+}
+
 // Takes the first piece from a worker's list, if there is one.
 fn take_first_at(workers: &mut [Worker], v: usize) -> Option<Seq<Claim>>
     ensures piece { result ≡ option_and_then first_piece (slice_get workers.old v) }
@@ -147,16 +152,48 @@ fn take_first_at(workers: &mut [Worker], v: usize) -> Option<Seq<Claim>>
     workers[v].take_first()
 }
 
+// A worker takes a piece in hand, if it exists.
+fn hold_at(workers: &mut [Worker], w: usize, piece: Seq<Claim>)
+    ensures { workers.new ≡ changed (holding piece) w workers.old }
+{
+    if w < workers.len() {
+        workers[w].hold(piece);
+    }
+}
+
+// A worker goes on to its hand's next place.
+fn move_on_at(workers: &mut [Worker], w: usize)
+    requires { IsSome (option_and_then next_claim (slice_get workers.old w)) }
+    ensures { workers.new ≡ changed moved_on w workers.old }
+{
+    if w < workers.len() {
+        workers[w].move_on();
+    }
+}
+
+// Finishes the piece in a worker's hand, where all its claims are made. Without memory the workers are as before.
+fn finish_at(workers: &mut [Worker], w: usize) -> Result<Applied, AllocError>
+    ensures answer { IfOk result (λ applied. applied ≡ answer (finished_by w workers.old)) }
+    ensures workers { workers.new ≡ (if is_ok result then unwrap_or (finished_by w workers.old) workers.old else workers.old) }
+{
+    if w >= workers.len() {
+        return Ok(Applied::NotEnabled);
+    }
+    workers[w].finish()
+}
+
 // Makes a claim. Without memory the owners are as before.
 fn make(owners: &mut Vec<Claim>, claim: Claim) -> Result<(), AllocError>
     ensures { owners.new.items ≡ (if is_ok result then claimed claim owners.old.items else owners.old.items) }
 {
-    for owner in owners.iter_mut() {
-        if owner.key == claim.key {
+    match owners.iter().position(|owner| owner.key == claim.key) {
+        None => {
+            owners.push(claim)?;
+        }
+        Some(place) => {
+            let owner = &mut owners[place];
             owner.number = owner.number.min(claim.number);
-            return Ok(());
         }
     }
-    owners.push(claim)?;
     Ok(())
 }

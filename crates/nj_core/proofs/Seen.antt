@@ -1,0 +1,68 @@
+-- What the machine's code does to its lists, as the definitions say it.
+use Rattle.std.proofs.Common.{◌≡◌, ℕ, zero, suc, ◌+◌, ◌<◌, ◌≤◌, min, Bool, true, false, cond, eqb, ltb, List, [], ◌∷◌, ◌++◌, length, get_or, set, take, drop, refl, sym, ◌∙◌, ap, subst, arith, if◌then◌else◌, Option, Some, None}
+use Rattle.std.specs.List.{position_or_len}
+use Rattle.std.proofs.lemmas.List.{set-get_or}
+use Rattle.std.proofs.lemmas.Option.{slice_get-get_or}
+use Rattle.std.specs.Prelude.{option_map, option_and_then, slice_get, unwrap_or}
+use Rattle.nj_core.specs.declared.claim.Claim.{Claim}
+use Rattle.nj_core.specs.Owners.{claimed}
+use Rattle.nj_core.specs.Machine.{Piece, WorkerState, State, is_idle, first_piece, done_piece, without_first, holding, finishing, changed, taken, finished_by, with_workers, answer}
+
+-- a member written is a member changed
+pub set_changed : {X : Type 0} (change : X → X) (xs : List X) (i : ℕ) (d new : X) → i < length xs → new ≡ change (get_or xs i d)
+    → set xs i new ≡ changed change i xs
+set_changed change [] i d new lt is = absurd (omega arith)
+set_changed change (y ∷ ys) zero d new lt is = ap (λ z. z ∷ ys) is
+set_changed change (y ∷ ys) (suc i) d new lt is = ap (λ zs. y ∷ zs) (set_changed change ys i d new (omega arith) is)
+
+-- past the end nothing changes
+pub past_changed : {X : Type 0} (change : X → X) (xs : List X) (i : ℕ) → length xs ≤ i → xs ≡ changed change i xs
+past_changed change [] i le = refl
+past_changed change (y ∷ ys) zero le = absurd (omega arith)
+past_changed change (y ∷ ys) (suc i) le = ap (λ zs. y ∷ zs) (past_changed change ys i (omega arith))
+
+-- what is read of a worker that exists
+pub read_at : {A : Type 0} (read : WorkerState → Option A) (workers : List WorkerState) (w : ℕ) (d : WorkerState) → w < length workers
+    → option_and_then read (slice_get workers w) ≡ read (get_or workers w d)
+read_at read workers w d lt = ap (option_and_then read) (slice_get-get_or workers w d lt)
+
+-- a worker that finishes, among the workers
+pub finish_set : (ok : Bool) (workers : List WorkerState) (w : ℕ) (d new : WorkerState) → w < length workers
+    → new ≡ (if ok then unwrap_or (option_map (λ piece. finishing piece (get_or workers w d)) (done_piece (get_or workers w d))) (get_or workers w d) else get_or workers w d)
+    → set workers w new ≡ (if ok then unwrap_or (finished_by w workers) workers else workers)
+finish_set false workers w d new lt is = ap (set workers w) is ∙ set-get_or workers w d
+finish_set true workers w d new lt is =
+    go (done_piece (get_or workers w d)) is
+    ∙ ap (λ o. unwrap_or (option_map (λ piece. changed (finishing piece) w workers) o) workers) (sym (read_at done_piece workers w d lt)) where
+  go : (o : Option Piece) → new ≡ unwrap_or (option_map (λ piece. finishing piece (get_or workers w d)) o) (get_or workers w d)
+      → set workers w new ≡ unwrap_or (option_map (λ piece. changed (finishing piece) w workers) o) workers
+  go None is = ap (set workers w) is ∙ set-get_or workers w d
+  go (Some piece) is = set_changed (finishing piece) workers w d new lt is
+
+no_first : (pieces : List Piece) → slice_get pieces 0 ≡ None → pieces ≡ drop 1 pieces
+no_first [] none = refl
+no_first (piece ∷ pieces) none = absurd (cc)
+
+-- where a list has no first piece nothing is taken from it
+nothing_first : (workers : List WorkerState) (v : ℕ) → option_and_then first_piece (slice_get workers v) ≡ None
+    → changed without_first v workers ≡ workers
+nothing_first [] v none = refl
+nothing_first (worker ∷ workers) zero none =
+    λ i. record worker { waiting = sym (no_first worker.waiting none) i } ∷ workers
+nothing_first (worker ∷ workers) (suc v) none = ap (λ ws. worker ∷ ws) (nothing_first workers v none)
+
+-- then the event is not enabled
+pub nothing_taken : (workers new : List WorkerState) (w v : ℕ) → is_idle (slice_get workers w) ≡ true
+    → option_and_then first_piece (slice_get workers v) ≡ None → new ≡ changed without_first v workers
+    → new ≡ unwrap_or (taken w v workers) workers
+nothing_taken workers new w v idle none is =
+    is ∙ nothing_first workers v none
+    ∙ sym (λ i. unwrap_or (if idle i then option_map (λ piece. changed (holding piece) w (changed without_first v workers)) (none i) else None) workers)
+
+-- the claim of a key that has an owner, or none
+claim_at : (claim : Claim) (owners : List Claim) (d : Claim)
+    → claimed claim owners
+    ≡ (if ltb (position_or_len (λ o. eqb o.key claim.key) owners) (length owners)
+      then set owners (position_or_len (λ o. eqb o.key claim.key) owners) (record (get_or owners (position_or_len (λ o. eqb o.key claim.key) owners) d) { number = min (get_or owners (position_or_len (λ o. eqb o.key claim.key) owners) d).number claim.number })
+      else owners ++ claim ∷ [])
+claim_at claim owners d = ?
