@@ -5,3 +5,4 @@ pub mod Steps
 pub mod Dealt
 pub mod Orders
 pub mod Seen
+pub mod Dealing

@@ -2,10 +2,13 @@
 use Rattle.std.proofs.Common.{◌≡◌, ℕ, zero, suc, ◌+◌, ◌<◌, ◌≤◌, min, Bool, true, false, cond, eqb, ltb, List, [], ◌∷◌, ◌++◌, length, get_or, set, take, drop, refl, sym, ◌∙◌, ap, subst, arith, if◌then◌else◌, Option, Some, None}
 use Rattle.std.specs.List.{position_or_len}
 use Rattle.std.proofs.lemmas.List.{set-get_or}
+use Rattle.std.proofs.lemmas.List.Sums.{fails_before_first}
+use Rattle.std.proofs.lemmas.List.Quantifiers.{position-Some}
+use Rattle.std.proofs.lemmas.Bool.{ltb-false}
 use Rattle.std.proofs.lemmas.Option.{slice_get-get_or}
-use Rattle.std.specs.Prelude.{option_map, option_and_then, slice_get, unwrap_or}
+use Rattle.std.specs.Prelude.{option_map, option_and_then, slice_get, unwrap_or, position}
 use Rattle.nj_core.specs.declared.claim.Claim.{Claim}
-use Rattle.nj_core.specs.Owners.{claimed}
+use Rattle.nj_core.specs.Owners.{claimed, of_key}
 use Rattle.nj_core.specs.Machine.{Piece, WorkerState, State, is_idle, first_piece, done_piece, without_first, holding, finishing, changed, taken, finished_by, with_workers, answer}
 
 -- a member written is a member changed
@@ -59,10 +62,40 @@ nothing_taken workers new w v idle none is =
     is ∙ nothing_first workers v none
     ∙ sym (λ i. unwrap_or (if idle i then option_map (λ piece. changed (holding piece) w (changed without_first v workers)) (none i) else None) workers)
 
--- the claim of a key that has an owner, or none
-claim_at : (claim : Claim) (owners : List Claim) (d : Claim)
-    → claimed claim owners
-    ≡ (if ltb (position_or_len (λ o. eqb o.key claim.key) owners) (length owners)
-      then set owners (position_or_len (λ o. eqb o.key claim.key) owners) (record (get_or owners (position_or_len (λ o. eqb o.key claim.key) owners) d) { number = min (get_or owners (position_or_len (λ o. eqb o.key claim.key) owners) d).number claim.number })
-      else owners ++ claim ∷ [])
-claim_at claim owners d = ?
+absent_more : (claim : Claim) (owners : List Claim) → ((k : ℕ) (d : Claim) → k < length owners → of_key claim.key (get_or owners k d) ≡ false)
+    → owners ++ claim ∷ [] ≡ claimed claim owners
+absent_more claim [] absent = refl
+absent_more claim (o ∷ os) absent =
+    ap (λ es. o ∷ es) (absent_more claim os (λ k d lt. absent (suc k) d (omega arith)))
+    ∙ sym (ap (λ (b : Bool). if b then record { key = o.key; number = min o.number claim.number } ∷ os else o ∷ claimed claim os) (absent 0 claim (omega arith)))
+
+not_found : (p : Claim → Bool) (owners : List Claim) → position p owners ≡ None → length owners ≤ position_or_len p owners
+not_found p owners is = ltb-false (position_or_len p owners) (length owners) (go (ltb (position_or_len p owners) (length owners)) is) where
+  go : (b : Bool) → cond b (Some (position_or_len p owners)) None ≡ None → b ≡ false
+  go true is = absurd (cc)
+  go false is = refl
+
+-- the claim of a key without an owner stands behind the others
+pub claim_new : (claim : Claim) (owners : List Claim) → position (of_key claim.key) owners ≡ None → owners ++ claim ∷ [] ≡ claimed claim owners
+claim_new claim owners none =
+    let all = not_found (of_key claim.key) owners none in
+    absent_more claim owners (λ k d lt. fails_before_first (of_key claim.key) owners k d (omega arith))
+
+first_claimed : (claim : Claim) (owners : List Claim) (i : ℕ) (x : Claim) (n : ℕ) → i < length owners
+    → of_key claim.key (get_or owners i x) ≡ true → ((k : ℕ) → k < i → of_key claim.key (get_or owners k x) ≡ false)
+    → x ≡ get_or owners i x → n ≡ min x.number claim.number
+    → set owners i (record { key = x.key; number = n }) ≡ claimed claim owners
+first_claimed claim [] i x n lt here before read is = absurd (omega arith)
+first_claimed claim (o ∷ os) zero x n lt here before read is =
+    (λ j. record { key = (read j).key; number = (is ∙ ap (λ (c : Claim). min c.number claim.number) read) j } ∷ os)
+    ∙ sym (ap (λ (b : Bool). if b then record { key = o.key; number = min o.number claim.number } ∷ os else o ∷ claimed claim os) here)
+first_claimed claim (o ∷ os) (suc i) x n lt here before read is =
+    ap (λ es. o ∷ es) (first_claimed claim os i x n (omega arith) here (λ k below. before (suc k) (omega arith)) read is)
+    ∙ sym (ap (λ (b : Bool). if b then record { key = o.key; number = min o.number claim.number } ∷ os else o ∷ claimed claim os) (before 0 (omega arith)))
+
+-- the claim of a key with an owner makes it the lesser
+pub claim_old : (claim : Claim) (owners : List Claim) (i : ℕ) (x : Claim) (n : ℕ) → position (of_key claim.key) owners ≡ Some i
+    → x ≡ get_or owners i x → n ≡ min x.number claim.number → set owners i (record { key = x.key; number = n }) ≡ claimed claim owners
+claim_old claim owners i x n found read is =
+    let first = position-Some (of_key claim.key) owners i x found in
+    first_claimed claim owners i x n first.0 first.1 first.2 read is

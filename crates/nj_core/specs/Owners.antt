@@ -3,6 +3,10 @@ use Rattle.std.specs.Prelude.{ℕ, min, Bool, false, not, ◌&&◌, ◌==◌, na
 use Rattle.std.specs.List.{list_any}
 use Rattle.nj_core.specs.declared.claim.Claim.{Claim}
 
+-- whether an entry or a claim is of this key
+abbrev pub of_key : ℕ → Claim → Bool
+of_key key claim = claim.key == key
+
 -- the owner of a key in a list of owners: the number of its entry, if it has one
 abbrev pub owner : List Claim → ℕ → Option ℕ
 owner [] key = None
@@ -28,7 +32,7 @@ least opening (number ∷ numbers) = least (Some (lesser opening number)) number
 
 -- the numbers of the claims of a key
 abbrev pub numbers_of : ℕ → List Claim → List ℕ
-numbers_of key claims = map (λ claim. claim.number) (filter (λ claim. claim.key == key) claims)
+numbers_of key claims = map (λ claim. claim.number) (filter (of_key key) claims)
 
 -- whether there is an owner and it is this number
 abbrev pub is_number : Option ℕ → ℕ → Bool

@@ -1,6 +1,6 @@
-ghost use Rattle.std.specs.Prelude.{◌≡◌, ◌≤◌, [], map, is_ok, IsSome, slice_get, option_and_then, unwrap_or, IfOk, if◌then◌else◌};
+ghost use Rattle.std.specs.Prelude.{◌≡◌, ◌≤◌, [], map, is_ok, IsSome, position, slice_get, option_and_then, unwrap_or, IfOk, if◌then◌else◌};
 ghost use Rattle.std.specs.List.{range_with_len};
-ghost use Rattle.nj_core.specs.Owners.{claimed};
+ghost use Rattle.nj_core.specs.Owners.{claimed, of_key};
 ghost use Rattle.nj_core.specs.Machine.{beginning, opening, step, answer, taken, claimed_next, finished_by, is_idle, next_claim, first_piece, without_first, holding, moved_on, changed};
 
 use crate::claim::Claim;
@@ -35,8 +35,8 @@ impl Core {
         requires { 1 ≤ workers }
         ensures { IfOk result (λ core. core ≡ opening [] (map (λ piece. piece.items) pieces.items) workers) }
     {
-        let mut dealt = idle_workers(alloc, workers as usize)?;
-        let count = dealt.len();
+        let count = workers as usize;
+        let mut dealt = idle_workers(alloc, count)?;
         for (place, piece) in pieces.into_iter().enumerate() {
             dealt[place % count].deal(Seq::from_vec(piece))?;
         }
@@ -186,7 +186,7 @@ fn finish_at(workers: &mut [Worker], w: usize) -> Result<Applied, AllocError>
 fn make(owners: &mut Vec<Claim>, claim: Claim) -> Result<(), AllocError>
     ensures { owners.new.items ≡ (if is_ok result then claimed claim owners.old.items else owners.old.items) }
 {
-    match owners.iter().position(|owner| owner.key == claim.key) {
+    match place_of(owners.as_slice(), claim.key) {
         None => {
             owners.push(claim)?;
         }
@@ -196,4 +196,11 @@ fn make(owners: &mut Vec<Claim>, claim: Claim) -> Result<(), AllocError>
         }
     }
     Ok(())
+}
+
+// The place of a key's entry, if it has one.
+fn place_of(owners: &[Claim], key: u64) -> Option<usize>
+    ensures { result ≡ position (of_key key) owners.now }
+{
+    owners.iter().position(|owner| owner.key == key)
 }

@@ -78,6 +78,7 @@ impl Worker {
         ensures { self.new ≡ moved_on self.old }
     {
         if let Some(hand) = &mut self.hand {
+            prove!(hand.place < hand.piece.len());
             hand.place += 1;
         }
     }
