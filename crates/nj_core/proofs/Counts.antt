@@ -142,10 +142,10 @@ pub sum_filter : {X : Type 0} (p : X → Bool) (f : X → ℕ) (xs : List X)
 sum_filter p f [] = refl
 sum_filter p f (x ∷ xs) =
     go (p x) (sum_filter p f xs) ∙ sym (sum_by-cons (λ y. if p y then f y else 0) x xs) where
-  go : (b : Bool) → sum_by f (filter p xs) ≡ sum_by (λ y. if p y then f y else 0) xs
-      → sum_by f (cond b (x ∷ filter p xs) (filter p xs)) ≡ cond b (f x) 0 + sum_by (λ y. if p y then f y else 0) xs
-  go true rest = sum_by-cons f x (filter p xs) ∙ ap (λ n. f x + n) rest
-  go false rest = rest ∙ sym (zero-add (sum_by (λ y. if p y then f y else 0) xs))
+      go : (b : Bool) → sum_by f (filter p xs) ≡ sum_by (λ y. if p y then f y else 0) xs
+          → sum_by f (cond b (x ∷ filter p xs) (filter p xs)) ≡ cond b (f x) 0 + sum_by (λ y. if p y then f y else 0) xs
+      go true rest = sum_by-cons f x (filter p xs) ∙ ap (λ n. f x + n) rest
+      go false rest = rest ∙ sym (zero-add (sum_by (λ y. if p y then f y else 0) xs))
 
 -- a test keeps the same of both lists
 pub filter_sums : {X : Type 0} (p : X → Bool) (xs ys : List X) → SameSums xs ys → SameSums (filter p xs) (filter p ys)

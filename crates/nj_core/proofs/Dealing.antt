@@ -34,10 +34,10 @@ module _ {V : Type 0} (items : V → Piece) (n : ℕ) where
       ap (map (λ (e : ℕ × V). items e.1)) (filter-append (is_for w) entries (entry ∷ []))
       ∙ map-append (λ (e : ℕ × V). items e.1) (filter (is_for w) entries) (filter (is_for w) (entry ∷ []))
       ∙ go (is_for w entry) where
-    go : (b : Bool) → handed entries w ++ map (λ (e : ℕ × V). items e.1) (cond b (entry ∷ []) [])
-        ≡ (if b then handed entries w ++ items entry.1 ∷ [] else handed entries w)
-    go true = refl
-    go false = append-nil (handed entries w)
+        go : (b : Bool) → handed entries w ++ map (λ (e : ℕ × V). items e.1) (cond b (entry ∷ []) [])
+            ≡ (if b then handed entries w ++ items entry.1 ∷ [] else handed entries w)
+        go true = refl
+        go false = append-nil (handed entries w)
 
   handed_same : (entries : List (ℕ × V)) (entry : ℕ × V) (w : ℕ) → entry.0 % n ≡ w → handed (entries ++ entry ∷ []) w ≡ handed entries w ++ items entry.1 ∷ []
   handed_same entries entry w same =
@@ -65,18 +65,18 @@ module _ {V : Type 0} (items : V → Piece) (n : ℕ) where
       let length_right = length_after (entries ++ (place, v) ∷ []) in
       let was : x ≡ beginning (handed entries m) = read ∙ ap (λ (ws : List WorkerState). get_or ws m x) so_far ∙ after_at entries m x low in
       let now : new ≡ beginning (handed (entries ++ (place, v) ∷ []) m) =
-          is ∙ (λ i. with_piece (of i) (was i)) ∙ ap beginning (sym (handed_same entries (place, v) m refl)) in
+      is ∙ (λ i. with_piece (of i) (was i)) ∙ ap beginning (sym (handed_same entries (place, v) m refl)) in
       same_lists (set dealt m new) (after_dealing (entries ++ (place, v) ∷ [])) (omega arith) (λ k d lt.
-        (let within : k < n = omega arith in
-        let right = after_at (entries ++ (place, v) ∷ []) k d within in
-        elim (cases_eq m k) [
-          | inl same ↦
+      (let within : k < n = omega arith in
+      let right = after_at (entries ++ (place, v) ∷ []) k d within in
+      elim (cases_eq m k) [
+        | inl same ↦
             ap (λ j. get_or (set dealt m new) j d) (sym same) ∙ get_or-set_same dealt m new d (omega arith) ∙ now
             ∙ ap (λ j. beginning (handed (entries ++ (place, v) ∷ []) j)) same ∙ sym right
-          | inr differ ↦
+        | inr differ ↦
             get_or-set_other dealt m k new d (λ e. differ (sym e)) ∙ ap (λ (ws : List WorkerState). get_or ws k d) so_far ∙ after_at entries k d within
             ∙ ap beginning (sym (handed_other entries (place, v) k differ)) ∙ sym right
-        ]))
+      ]))
 
   -- all entries are dealt as the opening state has them
   handed_all : (k : ℕ) (vs : List V) (w : ℕ) → handed (enumerate_from k vs) w
@@ -97,5 +97,5 @@ module _ {V : Type 0} (items : V → Piece) (n : ℕ) where
   opened vs entries dealt owners all so_far none =
       let is : entries ≡ enumerate_from 0 vs = sym (map-id entries) ∙ all in
       let workers : dealt ≡ map (λ w. beginning (dealt_to n (map items vs) w)) (range_with_len 0 n) =
-          so_far ∙ ap after_dealing is ∙ (λ i. map (λ w. beginning (handed_all 0 vs w i)) (range_with_len 0 n)) in
+      so_far ∙ ap after_dealing is ∙ (λ i. map (λ w. beginning (handed_all 0 vs w i)) (range_with_len 0 n)) in
       λ i. record { workers = workers i; owners = none i }

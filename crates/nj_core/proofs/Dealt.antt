@@ -44,16 +44,16 @@ within m weight a zero low high = absurd (omega arith)
 within m weight a (suc n) low high =
     elim (cases_eq m a) [
       | inl same ↦
-        (let sum = sum_by-cons (at m weight) a (range_with_len (a + 1) n) in
-        let here : at m weight a ≡ weight = ap (λ (b : Bool). if b then weight else 0) (eq-eqb m a same) in
-        let rest = past m weight (a + 1) n (omega arith) in
-        omega arith)
+          (let sum = sum_by-cons (at m weight) a (range_with_len (a + 1) n) in
+          let here : at m weight a ≡ weight = ap (λ (b : Bool). if b then weight else 0) (eq-eqb m a same) in
+          let rest = past m weight (a + 1) n (omega arith) in
+          omega arith)
       | inr differ ↦
-        (let sum = sum_by-cons (at m weight) a (range_with_len (a + 1) n) in
-        let here : at m weight a ≡ 0 = ap (λ (b : Bool). if b then weight else 0) (ne_eqb m a differ) in
-        let ne : m ≢ a = differ in
-        let rest = within m weight (a + 1) n (omega arith) (omega arith) in
-        omega arith)
+          (let sum = sum_by-cons (at m weight) a (range_with_len (a + 1) n) in
+          let here : at m weight a ≡ 0 = ap (λ (b : Bool). if b then weight else 0) (ne_eqb m a differ) in
+          let ne : m ≢ a = differ in
+          let rest = within m weight (a + 1) n (omega arith) (omega arith) in
+          omega arith)
     ]
 
 -- the pieces among these that are dealt to worker w

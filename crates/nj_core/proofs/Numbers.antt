@@ -58,21 +58,21 @@ none_filter : (number : ℕ) (p : Claim → Bool) (claims : List Claim) → None
 none_filter number p [] none = none
 none_filter number p (claim ∷ claims) none =
     go (p claim) (none_filter number p claims (none_cons number claim claims none).1) where
-  go : (b : Bool) → NoneHas number (filter p claims) → NoneHas number (cond b (claim ∷ filter p claims) (filter p claims))
-  go true rest =
-      let sum = sum_by-cons (one (has_number number)) claim (filter p claims) in
-      let first = one_other number claim (none_cons number claim claims none).0 in
-      omega arith
-  go false rest = rest
+      go : (b : Bool) → NoneHas number (filter p claims) → NoneHas number (cond b (claim ∷ filter p claims) (filter p claims))
+      go true rest =
+          let sum = sum_by-cons (one (has_number number)) claim (filter p claims) in
+          let first = one_other number claim (none_cons number claim claims none).0 in
+          omega arith
+      go false rest = rest
 
 -- so are those that a test keeps
 pub apart_filter : (p : Claim → Bool) (claims : List Claim) → AreApart claims → AreApart (filter p claims)
 apart_filter p [] all = tt
 apart_filter p (claim ∷ claims) all =
     go (p claim) (apart_filter p claims all.1) where
-  go : (b : Bool) → AreApart (filter p claims) → AreApart (cond b (claim ∷ filter p claims) (filter p claims))
-  go true rest = (none_filter claim.number p claims all.0, rest)
-  go false rest = rest
+      go : (b : Bool) → AreApart (filter p claims) → AreApart (cond b (claim ∷ filter p claims) (filter p claims))
+      go true rest = (none_filter claim.number p claims all.0, rest)
+      go false rest = rest
 
 in_front : (c d : Claim) (ds : List Claim) → c.number < d.number → put_by_number c (d ∷ ds) ≡ c ∷ d ∷ ds
 in_front c d ds lt = ap (λ (b : Bool). if b then c ∷ d ∷ ds else d ∷ put_by_number c ds) (lt-ltb c.number d.number lt)
@@ -91,22 +91,22 @@ swapped a x [] differ =
 swapped a x (z ∷ zs) differ =
     elim (cases_lt a.number z.number) [
       | inl az ↦ elim (cases_lt x.number z.number) [
-          | inl xz ↦ elim (cases_lt a.number x.number) [
-              | inl ax ↦ ap (put_by_number a) (in_front x z zs xz) ∙ in_front a x (z ∷ zs) ax
-                  ∙ sym (ap (put_by_number x) (in_front a z zs az) ∙ behind x a (z ∷ zs) (omega arith) ∙ ap (λ ds. a ∷ ds) (in_front x z zs xz))
-              | inr xa ↦ ap (put_by_number a) (in_front x z zs xz) ∙ behind a x (z ∷ zs) xa ∙ ap (λ ds. x ∷ ds) (in_front a z zs az)
-                  ∙ sym (ap (put_by_number x) (in_front a z zs az) ∙ in_front x a (z ∷ zs) (omega arith))
-            ]
-          | inr zx ↦ ap (put_by_number a) (behind x z zs zx) ∙ in_front a z (put_by_number x zs) az
-              ∙ sym (ap (put_by_number x) (in_front a z zs az) ∙ behind x a (z ∷ zs) (omega arith) ∙ ap (λ ds. a ∷ ds) (behind x z zs zx))
+        | inl xz ↦ elim (cases_lt a.number x.number) [
+          | inl ax ↦ ap (put_by_number a) (in_front x z zs xz) ∙ in_front a x (z ∷ zs) ax
+              ∙ sym (ap (put_by_number x) (in_front a z zs az) ∙ behind x a (z ∷ zs) (omega arith) ∙ ap (λ ds. a ∷ ds) (in_front x z zs xz))
+          | inr xa ↦ ap (put_by_number a) (in_front x z zs xz) ∙ behind a x (z ∷ zs) xa ∙ ap (λ ds. x ∷ ds) (in_front a z zs az)
+              ∙ sym (ap (put_by_number x) (in_front a z zs az) ∙ in_front x a (z ∷ zs) (omega arith))
         ]
+        | inr zx ↦ ap (put_by_number a) (behind x z zs zx) ∙ in_front a z (put_by_number x zs) az
+            ∙ sym (ap (put_by_number x) (in_front a z zs az) ∙ behind x a (z ∷ zs) (omega arith) ∙ ap (λ ds. a ∷ ds) (behind x z zs zx))
+      ]
       | inr za ↦ elim (cases_lt x.number z.number) [
-          | inl xz ↦ ap (put_by_number a) (in_front x z zs xz) ∙ behind a x (z ∷ zs) (omega arith) ∙ ap (λ ds. x ∷ ds) (behind a z zs za)
-              ∙ sym (ap (put_by_number x) (behind a z zs za) ∙ in_front x z (put_by_number a zs) xz)
-          | inr zx ↦ ap (put_by_number a) (behind x z zs zx) ∙ behind a z (put_by_number x zs) za
-              ∙ ap (λ ds. z ∷ ds) (swapped a x zs differ)
-              ∙ sym (ap (put_by_number x) (behind a z zs za) ∙ behind x z (put_by_number a zs) zx)
-        ]
+        | inl xz ↦ ap (put_by_number a) (in_front x z zs xz) ∙ behind a x (z ∷ zs) (omega arith) ∙ ap (λ ds. x ∷ ds) (behind a z zs za)
+            ∙ sym (ap (put_by_number x) (behind a z zs za) ∙ in_front x z (put_by_number a zs) xz)
+        | inr zx ↦ ap (put_by_number a) (behind x z zs zx) ∙ behind a z (put_by_number x zs) za
+            ∙ ap (λ ds. z ∷ ds) (swapped a x zs differ)
+            ∙ sym (ap (put_by_number x) (behind a z zs za) ∙ behind x z (put_by_number a zs) zx)
+      ]
     ]
 
 -- a claim in the middle is put where one in front is
@@ -124,9 +124,9 @@ by_number_same (x ∷ xs) ys all sums =
     let found : Has ys x = first_found same_claim claim_tells x xs ys sums in
     let rest = rest_sums x xs ys found sums in
     let none : NoneHas x.number found.before =
-        (let moved = rest (one (has_number x.number)) in
-        let sum = sum_by-append (one (has_number x.number)) found.before found.after in
-        let zero = all.0 in omega arith) in
+    (let moved = rest (one (has_number x.number)) in
+    let sum = sum_by-append (one (has_number x.number)) found.before found.after in
+    let zero = all.0 in omega arith) in
     ap (put_by_number x) (by_number_same xs (found.before ++ found.after) all.1 rest)
     ∙ sym (put_middle x found.before found.after none)
     ∙ ap by_number (sym found.is)
@@ -172,9 +172,9 @@ put_ascends x [] up = (All-nil (λ y. x.number ≤ y.number), tt)
 put_ascends x (y ∷ ys) up =
     elim (cases_lt x.number y.number) [
       | inl lt ↦ rw (in_front x y ys lt) (
-          All-cons (λ z. x.number ≤ z.number) y ys (omega arith) (All-weaker (λ z. y.number ≤ z.number) (λ z. x.number ≤ z.number) (λ z le. omega arith) ys up.0),
-          up,
-        )
+        All-cons (λ z. x.number ≤ z.number) y ys (omega arith) (All-weaker (λ z. y.number ≤ z.number) (λ z. x.number ≤ z.number) (λ z le. omega arith) ys up.0),
+        up,
+      )
       | inr le ↦ rw (behind x y ys le) (put_all y.number x ys le up.0, put_ascends x ys up.1)
     ]
 

@@ -28,7 +28,7 @@ pub owned_claims : OwnedClaimsAreFirst
 owned_claims opening owners dealt made distinct below moved least_is =
     let on_dealt : AreLeast opening dealt owners = λ key. (least_is key ∙ sym (least_moved (opening key) key dealt made moved)) in
     sym (by_number_same (filter (is_owned owners) dealt) (filter (is_owned owners) made)
-      (apart_filter (is_owned owners) dealt (apart dealt distinct)) (filter_sums (is_owned owners) dealt made (sums_moved dealt made moved)))
+    (apart_filter (is_owned owners) dealt (apart dealt distinct)) (filter_sums (is_owned owners) dealt made (sums_moved dealt made moved)))
     ∙ ap by_number (agree_on (is_owned owners) (is_first opening dealt) dealt (owned_first opening owners dealt below on_dealt))
 
 -- lists and hands are empty
@@ -79,21 +79,21 @@ ends : (owners : List Claim) (pieces : List Piece) (workers : ℕ) (final : Stat
 ends owners pieces workers final claims distinct below some makes spent =
     let fin : List Piece = finished_pieces final in
     let same : SameSums pieces fin = λ h.
-      (sym (opening_weight h owners pieces workers some) ∙ sym (makes.pieces h) ∙ all_finished h final.workers spent) in
+    (sym (opening_weight h owners pieces workers some) ∙ sym (makes.pieces h) ∙ all_finished h final.workers spent) in
     let claims_fin : SameSums (claims_of pieces) (claims_of fin) = claims_same pieces fin same in
     let claims_made : SameSums (claims_of pieces) claims = λ f.
-      (let none = opening_made f owners pieces workers in
-      let made = makes.made f in
-      let all = all_claimed f final.workers spent in
-      let flat = sum_flat (λ (piece : Piece). piece) f fin in
-      let both = claims_fin f in
-      omega arith) in
+    (let none = opening_made f owners pieces workers in
+    let made = makes.made f in
+    let all = all_claimed f final.workers spent in
+    let flat = sum_flat (λ (piece : Piece). piece) f fin in
+    let both = claims_fin f in
+    omega arith) in
     let to_fin = moved_from_sums same_claim claim_tells (claims_of pieces) (claims_of fin) claims_fin in
     let to_made = moved_from_sums same_claim claim_tells (claims_of pieces) claims claims_made in
     let least_is : AreLeast (owner owners) (claims_of pieces) (owner final.owners) = λ key.
-      (makes.owners key
-      ∙ ap (λ os. least (owner os key) (numbers_of key claims)) (opening_owners owners pieces workers)
-      ∙ sym (least_moved (owner owners key) key (claims_of pieces) claims to_made)) in
+    (makes.owners key
+    ∙ ap (λ os. least (owner os key) (numbers_of key claims)) (opening_owners owners pieces workers)
+    ∙ sym (least_moved (owner owners key) key (claims_of pieces) claims to_made)) in
     record {
       each_once = moved_from_sums same_piece piece_tells pieces fin same;
       least = least_is;

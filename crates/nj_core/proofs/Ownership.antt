@@ -86,13 +86,13 @@ pub least_moved : (opening : Option ℕ) (key : ℕ) (xs ys : List Claim) → Is
     → least opening (numbers_of key xs) ≡ least opening (numbers_of key ys)
 least_moved opening key xs ys moved =
     same_owner (least opening (numbers_of key xs)) (least opening (numbers_of key ys)) (λ most.
-      least_passes (λ n. leb n most) (at_most_falls most) opening (numbers_of key xs)
-      ∙ ap (λ b. passes (λ n. leb n most) opening || b) (
-        any_number (λ n. leb n most) key xs
-        ∙ list_any-IsPermutation (λ c. leb c.number most && eqb c.key key) xs ys moved
-        ∙ sym (any_number (λ n. leb n most) key ys)
-      )
-      ∙ sym (least_passes (λ n. leb n most) (at_most_falls most) opening (numbers_of key ys))
+    least_passes (λ n. leb n most) (at_most_falls most) opening (numbers_of key xs)
+    ∙ ap (λ b. passes (λ n. leb n most) opening || b) (
+    any_number (λ n. leb n most) key xs
+    ∙ list_any-IsPermutation (λ c. leb c.number most && eqb c.key key) xs ys moved
+    ∙ sym (any_number (λ n. leb n most) key ys)
+    )
+    ∙ sym (least_passes (λ n. leb n most) (at_most_falls most) opening (numbers_of key ys))
     )
 
 -- an owner is a number where it is at most that and not below it
@@ -128,16 +128,16 @@ owned_first opening owners claims below least_is k d lt =
     let n : ℕ = claim.number in
     let numbers : List ℕ = numbers_of claim.key claims in
     let there : list_any (λ m. leb m n) numbers ≡ true =
-        any_number (λ m. leb m n) claim.key claims
-        ∙ any_at (λ c. leb c.number n && eqb c.key claim.key) claims k d lt
-            (ap (λ b. b && eqb claim.key claim.key) (le-leb n n (omega arith)) ∙ eq-eqb claim.key claim.key refl) in
+    any_number (λ m. leb m n) claim.key claims
+    ∙ any_at (λ c. leb c.number n && eqb c.key claim.key) claims k d lt
+    (ap (λ b. b && eqb claim.key claim.key) (le-leb n n (omega arith)) ∙ eq-eqb claim.key claim.key refl) in
     ap (λ (r : Option ℕ). is_number r n) (least_is claim.key)
     ∙ number_between (least o numbers) n
     ∙ ap (λ b. b && not (passes (λ m. ltb m n) (least o numbers)))
-        (least_passes (λ m. leb m n) (at_most_falls n) o numbers ∙ ap (λ b. passes (λ m. leb m n) o || b) there ∙ or_right (passes (λ m. leb m n) o) true refl)
+    (least_passes (λ m. leb m n) (at_most_falls n) o numbers ∙ ap (λ b. passes (λ m. leb m n) o || b) there ∙ or_right (passes (λ m. leb m n) o) true refl)
     ∙ ap not (least_passes (λ m. ltb m n) (below_falls n) o numbers
-        ∙ ap (λ b. b || list_any (λ m. ltb m n) numbers) (below_or_none o n (below_one o claims k d lt (below claim.key)))
-        ∙ ap (λ b. is_some o || b) (any_number (λ m. ltb m n) claim.key claims))
+    ∙ ap (λ b. b || list_any (λ m. ltb m n) numbers) (below_or_none o n (below_one o claims k d lt (below claim.key)))
+    ∙ ap (λ b. is_some o || b) (any_number (λ m. ltb m n) claim.key claims))
     ∙ neither (is_some o) (list_any (λ c. ltb c.number n && eqb c.key claim.key) claims)
 
 owner_if : (b : Bool) (xs ys : List Claim) (key : ℕ) → owner (if b then xs else ys) key ≡ (if b then owner xs key else owner ys key)
@@ -163,9 +163,9 @@ takes_lesser claim [] key = refl
 takes_lesser claim (e ∷ es) key =
     owner_if (eqb e.key claim.key) (record { key = e.key; number = min e.number claim.number } ∷ es) (e ∷ claimed claim es) key
     ∙ three_tests (eqb e.key claim.key) (eqb e.key key) (eqb claim.key key) e.number claim.number (owner es key) (owner (claimed claim es) key)
-        (λ is. ap (λ k. eqb k key) (eqb-true e.key claim.key is))
-        (λ is same. ne_eqb claim.key key (λ h. eqb-false e.key claim.key is (eqb-true e.key key same ∙ sym h)))
-        (takes_lesser claim es key)
+    (λ is. ap (λ k. eqb k key) (eqb-true e.key claim.key is))
+    (λ is same. ne_eqb claim.key key (λ h. eqb-false e.key claim.key is (eqb-true e.key key same ∙ sym h)))
+    (takes_lesser claim es key)
 
 lesser_le : (o : Option ℕ) (n : ℕ) → lesser o n ≤ n
 lesser_le None n = omega arith
@@ -188,9 +188,9 @@ attained_more : (o : Option ℕ) (n : ℕ) (ns : List ℕ) (r : ℕ) → (Some (
 attained_more o n ns r is =
     elim is [
       | inl e ↦ elim (lesser_is o n r (same_Some (lesser o n) r e)) [
-          | inl there ↦ inl there
-          | inr first ↦ inr (0, omega arith, first)
-        ]
+        | inl there ↦ inl there
+        | inr first ↦ inr (0, omega arith, first)
+      ]
       | inr c ↦ inr (suc c.0, omega arith, c.2)
     ]
 
@@ -235,6 +235,7 @@ one_least opening numbers (Some a) (Some b) x y =
 
 -- and nothing else is
 pub least_law : LeastIsTheLeast
-least_law opening numbers owner =
-    (λ is. one_least opening numbers owner (least opening numbers) is (least_least opening numbers),
-    λ is. subst (IsLeast opening numbers) (sym is) (least_least opening numbers))
+least_law opening numbers owner = (
+  λ is. one_least opening numbers owner (least opening numbers) is (least_least opening numbers),
+  λ is. subst (IsLeast opening numbers) (sym is) (least_least opening numbers),
+)

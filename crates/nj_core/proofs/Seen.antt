@@ -37,10 +37,10 @@ finish_set false workers w d new lt is = ap (set workers w) is ∙ set-get_or wo
 finish_set true workers w d new lt is =
     go (done_piece (get_or workers w d)) is
     ∙ ap (λ o. unwrap_or (option_map (λ piece. changed (finishing piece) w workers) o) workers) (sym (read_at done_piece workers w d lt)) where
-  go : (o : Option Piece) → new ≡ unwrap_or (option_map (λ piece. finishing piece (get_or workers w d)) o) (get_or workers w d)
-      → set workers w new ≡ unwrap_or (option_map (λ piece. changed (finishing piece) w workers) o) workers
-  go None is = ap (set workers w) is ∙ set-get_or workers w d
-  go (Some piece) is = set_changed (finishing piece) workers w d new lt is
+      go : (o : Option Piece) → new ≡ unwrap_or (option_map (λ piece. finishing piece (get_or workers w d)) o) (get_or workers w d)
+          → set workers w new ≡ unwrap_or (option_map (λ piece. changed (finishing piece) w workers) o) workers
+      go None is = ap (set workers w) is ∙ set-get_or workers w d
+      go (Some piece) is = set_changed (finishing piece) workers w d new lt is
 
 no_first : (pieces : List Piece) → slice_get pieces 0 ≡ None → pieces ≡ drop 1 pieces
 no_first [] none = refl

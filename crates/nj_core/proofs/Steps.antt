@@ -132,14 +132,14 @@ among state workers = record state { workers = workers }
 taken_makes : (w v : ℕ) (start end : State) → with_workers start (taken w v start.workers) ≡ Some end → Makes start end []
 taken_makes w v start end is =
     go (is_idle (slice_get start.workers w)) refl (option_and_then first_piece (slice_get start.workers v)) refl is where
-  go : (b : Bool) → is_idle (slice_get start.workers w) ≡ b → (o : Option Piece) → option_and_then first_piece (slice_get start.workers v) ≡ o
-      → with_workers start (if b then option_map (λ piece. changed (holding piece) w (changed without_first v start.workers)) o else None) ≡ Some end → Makes start end []
-  go false idle o first is = absurd (cc)
-  go true idle None first is = absurd (cc)
-  go true idle (Some piece) first is =
-      subst (λ (s : State). Makes start s []) (same_Some (among start (changed (holding piece) w (changed without_first v start.workers))) end is)
-      (no_claims start (among start (changed (holding piece) w (changed without_first v start.workers)))
-        (λ h. take_pieces h start.workers w v piece idle first) (λ f. take_made f start.workers w v piece idle) refl)
+      go : (b : Bool) → is_idle (slice_get start.workers w) ≡ b → (o : Option Piece) → option_and_then first_piece (slice_get start.workers v) ≡ o
+          → with_workers start (if b then option_map (λ piece. changed (holding piece) w (changed without_first v start.workers)) o else None) ≡ Some end → Makes start end []
+      go false idle o first is = absurd (cc)
+      go true idle None first is = absurd (cc)
+      go true idle (Some piece) first is =
+          subst (λ (s : State). Makes start s []) (same_Some (among start (changed (holding piece) w (changed without_first v start.workers))) end is)
+          (no_claims start (among start (changed (holding piece) w (changed without_first v start.workers)))
+          (λ h. take_pieces h start.workers w v piece idle first) (λ f. take_made f start.workers w v piece idle) refl)
 
 -- the piece of a hand that has no claim at its place
 done_hand : (hand : Option Hand) (piece : Piece)
@@ -172,7 +172,7 @@ finish_made : (f : Claim → ℕ) (worker : WorkerState) (piece : Piece) → don
 finish_made f worker piece is =
     let done = done_hand worker.hand piece is in
     let held : made_in_hand f worker.hand ≡ sum_by f piece =
-        ap (made_in_hand f) done.1 ∙ ap (sum_by f) (all_made done.0.piece done.0.place done.3 ∙ done.2) in
+    ap (made_in_hand f) done.1 ∙ ap (sum_by f) (all_made done.0.piece done.0.place done.3 ∙ done.2) in
     let more = sum_by_push (sum_by f) worker.finished piece in
     omega arith
 
@@ -190,15 +190,15 @@ finished_makes w start end is = go (option_and_then done_piece (slice_get start.
       let worker = was_read done_piece (slice_get start.workers w) piece read in
       subst (λ (s : State). Makes start s []) (same_Some (among start (changed (finishing piece) w start.workers)) end is)
       (no_claims start (among start (changed (finishing piece) w start.workers))
-        (λ h. change_kept (weigh h) (finishing piece) start.workers w worker.0 worker.1 (finish_pieces h worker.0 piece worker.2))
-        (λ f. change_kept (made_by f) (finishing piece) start.workers w worker.0 worker.1 (finish_made f worker.0 piece worker.2)) refl)
+      (λ h. change_kept (weigh h) (finishing piece) start.workers w worker.0 worker.1 (finish_pieces h worker.0 piece worker.2))
+      (λ f. change_kept (made_by f) (finishing piece) start.workers w worker.0 worker.1 (finish_made f worker.0 piece worker.2)) refl)
 
 claim_pieces : (h : Piece → ℕ) (worker : WorkerState) → weigh h (moved_on worker) ≡ weigh h worker
 claim_pieces h worker =
     ap (λ n. sum_by h worker.waiting + n + sum_by h worker.finished) (go worker.hand) where
-  go : (hand : Option Hand) → in_hand h (option_map next_place hand) ≡ in_hand h hand
-  go None = refl
-  go (Some hand) = refl
+      go : (hand : Option Hand) → in_hand h (option_map next_place hand) ≡ in_hand h hand
+      go None = refl
+      go (Some hand) = refl
 
 -- one claim more is made of a hand
 claim_made : (f : Claim → ℕ) (worker : WorkerState) (claim : Claim) → next_claim worker ≡ Some claim
@@ -206,12 +206,12 @@ claim_made : (f : Claim → ℕ) (worker : WorkerState) (claim : Claim) → next
 claim_made f worker claim is =
     let more : made_in_hand f (option_map next_place worker.hand) ≡ made_in_hand f worker.hand + f claim = go worker.hand is in
     omega arith where
-  go : (hand : Option Hand) → option_and_then (λ (h : Hand). slice_get h.piece h.place) hand ≡ Some claim
-      → made_in_hand f (option_map next_place hand) ≡ made_in_hand f hand + f claim
-  go None is = absurd (cc)
-  go (Some hand) is =
-      sum_by_more f hand.piece hand.place claim (slice_get_within hand.piece hand.place claim is)
-      ∙ ap (λ c. sum_by f (take hand.place hand.piece) + f c) (get_or_from_slice_get hand.piece hand.place claim claim is)
+      go : (hand : Option Hand) → option_and_then (λ (h : Hand). slice_get h.piece h.place) hand ≡ Some claim
+          → made_in_hand f (option_map next_place hand) ≡ made_in_hand f hand + f claim
+      go None is = absurd (cc)
+      go (Some hand) is =
+          sum_by_more f hand.piece hand.place claim (slice_get_within hand.piece hand.place claim is)
+          ∙ ap (λ c. sum_by f (take hand.place hand.piece) + f c) (get_or_from_slice_get hand.piece hand.place claim claim is)
 
 one_claim : (f : Claim → ℕ) (claim : Claim) → sum_by f (claim ∷ []) ≡ f claim
 one_claim f claim = sum_by-cons f claim [] ∙ add-zero (f claim)
@@ -233,17 +233,19 @@ claim_makes w start end is = go (option_and_then next_claim (slice_get start.wor
   go None read is = absurd (cc)
   go (Some claim) read is =
       let worker = was_read next_claim (slice_get start.workers w) claim read in
-      let after : State = record { workers = changed moved_on w start.workers; owners = claimed claim start.owners } in
-      (claim ∷ [], subst (λ (s : State). Makes start s (claim ∷ [])) (same_Some after end is) (record {
-        pieces = λ h. sum_kept (weigh h) moved_on start.workers w (claim_pieces h);
-        made = λ f. (
-          let sum = sum_changed (made_by f) moved_on start.workers w worker.0 worker.1 in
-          let more = claim_made f worker.0 claim worker.2 in
-          let one = one_claim f claim in
-          omega arith
-        );
-        owners = claim_least claim start.owners;
-      }))
+      let after : State = record { workers = changed moved_on w start.workers; owners = claimed claim start.owners } in (
+        claim ∷ [],
+        subst (λ (s : State). Makes start s (claim ∷ [])) (same_Some after end is) (record {
+          pieces = λ h. sum_kept (weigh h) moved_on start.workers w (claim_pieces h);
+          made = λ f. (
+              let sum = sum_changed (made_by f) moved_on start.workers w worker.0 worker.1 in
+              let more = claim_made f worker.0 claim worker.2 in
+              let one = one_claim f claim in
+              omega arith
+              );
+          owners = claim_least claim start.owners;
+        }),
+      )
 
 steal_makes : (w v : ℕ) (start end : State) (same : Bool) → (if same then None else with_workers start (taken w v start.workers)) ≡ Some end → Makes start end []
 steal_makes w v start end true is = absurd (cc)

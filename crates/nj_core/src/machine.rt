@@ -27,11 +27,7 @@ impl Model for Core {
 
 impl Core {
     /// The machine before the first event: piece p is in the list of worker p mod `workers`, and no key has an owner.
-    pub fn new(
-        alloc: Global,
-        pieces: Vec<Vec<Claim>>,
-        workers: u32,
-    ) -> Result<Core, AllocError>
+    pub fn new(alloc: Global, pieces: Vec<Vec<Claim>>, workers: u32) -> Result<Core, AllocError>
         requires { 1 ≤ workers }
         ensures { IfOk result (λ core. core ≡ opening [] (map (λ piece. piece.items) pieces.items) workers) }
     {
@@ -203,4 +199,54 @@ fn place_of(owners: &[Claim], key: u64) -> Option<usize>
     ensures { result ≡ position (of_key key) owners.now }
 {
     owners.iter().position(|owner| owner.key == key)
+}
+
+#[cfg(test)]
+mod tests {
+    use super::*;
+    use std::test::Fail;
+
+    // Three pieces: two claims, one claim of the first one's key, and none.
+    fn three_pieces(alloc: Global) -> Result<Vec<Vec<Claim>>, AllocError> {
+        let first = Claim { key: 7, number: 10 };
+        let second = Claim { key: 8, number: 11 };
+        let again = Claim { key: 7, number: 12 };
+        let two = vec![in alloc; first, second]?;
+        let one = vec![in alloc; again]?;
+        let mut pieces = Vec::new(alloc);
+        pieces.push(two)?;
+        pieces.push(one)?;
+        pieces.push(Vec::new(alloc))?;
+        Ok(pieces)
+    }
+
+    #[test]
+    fn two_workers_finish_three_pieces(rt: HostRuntime) -> Result<(), Fail> {
+        let mut core = Core::new(rt.alloc(), three_pieces(rt.alloc())?, 2)?;
+        let events = [
+            (Event::ClaimNext { w: 1 }, Applied::NotEnabled),
+            (Event::Pop { w: 1 }, Applied::Done),
+            (Event::ClaimNext { w: 1 }, Applied::Done),
+            (Event::Finish { w: 1 }, Applied::Done),
+            (Event::Steal { w: 1, v: 1 }, Applied::NotEnabled),
+            (Event::Steal { w: 1, v: 0 }, Applied::Done),
+            (Event::Pop { w: 0 }, Applied::Done),
+            (Event::ClaimNext { w: 0 }, Applied::NotEnabled),
+            (Event::Finish { w: 0 }, Applied::Done),
+            (Event::ClaimNext { w: 1 }, Applied::Done),
+            (Event::Finish { w: 1 }, Applied::NotEnabled),
+            (Event::ClaimNext { w: 1 }, Applied::Done),
+            (Event::Finish { w: 1 }, Applied::Done),
+            (Event::Pop { w: 0 }, Applied::NotEnabled),
+            (Event::Steal { w: 0, v: 1 }, Applied::NotEnabled),
+            (Event::Steal { w: 0, v: 2 }, Applied::NotEnabled),
+            (Event::Pop { w: 2 }, Applied::NotEnabled),
+        ];
+        for (event, applied) in events {
+            assert_eq!(rt; core.apply(event)?, applied, "at {event:?}");
+        }
+        let owners = [Claim { key: 7, number: 10 }, Claim { key: 8, number: 11 }];
+        assert_eq!(rt; core.owners.as_slice(), owners.as_slice());
+        Ok(())
+    }
 }
