@@ -24,7 +24,7 @@ AClaimTakesTheLesser = (claim : Claim) (owners : List Claim) (key : ℕ)
     → owner (claimed claim owners) key
     ≡ (if claim.key == key then Some (lesser (owner owners key) claim.number) else owner owners key)
 
--- the least is attained, and above neither the opening owner nor any number
+-- an owner is the opening owner or one of the numbers, and above none of them; there is none where there is nothing
 abbrev pub IsLeast : Option ℕ → List ℕ → Option ℕ → Type 0
 IsLeast opening numbers None = (opening ≡ None) × (numbers ≡ [])
 IsLeast opening numbers (Some number) =
@@ -32,17 +32,18 @@ IsLeast opening numbers (Some number) =
     × IfSome opening (λ other. number ≤ other)
     × All (λ other. number ≤ other) numbers
 
--- and this it is alone
+-- the least is such an owner, and the only one
 abbrev pub LeastIsTheLeast : Type 0
 LeastIsTheLeast = (opening : Option ℕ) (numbers : List ℕ) (owner : Option ℕ)
     → IsLeast opening numbers owner ↔ (owner ≡ least opening numbers)
 
--- claims by rising number are the claims, their numbers do not fall, and claims whose numbers rise stay as they are
+-- a list has these claims, its numbers do not fall, and it is the same list where their numbers rise
 pub record AreRising (claims sorted : List Claim) : Type 0 where
   pub moved : IsPermutation claims sorted
   pub rising : AllPairs (λ a b. a.number ≤ b.number) sorted
   pub stays : AllPairs (λ a b. a.number < b.number) claims → sorted ≡ claims
 
+-- so is the list of claims by rising number
 abbrev pub ByNumberIsRising : Type 0
 ByNumberIsRising = (claims : List Claim) → AreRising claims (by_number claims)
 

@@ -13,5 +13,5 @@ returns-in_ok-push-in-None c =
 pub returns-in-Some : goal.returns-in-Some
 returns-in-Some c =
     let found : c.place_of.result ≡ position (of_key c.args.claim.key) c.args.owners.now.items = search rules in
-    claim_old c.args.claim c.args.owners.now.items c.in-Some.place c.index_mut-owner.result.now c.min-owner.result
-    (sym found ∙ c.in-Some.is) c.index_mut-owner.ensures.value c.min-owner.ensures
+    claim_old c.args.claim c.args.owners.now.items c.in-Some.place c.index_mut-owner.result.now _
+    (sym found ∙ c.in-Some.is) c.index_mut-owner.ensures.value (search rules)
