@@ -1,12 +1,12 @@
 -- Lists by their counts: two lists over which each sum is the same have the same members, each as often.
-use Rattle.std.proofs.Common.{◌≡◌, ℕ, ◌+◌, ◌<◌, ◌≤◌, suc, Bool, true, false, cond, eqb, List, [], ◌∷◌, ◌++◌, length, refl, sym, ◌∙◌, ap, subst, zero-add, arith, if◌then◌else◌, ◌&&◌}
+use Rattle.std.proofs.Common.{◌≡◌, ℕ, ◌+◌, ◌<◌, Bool, true, false, cond, eqb, List, [], ◌∷◌, ◌++◌, refl, sym, ◌∙◌, ap, subst, zero-add, arith, if◌then◌else◌, ◌&&◌}
 use Rattle.std.specs.Prelude.{sum_by, filter, flat_map}
 use Rattle.std.specs.List.Sorted.{IsPermutation}
 use Rattle.std.proofs.lemmas.List.Sums.{sum_by-cons, sum_by-append}
 use Rattle.std.proofs.lemmas.List.Sorted.{IsPermutation-refl, IsPermutation-cons, IsPermutation-middle, IsPermutation-trans, IsPermutation-sym, sum_by-IsPermutation}
 use Rattle.std.proofs.lemmas.Bool.{eqb-true, eq-eqb}
 use Rattle.nj_core.specs.declared.claim.Claim.{Claim}
-use Rattle.nj_core.specs.Machine.{Piece, claims_of}
+use Rattle.nj_core.specs.Machine.{Piece}
 
 -- each sum over the members of both lists is the same
 abbrev pub SameSums : {X : Type 0} → List X → List X → Type 0

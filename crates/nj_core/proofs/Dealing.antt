@@ -1,5 +1,5 @@
 -- Pieces dealt one by one, each to the worker whose number is its place mod the number of workers.
-use Rattle.std.proofs.Common.{◌≡◌, ◌≢◌, ℕ, ◌+◌, ◌%◌, ◌<◌, ◌≤◌, Bool, true, false, cond, eqb, List, [], ◌∷◌, ◌++◌, length, get_or, set, refl, sym, ◌∙◌, ap, inl, inr, arith, if◌then◌else◌}
+use Rattle.std.proofs.Common.{◌≡◌, ◌≢◌, ℕ, ◌+◌, ◌%◌, ◌<◌, Bool, true, false, cond, eqb, List, [], ◌∷◌, ◌++◌, length, get_or, set, refl, sym, ◌∙◌, ap, inl, inr, arith, if◌then◌else◌}
 use Rattle.std.specs.Prelude.{filter, map}
 use Rattle.std.specs.List.{enumerate_from, range_with_len}
 use Rattle.std.proofs.lemmas.List.{same_lists, length-set, get_or-set_same, get_or-set_other, map-append, map-id, append-nil}
@@ -7,7 +7,7 @@ use Rattle.std.proofs.lemmas.List.Elements.{filter-append}
 use Rattle.std.proofs.lemmas.List.FromFn.{length-map-range_with_len, get_or-map-range_with_len}
 use Rattle.std.proofs.lemmas.Bool.{cases_eq, eq-eqb, ne_eqb}
 use Rattle.nj_core.specs.declared.claim.Claim.{Claim}
-use Rattle.nj_core.specs.Machine.{Piece, WorkerState, State, dealt_to, beginning, opening}
+use Rattle.nj_core.specs.Machine.{Piece, WorkerState, dealt_to, beginning, opening}
 
 module _ {V : Type 0} (items : V → Piece) (n : ℕ) where
   -- whether an entry is for worker w

@@ -1,11 +1,11 @@
 -- The opening state has each dealt piece once: piece p is in the list of one worker, and no claim is made.
-use Rattle.std.proofs.Common.{◌≡◌, ◌≢◌, ℕ, zero, suc, ◌+◌, ◌%◌, ◌<◌, ◌≤◌, Bool, true, false, cond, eqb, List, [], ◌∷◌, ◌++◌, refl, sym, ◌∙◌, ap, zero-add, add-zero, inl, inr, arith, if◌then◌else◌}
+use Rattle.std.proofs.Common.{◌≡◌, ◌≢◌, ℕ, zero, suc, ◌+◌, ◌%◌, ◌<◌, ◌≤◌, Bool, true, false, cond, eqb, List, [], ◌∷◌, refl, sym, ◌∙◌, ap, zero-add, inl, inr, arith, if◌then◌else◌}
 use Rattle.std.specs.Prelude.{sum_by, filter, map}
 use Rattle.std.specs.List.{enumerate_from, range_with_len}
 use Rattle.std.proofs.lemmas.List.Sums.{sum_by-cons}
 use Rattle.std.proofs.lemmas.Bool.{cases_eq, eq-eqb, ne_eqb}
 use Rattle.nj_core.specs.declared.claim.Claim.{Claim}
-use Rattle.nj_core.specs.Machine.{Piece, WorkerState, State, dealt_to, beginning, opening}
+use Rattle.nj_core.specs.Machine.{Piece, dealt_to, beginning, opening}
 use Rattle.nj_core.proofs.Steps.{weigh, made_by}
 
 sum_map : {X Y : Type 0} (f : Y → ℕ) (g : X → Y) (xs : List X) → sum_by f (map g xs) ≡ sum_by (λ x. f (g x)) xs

@@ -1,13 +1,11 @@
 -- Every order of events ends as one thread would.
-use Rattle.std.proofs.Common.{◌≡◌, ℕ, suc, ◌+◌, ◌<◌, ◌≤◌, Bool, cond, List, [], ◌∷◌, ◌++◌, refl, sym, ◌∙◌, ap, arith, Option, None, if◌then◌else◌}
+use Rattle.std.proofs.Common.{◌≡◌, ℕ, ◌≤◌, Bool, cond, List, [], ◌∷◌, refl, sym, ◌∙◌, ap, arith, None}
 use Rattle.std.specs.Prelude.{sum_by, filter, flat_map, All}
-use Rattle.std.specs.List.Sorted.{IsPermutation}
 use Rattle.std.proofs.lemmas.List.Sums.{sum_by-cons, sum_by-append}
 use Rattle.std.proofs.lemmas.List.Elements.{All-head, All-tail}
 use Rattle.nj_core.specs.declared.claim.Claim.{Claim}
-use Rattle.nj_core.specs.declared.event.Event.{Event}
 use Rattle.nj_core.specs.Owners.{owner, least, numbers_of, is_owned, is_first, by_number}
-use Rattle.nj_core.specs.Machine.{Piece, WorkerState, State, Runs, opening, IsSpent, finished_pieces, claims_of}
+use Rattle.nj_core.specs.Machine.{Piece, WorkerState, State, opening, IsSpent, finished_pieces, claims_of}
 use Rattle.nj_core.specs.Laws.{HaveDistinctNumbers, AreBelow, AreLeast, OwnedClaimsAreFirst, IsOneThread, AnyOrderIsOneThread}
 use Rattle.nj_core.proofs.Counts.{SameSums, sums_moved, moved_from_sums, same_claim, claim_tells, same_piece, piece_tells, sum_flat, filter_sums}
 use Rattle.nj_core.proofs.Numbers.{apart, apart_filter, by_number_same}

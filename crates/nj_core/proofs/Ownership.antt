@@ -1,17 +1,17 @@
 -- The least of an opening owner and numbers: it does not depend on their order, and it is a claim's number exactly
 -- where the claim is the first of a new key.
-use Rattle.std.proofs.Common.{◌≡◌, ◌≢◌, ◌⊎◌, ℕ, zero, suc, ◌+◌, ◌<◌, ◌≤◌, min, Bool, true, false, cond, not, ◌&&◌, ◌||◌, eqb, ltb, leb, List, [], ◌∷◌, length, get_or, refl, sym, ◌∙◌, ap, subst, inl, inr, ⊎_elim, arith, if◌then◌else◌, Option, Some, None, is_some, is_none}
-use Rattle.std.specs.Prelude.{filter, map, All, Contains, IfSome, ◌↔◌}
+use Rattle.std.proofs.Common.{◌≡◌, ◌⊎◌, ℕ, zero, suc, ◌<◌, ◌≤◌, min, Bool, true, false, cond, not, ◌&&◌, ◌||◌, eqb, ltb, leb, List, [], ◌∷◌, length, get_or, refl, sym, ◌∙◌, ap, subst, inl, inr, arith, if◌then◌else◌, Option, Some, None, is_some}
+use Rattle.std.specs.Prelude.{filter, map, All, Contains, IfSome}
 use Rattle.std.specs.List.{list_any}
 use Rattle.std.specs.List.Sorted.{IsPermutation}
 use Rattle.std.proofs.lemmas.List.Sorted.{list_any-IsPermutation}
-use Rattle.std.proofs.lemmas.List.Elements.{All-nil, All-cons, All-head, All-tail, All-contains}
-use Rattle.std.proofs.lemmas.Bool.{cases_lt, cases_eq, lt-ltb, le-ltb, le-leb, lt-leb, leb-true, eqb-true, eqb-false, ne_eqb, eq-eqb, or_right}
+use Rattle.std.proofs.lemmas.List.Elements.{All-nil, All-cons, All-contains}
+use Rattle.std.proofs.lemmas.Bool.{cases_lt, lt-ltb, le-leb, leb-true, eqb-true, eqb-false, ne_eqb, eq-eqb, or_right}
 use Rattle.std.proofs.lemmas.Bool.Decides.{nat_tests}
 use Rattle.std.proofs.lemmas.Option.{same_Some, MatchOption-at_some}
 use Rattle.nj_core.specs.declared.claim.Claim.{Claim}
-use Rattle.nj_core.specs.Owners.{owner, lesser, claimed, least, numbers_of, is_number, is_owned, is_first}
-use Rattle.nj_core.specs.Laws.{AreBelow, AreLeast, IsLeast, AClaimTakesTheLesser, LeastIsTheLeast, OwnedIsFirst}
+use Rattle.nj_core.specs.Owners.{owner, lesser, claimed, least, numbers_of, is_number}
+use Rattle.nj_core.specs.Laws.{IsLeast, AClaimTakesTheLesser, LeastIsTheLeast, OwnedIsFirst}
 
 -- whether there is an owner and it passes the test
 abbrev passes : (ℕ → Bool) → Option ℕ → Bool

@@ -1,5 +1,5 @@
 -- What the machine's code does to its lists, as the definitions say it.
-use Rattle.std.proofs.Common.{◌≡◌, ℕ, zero, suc, ◌+◌, ◌<◌, ◌≤◌, min, Bool, true, false, cond, eqb, ltb, List, [], ◌∷◌, ◌++◌, length, get_or, set, take, drop, refl, sym, ◌∙◌, ap, subst, arith, if◌then◌else◌, Option, Some, None}
+use Rattle.std.proofs.Common.{◌≡◌, ℕ, zero, suc, ◌<◌, ◌≤◌, min, Bool, true, false, cond, ltb, List, [], ◌∷◌, ◌++◌, length, get_or, set, drop, refl, sym, ◌∙◌, ap, arith, if◌then◌else◌, Option, Some, None}
 use Rattle.std.specs.List.{position_or_len}
 use Rattle.std.proofs.lemmas.List.{set-get_or}
 use Rattle.std.proofs.lemmas.List.Sums.{fails_before_first}
@@ -9,7 +9,7 @@ use Rattle.std.proofs.lemmas.Option.{slice_get-get_or}
 use Rattle.std.specs.Prelude.{option_map, option_and_then, slice_get, unwrap_or, position}
 use Rattle.nj_core.specs.declared.claim.Claim.{Claim}
 use Rattle.nj_core.specs.Owners.{claimed, of_key}
-use Rattle.nj_core.specs.Machine.{Piece, WorkerState, State, is_idle, first_piece, done_piece, without_first, holding, finishing, changed, taken, finished_by, with_workers, answer}
+use Rattle.nj_core.specs.Machine.{Piece, WorkerState, is_idle, first_piece, done_piece, without_first, holding, finishing, changed, taken, finished_by}
 
 -- a member written is a member changed
 pub set_changed : {X : Type 0} (change : X → X) (xs : List X) (i : ℕ) (d new : X) → i < length xs → new ≡ change (get_or xs i d)

@@ -1,8 +1,8 @@
 -- What an event keeps: each weight of all pieces, in lists, hands and among the finished ones; and it makes no claim,
 -- or one, after which each key's owner is the least of its owner before and the claim's number.
-use Rattle.std.proofs.Common.{◌≡◌, ℕ, zero, suc, ◌+◌, ◌<◌, ◌≤◌, Bool, true, false, cond, eqb, List, [], ◌∷◌, ◌++◌, length, take, drop, get_or, refl, sym, ◌∙◌, ap, subst, zero-add, add-zero, arith, if◌then◌else◌, Option, Some, None, is_none, is_some}
-use Rattle.std.specs.Prelude.{sum_by, filter, map, flat_map, option_map, option_and_then, slice_get}
-use Rattle.std.proofs.lemmas.List.{take_all, take_more, append-nil, map-append}
+use Rattle.std.proofs.Common.{◌≡◌, ℕ, zero, suc, ◌+◌, Bool, true, false, cond, eqb, List, [], ◌∷◌, ◌++◌, take, drop, refl, sym, ◌∙◌, ap, subst, add-zero, arith, if◌then◌else◌, Option, Some, None, is_none}
+use Rattle.std.specs.Prelude.{sum_by, filter, map, option_map, option_and_then, slice_get}
+use Rattle.std.proofs.lemmas.List.{map-append}
 use Rattle.std.proofs.lemmas.List.Sums.{sum_by-cons, sum_by-append, sum_by_push, sum_by_more}
 use Rattle.std.proofs.lemmas.List.Elements.{filter-append}
 use Rattle.std.proofs.lemmas.Option.{same_Some, slice_get_within, get_or_from_slice_get}

@@ -1,5 +1,5 @@
 -- The laws: who owns a key does not depend on the order of the claims, and every order of events ends as one thread.
-use Rattle.std.specs.Prelude.{◌≡◌, ◌≢◌, ◌<◌, ◌≤◌, ◌⊎◌, ◌↔◌, ℕ, ◌==◌, List, [], ◌∷◌, filter, Option, None, Some, IfSome, All, AllPairs, Contains, if◌then◌else◌}
+use Rattle.std.specs.Prelude.{◌≡◌, ◌≢◌, ◌<◌, ◌≤◌, ◌⊎◌, ◌↔◌, ℕ, ◌==◌, List, [], filter, Option, None, Some, IfSome, All, AllPairs, Contains, if◌then◌else◌}
 use Rattle.std.specs.List.Sorted.{IsPermutation}
 use Rattle.nj_core.specs.declared.claim.Claim.{Claim}
 use Rattle.nj_core.specs.declared.event.Event.{Event}

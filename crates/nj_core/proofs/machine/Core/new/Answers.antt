@@ -1,5 +1,5 @@
 -- Each piece comes to its worker, and at the end all did.
-use Rattle.std.proofs.Common.{◌≡◌, ◌<◌, ℕ, Vec, Global, length, arith, ap, ◌∙◌}
+use Rattle.std.proofs.Common.{Vec, Global, length, arith, ap, ◌∙◌}
 use Rattle.std.proofs.lemmas.Iterator.Consumers.{YieldsList-end, YieldsList-from_enumerate}
 use Rattle.std.proofs.lemmas.Iterator.Adapters.{YieldsList-from_vec}
 use Rattle.nj_core.specs.declared.claim.Claim.{Claim}
