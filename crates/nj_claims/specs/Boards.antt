@@ -1,0 +1,27 @@
+-- What the steps of a claim ask of the table that they are on.
+use Rattle.std.specs.Prelude.{◌≡◌, ℕ, ◌+◌, ◌*◌, ◌^◌, ◌<◌, ◌≤◌, Option, Some, None, length}
+use Rattle.atomic_table.specs.Table.{Me}
+use Rattle.atomic_table.specs.Seated.{TableId}
+use Rattle.nj_claims.specs.declared.view.View.{View}
+use Rattle.nj_claims.specs.declared.view.Opening.{Opening}
+use Rattle.nj_claims.specs.declared.view.Flight.TheVariants.{Found}
+use Rattle.nj_claims.specs.Tables.{IsPlaced}
+use Rattle.nj_claims.specs.Rule.{Opens}
+use Rattle.nj_claims.specs.Steps.{with_flight, passed}
+
+-- the words of a table: two for each slot, and no slot of another kind
+pub record IsBoard (slots : ℕ) (opening : Opening) (id : TableId) : Type 0 where
+  pub as_opened : slots ≡ opening.slots
+  pub words : id.words ≡ 2 * opening.slots
+  pub none : id.slots ≡ 0
+  pub small : 2 * opening.slots < 2 ^ 64
+  pub some_slot : 0 < opening.slots
+
+-- an owner that the key had at most in the opening table
+abbrev pub HasFirst : ℕ → ℕ → Opening → Type 0
+HasFirst key most opening = (slot owner : ℕ) → Opens opening slot key owner → owner ≤ most
+
+-- a key was found in a slot, or all slots were passed
+abbrev pub IsFoundOrPassed : ℕ → ℕ → Me ℕ View → Me ℕ View → Option ℕ → Type 0
+IsFoundOrPassed slots key me me' (Some slot) = (me' ≡ (with_flight (Found key slot) me.0, me.1)) × (slot < slots)
+IsFoundOrPassed slots key me me' None = me' ≡ (passed slots key slots me.0, me.1)

@@ -1,0 +1,83 @@
+ghost use Rattle.std.specs.Prelude.{◌≡◌, ◌≢◌, ◌+◌, ◌*◌, ◌^◌, ◌<◌, ◌≤◌, true, length, replicate, IfOk, IsTrue, ◌↔◌, None};
+ghost use Rattle.nj_claims.specs.Tables.{IsTable, no_owner, owner_in, slot_count, entries_in};
+ghost use Rattle.nj_claims.specs.Places.{FitsSlot, IsFind};
+
+use std::alloc::{AllocError, Global};
+
+// The slot that holds the key: the first from its home that holds it or is empty. None where that slot is empty, or all
+// hold other keys.
+fn find(words: &[u64], slots: usize, key: u64) -> Option<usize>
+    requires slots { (0 < slots) × (2 * slots ≤ length words.now) }
+    requires key { key ≢ 0 }
+    ensures { IsFind slots words.now key result }
+{
+    let home = (key % slots as u64) as usize;
+    for distance in 0..slots {
+        let slot = (home + distance) % slots;
+        let held = words[2 * slot];
+        if held == key {
+            return Some(slot);
+        }
+        if held == 0 {
+            return None;
+        }
+    }
+    None
+}
+
+// Whether a slot is empty and has no owner, or its key stands in its place there.
+fn fits(words: &[u64], slots: usize, slot: usize) -> bool
+    requires slots { (0 < slots) × (2 * slots ≤ length words.now) × (slot < slots) }
+    ensures { IsTrue result ↔ FitsSlot slots words.now slot }
+{
+    let key = words[2 * slot];
+    if key == 0 {
+        words[2 * slot + 1] == u64::MAX
+    } else {
+        find(words, slots, key) == Some(slot)
+    }
+}
+
+/// Whether the words are a table: two for each of 2^k slots, with every key in its place.
+pub fn is_table(words: &[u64]) -> bool
+    ensures { IsTrue result ↔ IsTable words.now }
+{
+    if words.len() < 2 || !words.len().is_power_of_two() {
+        return false;
+    }
+    let slots = words.len() / 2;
+    for slot in 0..slots {
+        if !fits(words, slots, slot) {
+            return false;
+        }
+    }
+    true
+}
+
+/// The owner of a key.
+pub fn owner_of(words: &[u64], key: u64) -> Option<u64>
+    requires { IsTable words.now }
+    ensures { result ≡ owner_in words.now key }
+{
+    if key == 0 {
+        return None;
+    }
+    let slot = find(words, words.len() / 2, key)?;
+    Some(words[2 * slot + 1])
+}
+
+/// A table of 2^exponent empty slots.
+pub fn empty_table(alloc: Global, exponent: u32) -> Result<Vec<u64>, AllocError>
+    requires { (10 ≤ exponent) × (exponent ≤ 25) }
+    ensures table { IfOk result (λ words. IsTable words.items) }
+    ensures slots { IfOk result (λ words. slot_count words.items ≡ 2 ^ exponent) }
+    ensures empty { IfOk result (λ words. (key : _) → owner_in words.items key ≡ None) }
+{
+    let slots = 1_usize << exponent;
+    let mut words = Vec::with_capacity(alloc, 2 * slots)?;
+    for _ in 0..slots {
+        words.push(0)?;
+        words.push(u64::MAX)?;
+    }
+    Ok(words)
+}
