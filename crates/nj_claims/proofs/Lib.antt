@@ -1,1 +1,4 @@
 pub mod Slots
+pub mod Views
+pub mod Keeping
+pub mod Claiming

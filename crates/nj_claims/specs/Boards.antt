@@ -1,11 +1,12 @@
 -- What the steps of a claim ask of the table that they are on.
-use Rattle.std.specs.Prelude.{◌≡◌, ℕ, ◌+◌, ◌*◌, ◌^◌, ◌<◌, ◌≤◌, Option, Some, None, length}
+use Rattle.std.specs.Prelude.{◌≡◌, ℕ, ◌+◌, ◌*◌, ◌^◌, ◌<◌, ◌≤◌, ◌⊎◌, List, Option, Some, None, length}
+use Rattle.std.specs.Option.{unwrap_or}
 use Rattle.atomic_table.specs.Table.{Me}
 use Rattle.atomic_table.specs.Seated.{TableId}
 use Rattle.nj_claims.specs.declared.view.View.{View}
 use Rattle.nj_claims.specs.declared.view.Opening.{Opening}
 use Rattle.nj_claims.specs.declared.view.Flight.TheVariants.{Found}
-use Rattle.nj_claims.specs.Tables.{IsPlaced}
+use Rattle.nj_claims.specs.Tables.{no_owner, owner_in}
 use Rattle.nj_claims.specs.Rule.{Opens}
 use Rattle.nj_claims.specs.Steps.{with_flight, passed}
 
@@ -17,9 +18,13 @@ pub record IsBoard (slots : ℕ) (opening : Opening) (id : TableId) : Type 0 whe
   pub small : 2 * opening.slots < 2 ^ 64
   pub some_slot : 0 < opening.slots
 
--- an owner that the key had at most in the opening table
+-- an owner that the key has in the opening table, or none
 abbrev pub HasFirst : ℕ → ℕ → Opening → Type 0
-HasFirst key most opening = (slot owner : ℕ) → Opens opening slot key owner → owner ≤ most
+HasFirst key most opening = ((slot : ℕ) × Opens opening slot key most) ⊎ (most ≡ no_owner)
+
+-- the owner that words give to a key, or none
+abbrev pub first_owner : List ℕ → ℕ → ℕ
+first_owner words key = unwrap_or (owner_in words key) no_owner
 
 -- a key was found in a slot, or all slots were passed
 abbrev pub IsFoundOrPassed : ℕ → ℕ → Me ℕ View → Me ℕ View → Option ℕ → Type 0

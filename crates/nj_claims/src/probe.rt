@@ -1,8 +1,8 @@
 //! The atomic steps of a claim.
 ghost use Rattle.std.specs.Prelude.{◌≡◌, ◌≢◌, ℕ, ◌+◌, ◌*◌, ◌^◌, ◌<◌, min, None, Some, true};
 ghost use Rattle.nj_claims.specs.Tables.{slot_from, no_owner};
-ghost use Rattle.nj_claims.specs.Steps.{looking, probed, passed, with_flight, after_look, after_put, after_own, Owns};
-ghost use Rattle.nj_claims.specs.Boards.{IsBoard, HasFirst, IsFoundOrPassed};
+ghost use Rattle.nj_claims.specs.Steps.{looking, probed, passed, with_flight, after_look, after_put, Owns};
+ghost use Rattle.nj_claims.specs.Boards.{IsBoard, HasFirst, IsFoundOrPassed, first_owner};
 ghost use Rattle.nj_claims.specs.declared.view.Flight.TheVariants.{Found, Idle};
 
 use crate::plays::{Asked, Look, Own, Put};
@@ -18,6 +18,7 @@ fn look<C: Asked>(board: &Board, seat: &mut Seat<u64, View>, slot: usize) -> u64
     requires own { seat.old.table_id ≡ board.now.table_id }
     requires board { IsBoard C.slots board.now.key board.now.table_id }
     requires slot { (C.key ≢ 0) × (C.depth < C.slots) × (slot ≡ slot_from C.slots C.key C.depth) }
+    requires living { seat.old.me.0.living ≡ true }
     requires flight { seat.old.me.0.flight ≡ looking C.key C.depth }
     ensures same { (seat.new.table_id ≡ seat.old.table_id) × (seat.new.id ≡ seat.old.id) }
     ensures view { seat.new.me ≡ (after_look C.slots C.key C.depth result seat.old.me.0, seat.old.me.1) }
@@ -31,6 +32,7 @@ fn put<C: Asked>(board: &Board, seat: &mut Seat<u64, View>, slot: usize, key: u6
     requires board { IsBoard C.slots board.now.key board.now.table_id }
     requires key { C.key ≡ key }
     requires slot { (C.key ≢ 0) × (C.depth < C.slots) × (slot ≡ slot_from C.slots C.key C.depth) }
+    requires living { seat.old.me.0.living ≡ true }
     requires flight { seat.old.me.0.flight ≡ looking C.key C.depth }
     ensures same { (seat.new.table_id ≡ seat.old.table_id) × (seat.new.id ≡ seat.old.id) }
     ensures view { seat.new.me ≡ (after_put C.slots C.key C.depth result seat.old.me.0, seat.old.me.1) }
@@ -42,7 +44,9 @@ fn put<C: Asked>(board: &Board, seat: &mut Seat<u64, View>, slot: usize, key: u6
 fn own<C: Asked>(board: &Board, seat: &mut Seat<u64, View>, slot: usize, number: u64) -> u64
     requires own { seat.old.table_id ≡ board.now.table_id }
     requires board { IsBoard C.slots board.now.key board.now.table_id }
-    requires number { (C.number ≡ number) × (number < no_owner) × (number < 2 ^ 64) }
+    requires number { (C.number ≡ number) × (number < no_owner) }
+    requires slot { slot < C.slots }
+    requires living { seat.old.me.0.living ≡ true }
     requires found { seat.old.me.0.flight ≡ Found C.key slot }
     requires first { HasFirst C.key C.most board.now.key }
     ensures same { (seat.new.table_id ≡ seat.old.table_id) × (seat.new.id ≡ seat.old.id) }
@@ -56,6 +60,7 @@ fn probe(board: &Board, seat: &mut Seat<u64, View>, slot: usize, key: u64, depth
     requires own { seat.old.table_id ≡ board.now.table_id }
     requires board { IsBoard board.now.key.slots board.now.key board.now.table_id }
     requires slot { (key ≢ 0) × (depth < board.now.key.slots) × (slot ≡ slot_from board.now.key.slots key depth) }
+    requires living { seat.old.me.0.living ≡ true }
     requires flight { seat.old.me.0.flight ≡ looking key depth }
     ensures same { (seat.new.table_id ≡ seat.old.table_id) × (seat.new.id ≡ seat.old.id) }
     ensures view { seat.new.me ≡ (probed board.now.key.slots key depth result seat.old.me.0, seat.old.me.1) }
@@ -79,6 +84,7 @@ pub(crate) fn settle(
     requires own { seat.old.table_id ≡ board.now.table_id }
     requires board { IsBoard slots board.now.key board.now.table_id }
     requires key { key ≢ 0 }
+    requires living { seat.old.me.0.living ≡ true }
     requires idle { seat.old.me.0.flight ≡ Idle }
     ensures same { (seat.new.table_id ≡ seat.old.table_id) × (seat.new.id ≡ seat.old.id) }
     ensures view { IsFoundOrPassed slots key seat.old.me seat.new.me result }
@@ -104,9 +110,11 @@ pub(crate) fn lower(
     requires own { seat.old.table_id ≡ board.now.table_id }
     requires board { IsBoard board.now.key.slots board.now.key board.now.table_id }
     requires number { number < no_owner }
+    requires slot { slot < board.now.key.slots }
+    requires living { seat.old.me.0.living ≡ true }
     requires found { seat.old.me.0.flight ≡ Found key slot }
     ensures same { (seat.new.table_id ≡ seat.old.table_id) × (seat.new.id ≡ seat.old.id) }
-    ensures view { seat.new.me ≡ (after_own key number result seat.old.me.0, seat.old.me.1) }
+    ensures tells { Owns key number (first_owner board.now.key.words.items key) seat.old.me result seat.new.me }
 {
     own::<Brand>(board, seat, slot, number)
 }
