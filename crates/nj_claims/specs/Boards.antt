@@ -5,7 +5,8 @@ use Rattle.atomic_table.specs.Table.{Me}
 use Rattle.atomic_table.specs.Seated.{TableId}
 use Rattle.nj_claims.specs.declared.view.View.{View}
 use Rattle.nj_claims.specs.declared.view.Opening.{Opening}
-use Rattle.nj_claims.specs.declared.view.Flight.TheVariants.{Found}
+use Rattle.nj_claims.specs.declared.view.Flight.{Flight}
+use Rattle.nj_claims.specs.declared.view.Flight.TheVariants.{Idle, Looking, Found}
 use Rattle.nj_claims.specs.Tables.{no_owner, owner_in}
 use Rattle.nj_claims.specs.Rule.{Opens}
 use Rattle.nj_claims.specs.Steps.{with_flight, passed}
@@ -26,7 +27,18 @@ HasFirst key most opening = ((slot : ℕ) × Opens opening slot key most) ⊎ (m
 abbrev pub first_owner : List ℕ → ℕ → ℕ
 first_owner words key = unwrap_or (owner_in words key) no_owner
 
--- a key was found in a slot, or all slots were passed
-abbrev pub IsFoundOrPassed : ℕ → ℕ → Me ℕ View → Me ℕ View → Option ℕ → Type 0
-IsFoundOrPassed slots key me me' (Some slot) = (me' ≡ (with_flight (Found key slot) me.0, me.1)) × (slot < slots)
-IsFoundOrPassed slots key me me' None = me' ≡ (passed slots key slots me.0, me.1)
+-- the key that a flight has found
+abbrev pub found_key : Flight → ℕ
+found_key (Found key slot) = key
+found_key Idle = 0
+found_key (Looking key depth) = 0
+
+-- the next slot holds the key, or was passed
+abbrev pub IsProbed : ℕ → ℕ → ℕ → Me ℕ View → Me ℕ View → Option ℕ → Type 0
+IsProbed slots key depth me me' (Some slot) = (me' ≡ (with_flight (Found key slot) me.0, me.1)) × (slot < slots)
+IsProbed slots key depth me me' None = me' ≡ (passed slots key (depth + 1) me.0, me.1)
+
+-- a slot holds the key, or all were passed
+abbrev pub IsSettled : ℕ → ℕ → Me ℕ View → Me ℕ View → Option ℕ → Type 0
+IsSettled slots key me me' (Some slot) = (me' ≡ (with_flight (Found key slot) me.0, me.1)) × (slot < slots)
+IsSettled slots key me me' None = me' ≡ (passed slots key slots me.0, me.1)

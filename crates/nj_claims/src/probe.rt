@@ -1,13 +1,14 @@
 //! The atomic steps of a claim.
 ghost use Rattle.std.specs.Prelude.{◌≡◌, ◌≢◌, ℕ, ◌+◌, ◌*◌, ◌^◌, ◌<◌, min, None, Some, true};
 ghost use Rattle.nj_claims.specs.Tables.{slot_from, no_owner};
-ghost use Rattle.nj_claims.specs.Steps.{looking, probed, passed, with_flight, after_look, after_put, Owns};
-ghost use Rattle.nj_claims.specs.Boards.{IsBoard, HasFirst, IsFoundOrPassed, first_owner};
+ghost use Rattle.nj_claims.specs.Steps.{looking, after_look, after_put, Owns};
+ghost use Rattle.nj_claims.specs.Boards.{IsBoard, HasFirst, IsProbed, IsSettled, found_key, first_owner};
 ghost use Rattle.nj_claims.specs.declared.view.Flight.TheVariants.{Found, Idle};
 
 use crate::plays::{Asked, Look, Own, Put};
 use crate::rule::ClaimRule;
 use crate::view::{Opening, View};
+use crate::words::slot_of;
 use atomic_table::{Seat, Shared};
 use std::marker::Brand;
 
@@ -55,22 +56,39 @@ fn own<C: Asked>(board: &Board, seat: &mut Seat<u64, View>, slot: usize, number:
     board.fetch_min::<Own<C>>(seat, 2 * slot + 1, number)
 }
 
-// Comes to the slot: true where it holds the key now, false where it holds another.
-fn probe(board: &Board, seat: &mut Seat<u64, View>, slot: usize, key: u64, depth: usize) -> bool
+// Comes to the next slot of the walk: the slot where it holds the key now, None where it holds another.
+fn probe<C: Asked>(
+    board: &Board,
+    seat: &mut Seat<u64, View>,
+    slots: usize,
+    key: u64,
+    depth: usize,
+) -> Option<usize>
     requires own { seat.old.table_id ≡ board.now.table_id }
-    requires board { IsBoard board.now.key.slots board.now.key board.now.table_id }
-    requires slot { (key ≢ 0) × (depth < board.now.key.slots) × (slot ≡ slot_from board.now.key.slots key depth) }
+    requires board { (C.slots ≡ slots) × IsBoard C.slots board.now.key board.now.table_id }
+    requires key { (C.key ≡ key) × (key ≢ 0) }
+    requires depth { (C.depth ≡ depth) × (depth < slots) }
     requires living { seat.old.me.0.living ≡ true }
     requires flight { seat.old.me.0.flight ≡ looking key depth }
     ensures same { (seat.new.table_id ≡ seat.old.table_id) × (seat.new.id ≡ seat.old.id) }
-    ensures view { seat.new.me ≡ (probed board.now.key.slots key depth result seat.old.me.0, seat.old.me.1) }
+    ensures view { IsProbed slots key depth seat.old.me seat.new.me result }
 {
-    let held = look::<Brand>(board, seat, slot);
-    if held != 0 {
-        return held == key;
+    let slot = slot_of(slots, key, depth);
+    let held = look::<C>(board, seat, slot);
+    if held == key {
+        return Some(slot);
     }
-    let met = put::<Brand>(board, seat, slot, key);
-    met == 0 || met == key
+    if held != 0 {
+        return None;
+    }
+    let met = put::<C>(board, seat, slot, key);
+    if met == 0 {
+        return Some(slot);
+    }
+    if met == key {
+        return Some(slot);
+    }
+    None
 }
 
 // The slot that holds the key now: the first from its home that holds it or was empty. None where every slot holds
@@ -87,34 +105,26 @@ pub(crate) fn settle(
     requires living { seat.old.me.0.living ≡ true }
     requires idle { seat.old.me.0.flight ≡ Idle }
     ensures same { (seat.new.table_id ≡ seat.old.table_id) × (seat.new.id ≡ seat.old.id) }
-    ensures view { IsFoundOrPassed slots key seat.old.me seat.new.me result }
+    ensures view { IsSettled slots key seat.old.me seat.new.me result }
 {
-    let home = (key % slots as u64) as usize;
     for depth in 0..slots {
-        let slot = (home + depth) % slots;
-        if probe(board, seat, slot, key, depth) {
+        if let Some(slot) = probe::<Brand>(board, seat, slots, key, depth) {
             return Some(slot);
         }
     }
     None
 }
 
-// Lowers the owner of a key that was found, and answers the owner before.
-pub(crate) fn lower(
-    board: &Board,
-    seat: &mut Seat<u64, View>,
-    slot: usize,
-    key: u64,
-    number: u64,
-) -> u64
+// Lowers the owner of the key that was found to the number, and answers the owner before.
+pub(crate) fn lower(board: &Board, seat: &mut Seat<u64, View>, slot: usize, number: u64) -> u64
     requires own { seat.old.table_id ≡ board.now.table_id }
     requires board { IsBoard board.now.key.slots board.now.key board.now.table_id }
     requires number { number < no_owner }
     requires slot { slot < board.now.key.slots }
     requires living { seat.old.me.0.living ≡ true }
-    requires found { seat.old.me.0.flight ≡ Found key slot }
+    requires found { seat.old.me.0.flight ≡ Found (found_key seat.old.me.0.flight) slot }
     ensures same { (seat.new.table_id ≡ seat.old.table_id) × (seat.new.id ≡ seat.old.id) }
-    ensures tells { Owns key number (first_owner board.now.key.words.items key) seat.old.me result seat.new.me }
+    ensures tells { Owns (found_key seat.old.me.0.flight) number (first_owner board.now.key.words.items (found_key seat.old.me.0.flight)) seat.old.me result seat.new.me }
 {
     own::<Brand>(board, seat, slot, number)
 }

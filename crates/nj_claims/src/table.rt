@@ -63,7 +63,7 @@ impl ClaimTable {
         let Some(slot) = settle(board, &mut pass.seat, self.opening.slots, key) else {
             return Claimed::Full;
         };
-        let owner = lower(board, &mut pass.seat, slot, key, number);
+        let owner = lower(board, &mut pass.seat, slot, number);
         if owner < number {
             Claimed::Before(owner)
         } else {

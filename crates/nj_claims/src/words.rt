@@ -1,19 +1,28 @@
 ghost use Rattle.std.specs.Prelude.{◌≡◌, ◌≢◌, ◌+◌, ◌*◌, ◌^◌, ◌<◌, ◌≤◌, true, length, replicate, IfOk, IsTrue, ◌↔◌, None};
-ghost use Rattle.nj_claims.specs.Tables.{IsTable, no_owner, owner_in, slot_count, entries_in};
+ghost use Rattle.nj_claims.specs.Tables.{IsTable, owner_in, slot_count, slot_from};
 ghost use Rattle.nj_claims.specs.Places.{FitsSlot, IsFind};
 
 use std::alloc::{AllocError, Global};
 
+// The slot at a distance behind the key's home, round the table.
+pub(crate) fn slot_of(slots: usize, key: u64, distance: usize) -> usize
+    requires { (distance < slots) × (2 * slots < 2 ^ 64) }
+    ensures slot { result ≡ slot_from slots key distance }
+    ensures inside { result < slots }
+{
+    let home = (key % slots as u64) as usize;
+    (home + distance) % slots
+}
+
 // The slot that holds the key: the first from its home that holds it or is empty. None where that slot is empty, or all
 // hold other keys.
 fn find(words: &[u64], slots: usize, key: u64) -> Option<usize>
-    requires slots { (0 < slots) × (2 * slots ≤ length words.now) }
+    requires slots { (0 < slots) × (2 * slots ≤ length words.now) × (2 * slots < 2 ^ 64) }
     requires key { key ≢ 0 }
     ensures { IsFind slots words.now key result }
 {
-    let home = (key % slots as u64) as usize;
     for distance in 0..slots {
-        let slot = (home + distance) % slots;
+        let slot = slot_of(slots, key, distance);
         let held = words[2 * slot];
         if held == key {
             return Some(slot);
@@ -27,7 +36,7 @@ fn find(words: &[u64], slots: usize, key: u64) -> Option<usize>
 
 // Whether a slot is empty and has no owner, or its key stands in its place there.
 fn fits(words: &[u64], slots: usize, slot: usize) -> bool
-    requires slots { (0 < slots) × (2 * slots ≤ length words.now) × (slot < slots) }
+    requires slots { (2 * slots ≤ length words.now) × (2 * slots < 2 ^ 64) × (slot < slots) }
     ensures { IsTrue result ↔ FitsSlot slots words.now slot }
 {
     let key = words[2 * slot];
