@@ -16,6 +16,7 @@ pub record IsBoard (slots : ℕ) (opening : Opening) (id : TableId) : Type 0 whe
   pub as_opened : slots ≡ opening.slots
   pub words : id.words ≡ 2 * opening.slots
   pub none : id.slots ≡ 0
+  pub opened : length opening.words.items ≡ 2 * opening.slots
   pub small : 2 * opening.slots < 2 ^ 64
   pub some_slot : 0 < opening.slots
 

@@ -1,5 +1,5 @@
 -- What contracts see of a table that threads share, and of a pass.
-use Rattle.std.specs.Prelude.{◌≡◌, ℕ, Bool, true, ◌+◌, ◌≤◌, List, [], ◌∷◌, ◌++◌, length, IfSome, Some, None, ◌⊎◌}
+use Rattle.std.specs.Prelude.{◌≡◌, ℕ, Bool, true, ◌+◌, ◌-◌, ◌≤◌, List, [], ◌∷◌, ◌++◌, length, IfSome, Some, None, ◌⊎◌}
 use Rattle.std.specs.List.{Contains}
 use Rattle.atomic_table.specs.Seated.{TableId}
 use Rattle.nj_claims.specs.Tables.{owner_in, entries_in, slot_count}
@@ -45,7 +45,7 @@ pub record IsGiven (pass given : PassView) : Type 0 where
 pub record IsJoined (pass other joined : PassView) : Type 0 where
   pub table : joined.table ≡ pass.table
   pub is_root : joined.is_root ≡ pass.is_root
-  pub out : joined.out + 1 ≡ pass.out
+  pub out : joined.out ≡ pass.out - 1
   pub claims : joined.claims ≡ pass.claims ++ other.claims
   pub seen : joined.seen ≡ pass.seen ++ other.seen
   pub full : joined.full ≡ pass.full ++ other.full
