@@ -4,3 +4,4 @@ pub mod Keeping
 pub mod Claiming
 pub mod Mapping
 pub mod Passing
+pub mod Closing

@@ -37,18 +37,19 @@ lent_pass pass = record pass { out = pass.out + 1 }
 -- a pass that was split from another: it has seen as much, and claimed nothing
 pub record IsGiven (pass given : PassView) : Type 0 where
   pub table : given.table ≡ pass.table
+  pub out : given.out ≡ 0
   pub claims : given.claims ≡ []
   pub seen : given.seen ≡ pass.seen
   pub full : given.full ≡ []
 
 -- the first pass with what another has, and one less out
-pub record IsJoined (pass other joined : PassView) : Type 0 where
-  pub table : joined.table ≡ pass.table
-  pub is_root : joined.is_root ≡ pass.is_root
-  pub out : joined.out ≡ pass.out - 1
-  pub claims : joined.claims ≡ pass.claims ++ other.claims
-  pub seen : joined.seen ≡ pass.seen ++ other.seen
-  pub full : joined.full ≡ pass.full ++ other.full
+abbrev pub joined_pass : PassView → PassView → PassView
+joined_pass pass other = record pass {
+  out = pass.out - 1;
+  claims = pass.claims ++ other.claims;
+  seen = pass.seen ++ other.seen;
+  full = pass.full ++ other.full;
+}
 
 -- a key that found no room in the closed table: no slot is empty, and the key does not stand there
 pub record HadNoRoom (closed : List ℕ) (key : ℕ) : Type 0 where

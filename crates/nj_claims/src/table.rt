@@ -1,7 +1,7 @@
 ghost use Rattle.std.specs.Prelude.{◌≡◌, ◌≢◌, ◌+◌, ◌<◌, true, false, [], ◌++◌, length, IfOk};
 ghost use Rattle.std.specs.List.{All};
 ghost use Rattle.nj_claims.specs.Tables.{IsTable, no_owner, owner_in, owner_after, slot_count, entries_in};
-ghost use Rattle.nj_claims.specs.Passes.{first_pass, lent_pass, IsGiven, IsJoined, WasOwner, HadNoRoom};
+ghost use Rattle.nj_claims.specs.Passes.{first_pass, lent_pass, IsGiven, joined_pass, WasOwner, HadNoRoom};
 ghost use Rattle.nj_claims.specs.Answers.{after_claim, IsTold};
 
 use crate::claimed::Claimed;
@@ -42,7 +42,7 @@ impl ClaimTable {
     pub fn join(&self, pass: &mut Pass, other: Pass)
         requires own { (pass.old.table ≡ self.now.id) × (other.table ≡ self.now.id) }
         requires root { pass.old.is_root ≡ true }
-        ensures { IsJoined pass.old other pass.new }
+        ensures { pass.new ≡ joined_pass pass.old other }
     {
         let Pass { seat } = other;
         self.table
