@@ -1,21 +1,23 @@
 -- A further pass, and one that comes back, keep the rule.
-use Rattle.std.proofs.Common.{◌≡◌, ◌≢◌, ℕ, zero, suc, ◌+◌, ◌-◌, ◌*◌, ◌<◌, ◌≤◌, ◌⊎◌, inl, inr, ⊎_elim, true, false, Bool, List, [], ◌∷◌, ◌++◌, length, get_or, set, refl, sym, ap, ◌∙◌, subst, arith, length-set, le_refl, if◌then◌else◌, cond, ◌==◌, ne_eqb}
+use Rattle.std.proofs.Common.{◌≡◌, ◌≢◌, ℕ, zero, suc, ◌+◌, ◌-◌, ◌*◌, ◌<◌, ◌≤◌, ◌⊎◌, inl, inr, ⊎_elim, true, false, Bool, List, [], ◌∷◌, ◌++◌, length, get_or, set, refl, sym, ap, ◌∙◌, subst, arith, length-set, le_refl, if◌then◌else◌, cond, ◌==◌, ne_eqb, ◌^◌}
 use Rattle.std.specs.List.{All, Contains, sum_by}
 use Rattle.std.proofs.lemmas.List.Sums.{sum_by_push}
 use Rattle.std.proofs.lemmas.List.Elements.{All-nil, All-push, All-append, All-weaker, Contains-append_left, Contains-append_right}
-use mathlib.Core.Option.{Option, some, none}
+use mathlib.Core.Option.{Option, some, none, some-injective, some-ne-none}
 use mathlib.Core.Logic.{dite}
 use native.Mathlib.Decide.{ℕ_discrete}
 use lib.ListN.{get_elem?}
-use Rattle.atomic_table.specs.Table.{State, Splits, Joins}
+use Rattle.atomic_table.specs.Table.{State, Splits, Joins, opening}
+use Rattle.atomic_table.specs.Seated.{TableId}
+use Rattle.nj_claims.specs.Boards.{IsBoard}
 use Rattle.atomic_table.proofs.Lists.{at_snoc, at_longer, set_else}
 use Rattle.nj_claims.specs.declared.view.View.{View}
 use Rattle.nj_claims.specs.declared.view.Opening.{Opening}
 use Rattle.nj_claims.specs.declared.view.Flight.{Flight}
 use Rattle.nj_claims.specs.declared.view.Flight.TheVariants.{Idle}
-use Rattle.nj_claims.specs.Tables.{no_owner, key_at, owner_at, slot_count, IsTable}
+use Rattle.nj_claims.specs.Tables.{no_owner, key_at, owner_at, slot_count, IsTable, IsPlaced}
 use Rattle.nj_claims.proofs.Mapping.{two_each, some_slot}
-use Rattle.nj_claims.specs.Rule.{Fits, FitsFlight, Reaches, IsFullFor, Somewhere, HasFound, Brings, Claims, Opens, Stems, spent_view, living_count, Holds}
+use Rattle.nj_claims.specs.Rule.{first_view, Fits, FitsFlight, Reaches, IsFullFor, Somewhere, HasFound, Brings, Claims, Opens, Stems, spent_view, living_count, Holds}
 use Rattle.nj_claims.specs.Steps.{lent_view, given_view, joined_view}
 use Rattle.nj_claims.proofs.Views.{at_get, same_at, set_at, sum_set, at_most_sum, moved, longer, merged, all_seats, stems_on}
 
@@ -113,3 +115,43 @@ is_zero (suc n) e = absurd (let f : (suc n == 0) ≡ false = ne_eqb (suc n) 0 (�
 -- a table has words
 pub has_words : (words : ℕ) (ws : List ℕ) → IsTable ws → words ≡ length ws → 0 < words
 has_words words ws t e = let a : length ws ≡ 2 * slot_count ws = two_each ws t in let b : 0 < slot_count ws = some_slot ws t in omega arith
+
+-- the first state meets the rule
+pub opens_well : (o : Opening) (words : List ℕ) → words ≡ o.words.items → o.slots ≡ slot_count words → IsTable words
+    → ((k : ℕ) → k < length words → get_or words k 0 < 18446744073709551616) → Holds o (opening words [] first_view)
+opens_well o words same slots table small = let n : ℕ = o.slots in
+    let wide : length words ≡ 2 * n = two_each words table ∙ ap (λ (m : ℕ). 2 * m) (sym slots) in
+    let one : (j : ℕ) (u : View) → get_elem? (first_view ∷ []) j ≡ some u → first_view ≡ u = λ j u e. at_first j u e in record {
+  some_slot = subst (λ (m : ℕ). 0 < m) (sym slots) (some_slot words table);
+  wide = wide;
+  small = λ i l. let e : owner_at o.words.items i ≡ owner_at words i = ap (λ (ws : List ℕ). owner_at ws i) (sym same) in
+      let b : get_or words (2 * i + 1) 0 < 18446744073709551616 = small (2 * i + 1) (omega arith) in omega arith;
+  placed = subst (λ (m : ℕ). IsPlaced m words) (sym slots) table.placed;
+  stays = λ i l taken. let e : words ≡ o.words.items = same in record { key = ap (λ (ws : List ℕ). key_at ws i) e; owner = le_of_eq _ _ (ap (λ (ws : List ℕ). owner_at ws i) e) };
+  known = λ i l taken. inl (ap (λ (ws : List ℕ). key_at ws i) (sym same));
+  owned = λ i l. dite (ℕ_discrete (key_at words i) 0)
+      (λ z. inl ((subst (λ (m : ℕ). IsPlaced m words) (sym slots) table.placed).bare i l z))
+      (λ taken. inr (inl (i, record { some_key = taken; inside = l; held = ap (λ (ws : List ℕ). key_at ws i) (sym same); owned = ap (λ (ws : List ℕ). owner_at ws i) (sym same) })));
+  fits = λ j u e. subst (Fits n words) (one j u e) record { claims = All-nil (λ c. Reaches n words c.0 c.1); seen = All-nil (λ c. Reaches n words c.0 c.1); full = All-nil (IsFullFor n words); flight = tt };
+  told = λ j u e. subst (λ (v : View). All (λ c. Stems o (first_view ∷ []) c.0 c.1) v.seen) (one j u e) (All-nil (λ c. Stems o (first_view ∷ []) c.0 c.1));
+  spent = λ j u e dead. absurd (let l : first_view.living ≡ false = ap (λ (v : View). v.living) (one j u e) ∙ dead in cc);
+  counted = λ u e. ap (λ (v : View). 1 + v.out) (one 0 u e);
+} where
+  at_first : (j : ℕ) (u : View) → get_elem? (first_view ∷ []) j ≡ some u → first_view ≡ u
+  at_first zero u e = some-injective first_view u e
+  at_first (suc j) u e = absurd (some-ne-none u (sym e))
+  le_of_eq : (a b : ℕ) → a ≡ b → a ≤ b
+  le_of_eq a b e = omega arith
+
+-- what a claim asks of its table
+pub board_of : (o key : Opening) (id : TableId) → key ≡ o → id.words ≡ length o.words.items → id.slots ≡ 0 → o.slots ≡ slot_count o.words.items → IsTable o.words.items
+    → length o.words.items < 2 ^ 64 → IsBoard o.slots key id
+board_of o key id same words bare slots table small = let wide : length o.words.items ≡ 2 * slot_count o.words.items = two_each o.words.items table in
+    subst (λ (k : Opening). IsBoard o.slots k id) (sym same) record {
+  as_opened = refl;
+  words = let w : id.words ≡ length o.words.items = words in let n : o.slots ≡ slot_count o.words.items = slots in omega arith;
+  none = bare;
+  opened = omega arith;
+  small = omega arith;
+  some_slot = let l : 0 < slot_count o.words.items = some_slot o.words.items table in omega arith;
+}
