@@ -5,3 +5,6 @@ pub mod Claiming
 pub mod Mapping
 pub mod Passing
 pub mod Closing
+pub mod Walking
+pub mod Powers
+pub mod Testing

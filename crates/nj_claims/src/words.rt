@@ -43,7 +43,10 @@ fn fits(words: &[u64], slots: usize, slot: usize) -> bool
     if key == 0 {
         words[2 * slot + 1] == u64::MAX
     } else {
-        find(words, slots, key) == Some(slot)
+        match find(words, slots, key) {
+            Some(found) => found == slot,
+            None => false,
+        }
     }
 }
 
@@ -51,10 +54,14 @@ fn fits(words: &[u64], slots: usize, slot: usize) -> bool
 pub fn is_table(words: &[u64]) -> bool
     ensures { IsTrue result ↔ IsTable words.now }
 {
-    if words.len() < 2 || !words.len().is_power_of_two() {
+    let count = words.len();
+    if count < 2 {
         return false;
     }
-    let slots = words.len() / 2;
+    if !count.is_power_of_two() {
+        return false;
+    }
+    let slots = count / 2;
     for slot in 0..slots {
         if !fits(words, slots, slot) {
             return false;
@@ -71,7 +78,8 @@ pub fn owner_of(words: &[u64], key: u64) -> Option<u64>
     if key == 0 {
         return None;
     }
-    let slot = find(words, words.len() / 2, key)?;
+    let slots = words.len() / 2;
+    let slot = find(words, slots, key)?;
     Some(words[2 * slot + 1])
 }
 
@@ -83,10 +91,9 @@ pub fn empty_table(alloc: Global, exponent: u32) -> Result<Vec<u64>, AllocError>
     ensures empty { IfOk result (λ words. (key : _) → owner_in words.items key ≡ None) }
 {
     let slots = 1_usize << exponent;
-    let mut words = Vec::with_capacity(alloc, 2 * slots)?;
-    for _ in 0..slots {
-        words.push(0)?;
-        words.push(u64::MAX)?;
+    let mut words = vec![in alloc; u64::MAX; 2 * slots]?;
+    for slot in 0..slots {
+        words[2 * slot] = 0;
     }
     Ok(words)
 }
