@@ -8,3 +8,4 @@ pub mod Closing
 pub mod Walking
 pub mod Powers
 pub mod Testing
+pub mod Entries

@@ -14,10 +14,10 @@ use Rattle.nj_claims.specs.Boards.{HasFirst, first_owner}
 use Rattle.nj_claims.specs.Tables.{no_owner, key_at, owner_at, slot_from, slot_count, IsPlaced, IsTable, entries_in, owner_among, owner_in, lowered, owner_after}
 
 -- the words of the slots behind the first
-key_at-rest : (k o : ℕ) (ws : List ℕ) (i : ℕ) → key_at (k ∷ o ∷ ws) (suc i) ≡ key_at ws i
+pub key_at-rest : (k o : ℕ) (ws : List ℕ) (i : ℕ) → key_at (k ∷ o ∷ ws) (suc i) ≡ key_at ws i
 key_at-rest k o ws i = let e : 2 * suc i ≡ suc (suc (2 * i)) = omega arith in ap (λ j. get_or (k ∷ o ∷ ws) j 0) e
 
-owner_at-rest : (k o : ℕ) (ws : List ℕ) (i : ℕ) → owner_at (k ∷ o ∷ ws) (suc i) ≡ owner_at ws i
+pub owner_at-rest : (k o : ℕ) (ws : List ℕ) (i : ℕ) → owner_at (k ∷ o ∷ ws) (suc i) ≡ owner_at ws i
 owner_at-rest k o ws i = let e : 2 * suc i + 1 ≡ suc (suc (2 * i + 1)) = omega arith in ap (λ j. get_or (k ∷ o ∷ ws) j 0) e
 
 -- the first slot's entry is read first

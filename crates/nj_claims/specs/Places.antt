@@ -31,3 +31,16 @@ IsFind slots words key None = IsNowhere slots words key
 abbrev pub FitsSlot : ℕ → List ℕ → ℕ → Type 0
 FitsSlot slots words slot =
     ((key_at words slot ≡ 0) × (owner_at words slot ≡ no_owner)) ⊎ ((key_at words slot ≢ 0) × IsFirst slots words (key_at words slot) slot)
+
+-- the key stands in no slot
+abbrev pub IsAbsent : ℕ → List ℕ → ℕ → Type 0
+IsAbsent slots words key = (slot : ℕ) → slot < slots → key_at words slot ≢ key
+
+-- the slot is the first empty one behind the key's home
+pub record IsFree (slots : ℕ) (words : List ℕ) (key slot : ℕ) : Type 0 where
+  pub distance : ℕ
+  pub near : distance < slots
+  pub here : slot ≡ slot_from slots key distance
+  pub inside : slot < slots
+  pub empty : key_at words slot ≡ 0
+  pub before : ArePassed slots words key distance

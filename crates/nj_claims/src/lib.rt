@@ -2,7 +2,9 @@
 #![tactic(auto)]
 
 mod claimed;
+mod laws;
 mod pass;
+mod placing;
 mod plays;
 mod probe;
 mod rule;
@@ -12,6 +14,8 @@ mod view;
 mod words;
 
 pub use claimed::Claimed;
+pub use laws::{different_numbers_fit, entries_are_the_map};
 pub use pass::Pass;
+pub use placing::insert;
 pub use shared::ClaimTable;
 pub use words::{empty_table, is_table, owner_of};
