@@ -9,3 +9,4 @@ pub mod Walking
 pub mod Powers
 pub mod Testing
 pub mod Entries
+pub mod Inserting
