@@ -3,7 +3,7 @@ use Rattle.std.proofs.Common.{◌≡◌, ◌≢◌, ℕ, zero, suc, ◌+◌, ◌
 use Rattle.std.specs.Prelude.{Option, Some, None, ◌↔◌}
 use Rattle.std.specs.List.{All, AllPairs, Contains}
 use Rattle.std.specs.List.Sorted.{IsPermutation}
-use Rattle.std.proofs.lemmas.List.Sorted.{IsPermutation-refl, IsPermutation-cons, IsPermutation-middle, IsPermutation-trans}
+use Rattle.std.proofs.lemmas.List.Sorted.{IsPermutation-refl, IsPermutation-cons, IsPermutation-middle, IsPermutation-trans, length_permutation}
 use Rattle.std.proofs.lemmas.List.Elements.{All-nil, All-cons, Contains-append_right, Contains-append_cases, All-contains}
 use mathlib.Core.Logic.{dite}
 use native.Mathlib.Decide.{ℕ_discrete}
@@ -184,3 +184,16 @@ put_entries (suc n) (k ∷ o ∷ ws) key owner (suc p) wide inside real empty = 
         (IsPermutation-trans ((key, owner) ∷ (k, o) ∷ entries_in ws) ((k, o) ∷ (key, owner) ∷ entries_in ws) ((k, o) ∷ entries_in new)
           (IsPermutation-middle ((key, owner) ∷ []) (k, o) (entries_in ws))
           (IsPermutation-cons (k, o) ((key, owner) ∷ entries_in ws) (entries_in new) rest))))
+
+pub one_more : (n : ℕ) (ws : List ℕ) (key owner p : ℕ) → length ws ≡ 2 * n → p < n → key ≢ 0 → key_at ws p ≡ 0
+    → length (entries_in (set (set ws (2 * p) key) (2 * p + 1) owner)) ≡ length (entries_in ws) + 1
+one_more n ws key owner p wide inside real empty = let new : List ℕ = set (set ws (2 * p) key) (2 * p + 1) owner in
+    let e : length (entries_in new) ≡ suc (length (entries_in ws)) = length_permutation ((key, owner) ∷ entries_in ws) (entries_in new) (put_entries n ws key owner p wide inside real empty) in omega arith
+
+-- where all slots are empty there is no entry
+pub none_entered : (n : ℕ) (ws : List ℕ) → length ws ≡ 2 * n → ((i : ℕ) → i < n → key_at ws i ≡ 0) → entries_in ws ≡ []
+none_entered n [] wide empty = refl
+none_entered n (k ∷ []) wide empty = refl
+none_entered zero (k ∷ o ∷ ws) wide empty = absurd (omega arith)
+none_entered (suc n) (k ∷ o ∷ ws) wide empty = skipped k o ws (empty 0 (omega arith))
+    ∙ none_entered n ws (omega arith) (λ i l. sym (key_at-rest k o ws i) ∙ empty (suc i) (omega arith))

@@ -30,6 +30,7 @@ pub fn insert(words: &mut [u64], key: u64, owner: u64)
     requires room { length (entries_in words.old) < slot_count words.old }
     ensures table { IsTable words.new }
     ensures entries { IsPermutation ((key, owner) ∷ entries_in words.old) (entries_in words.new) }
+    ensures count { length (entries_in words.new) ≡ length (entries_in words.old) + 1 }
     ensures owners { (other : _) → owner_in words.new other ≡ (if key == other then Some owner else owner_in words.old other) }
 {
     let slots = words.len() / 2;

@@ -1,5 +1,5 @@
-ghost use Rattle.std.specs.Prelude.{◌≡◌, ◌≢◌, ◌+◌, ◌*◌, ◌^◌, ◌<◌, ◌≤◌, true, length, replicate, IfOk, IsTrue, ◌↔◌, None};
-ghost use Rattle.nj_claims.specs.Tables.{IsTable, owner_in, slot_count, slot_from};
+ghost use Rattle.std.specs.Prelude.{◌≡◌, ◌≢◌, ◌*◌, ◌^◌, ◌<◌, ◌≤◌, [], length, IfOk, IsTrue, ◌↔◌, None};
+ghost use Rattle.nj_claims.specs.Tables.{IsTable, entries_in, owner_in, slot_count, slot_from};
 ghost use Rattle.nj_claims.specs.Places.{FitsSlot, IsFind};
 
 use std::alloc::{AllocError, Global};
@@ -88,7 +88,8 @@ pub fn empty_table(alloc: Global, exponent: u32) -> Result<Vec<u64>, AllocError>
     requires { (10 ≤ exponent) × (exponent ≤ 25) }
     ensures table { IfOk result (λ words. IsTable words.items) }
     ensures slots { IfOk result (λ words. slot_count words.items ≡ 2 ^ exponent) }
-    ensures empty { IfOk result (λ words. (key : _) → owner_in words.items key ≡ None) }
+    ensures empty { IfOk result (λ words. entries_in words.items ≡ []) }
+    ensures owners { IfOk result (λ words. (key : _) → owner_in words.items key ≡ None) }
 {
     let slots = 1_usize << exponent;
     let mut words = vec![in alloc; u64::MAX; 2 * slots]?;

@@ -1,6 +1,7 @@
 -- All slots are empty.
 use Rattle.std.proofs.Common.{◌≡◌, ◌≤◌, ◌^◌, ◌*◌, ◌%◌, ◌∙◌, arith, subst, ℕ}
 use Rattle.nj_claims.proofs.Testing.{AreEmpty, empty_is_table, empty_count, empty_has_none, shifted}
+use Rattle.nj_claims.proofs.Entries.{none_entered}
 use Rattle.nj_claims.proofs.words.empty_table.Goals as goal
 
 done : (c : goal.After-loop-slot) → AreEmpty ((1 * 2 ^ c.args.exponent) % 18446744073709551616) ((1 * 2 ^ c.args.exponent) % 18446744073709551616) c.loop-slot.words.items
@@ -15,4 +16,7 @@ pub returns-clause-slots : goal.returns-clause-slots
 returns-clause-slots c = empty_count _ c.loop-slot.words.items (done c) ∙ shifted c.args.exponent c.requires.1
 
 pub returns-clause-empty : goal.returns-clause-empty
-returns-clause-empty c = λ key. empty_has_none _ c.loop-slot.words.items key (done c)
+returns-clause-empty c = let a = done c in none_entered _ c.loop-slot.words.items a.wide a.empty
+
+pub returns-clause-owners : goal.returns-clause-owners
+returns-clause-owners c = λ key. empty_has_none _ c.loop-slot.words.items key (done c)
