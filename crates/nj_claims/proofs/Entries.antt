@@ -8,7 +8,7 @@ use Rattle.std.proofs.lemmas.List.Elements.{All-nil, All-cons, Contains-append_r
 use mathlib.Core.Logic.{dite}
 use native.Mathlib.Decide.{ℕ_discrete}
 use Rattle.nj_claims.specs.Tables.{no_owner, key_at, owner_at, slot_count, IsPlaced, IsTable, entries_in, keys_in, owner_in}
-use Rattle.nj_claims.proofs.Mapping.{key_at-rest, owner_at-rest, standing, stood, two_each}
+use Rattle.nj_claims.proofs.Mapping.{StandsAt, key_at-rest, owner_at-rest, standing, stood, two_each}
 
 abbrev Pairs : Type 0
 Pairs = List (ℕ × ℕ)
@@ -20,23 +20,17 @@ skipped k o ws e = ap (λ b. if b then entries_in ws else (k, o) ∷ entries_in 
 counted : (k o : ℕ) (ws : List ℕ) → k ≢ 0 → entries_in (k ∷ o ∷ ws) ≡ (k, o) ∷ entries_in ws
 counted k o ws ne = ap (λ b. if b then entries_in ws else (k, o) ∷ entries_in ws) (ne_eqb k 0 ne)
 
--- each entry stands in a slot
-pub record HasSlot (n : ℕ) (ws : List ℕ) (key owner : ℕ) : Type 0 where
-  pub some_key : key ≢ 0
-  pub slot : ℕ
-  pub inside : slot < n
-  pub held : key_at ws slot ≡ key
-  pub owned : owner_at ws slot ≡ owner
-
-later_slot : (n k o : ℕ) (ws : List ℕ) (key owner : ℕ) → HasSlot n ws key owner → HasSlot (suc n) (k ∷ o ∷ ws) key owner
+-- a slot of the rest is the next one of the whole
+later_slot : (n k o : ℕ) (ws : List ℕ) (key owner : ℕ) → StandsAt n ws key owner → StandsAt (suc n) (k ∷ o ∷ ws) key owner
 later_slot n k o ws key owner r = let l : r.slot < n = r.inside in
     record { some_key = r.some_key; slot = suc r.slot; inside = omega arith; held = key_at-rest k o ws r.slot ∙ r.held; owned = owner_at-rest k o ws r.slot ∙ r.owned }
 
-pub entry_slot : (n : ℕ) (ws : List ℕ) → length ws ≡ 2 * n → All (λ e. HasSlot n ws e.0 e.1) (entries_in ws)
-entry_slot n [] wide = All-nil (λ e. HasSlot n [] e.0 e.1)
-entry_slot n (k ∷ []) wide = All-nil (λ e. HasSlot n (k ∷ []) e.0 e.1)
+-- each entry stands in a slot
+pub entry_slot : (n : ℕ) (ws : List ℕ) → length ws ≡ 2 * n → All (λ e. StandsAt n ws e.0 e.1) (entries_in ws)
+entry_slot n [] wide = All-nil (λ e. StandsAt n [] e.0 e.1)
+entry_slot n (k ∷ []) wide = All-nil (λ e. StandsAt n (k ∷ []) e.0 e.1)
 entry_slot zero (k ∷ o ∷ ws) wide = absurd (omega arith)
-entry_slot (suc n) (k ∷ o ∷ ws) wide = let P : ℕ × ℕ → Type 0 = λ e. HasSlot (suc n) (k ∷ o ∷ ws) e.0 e.1 in
+entry_slot (suc n) (k ∷ o ∷ ws) wide = let P : ℕ × ℕ → Type 0 = λ e. StandsAt (suc n) (k ∷ o ∷ ws) e.0 e.1 in
     let rest : All P (entries_in ws) = λ i d l. later_slot n k o ws (get_or (entries_in ws) i d).0 (get_or (entries_in ws) i d).1 (entry_slot n ws (omega arith) i d l) in dite (ℕ_discrete k 0)
     (λ z. subst (All P) (sym (skipped k o ws z)) rest)
     (λ ne. subst (All P) (sym (counted k o ws ne))
@@ -100,7 +94,7 @@ once_each ws t = keys_differ (slot_count ws) ws (two_each ws t) t.placed.once
 
 pub entry_owner : (ws : List ℕ) (key owner : ℕ) → IsTable ws → Contains (entries_in ws) (key, owner) ↔ (owner_in ws key ≡ Some owner)
 entry_owner ws key owner t = let n : ℕ = slot_count ws in let wide = two_each ws t in (
-  (λ c. let r = All-contains (λ e. HasSlot n ws e.0 e.1) (entries_in ws) (key, owner) (entry_slot n ws wide) c in
+  (λ c. let r = All-contains (λ e. StandsAt n ws e.0 e.1) (entries_in ws) (key, owner) (entry_slot n ws wide) c in
     standing n ws key r.slot wide t.placed r.some_key r.inside r.held ∙ ap (λ x. Some x) r.owned),
   (λ e. let r = stood n ws key owner wide e in
     subst (λ (x : ℕ × ℕ). Contains (entries_in ws) x) (λ i. (r.held i, r.owned i)) (slot_entry n ws r.slot wide r.inside (λ z. r.some_key (sym r.held ∙ z)))),

@@ -42,10 +42,11 @@ after_own key number owner view = record view {
   flight = Idle;
 }
 
--- a view with one pass more out, and the view of that pass
+-- a view with one pass more out
 abbrev pub lent_view : View → View
 lent_view view = record view { out = view.out + 1 }
 
+-- the view of that pass: it has seen as much, and claimed nothing
 abbrev pub given_view : View → View
 given_view view = record view { claims = []; full = []; flight = Idle; out = 0 }
 
@@ -72,5 +73,6 @@ pub record Owns (key number most : ℕ) (me : Me ℕ View) (owner : ℕ) (me' : 
   pub seen : All (λ claim. claim.0 ≡ key → min owner number ≤ claim.1) me.0.seen
   pub first : min owner number ≤ most
 
+-- the same, of a step
 abbrev pub owns : ℕ → ℕ → ℕ → Step ℕ → Me ℕ View → ℕ → Me ℕ View → Type 0
 owns key number most st me owner me' = Owns key number most me owner me'
