@@ -1,28 +1,27 @@
 -- The three steps of a claim keep the rule: a load of a key word, a try to put the key, and the owner's step.
-use Rattle.std.proofs.Common.{◌≡◌, ◌≢◌, ℕ, zero, suc, ◌+◌, ◌-◌, ◌*◌, ◌%◌, ◌<◌, ◌≤◌, ◌==◌, eqb, min, ◌⊎◌, inl, inr, ⊎_elim, true, false, Bool, List, [], ◌∷◌, ◌++◌, length, get_or, set, refl, sym, ap, ◌∙◌, subst, arith, length-set, eq-eqb, ne_eqb, le_refl, if◌then◌else◌, cond}
-use Rattle.std.specs.List.{All, Contains, sum_by}
-use Rattle.std.proofs.lemmas.List.Elements.{All-nil, All-push, All-append, All-weaker, Contains-append_left, Contains-append_right, Contains-push, Contains-push_cases}
-use mathlib.Core.Option.{Option, some, none}
+use Rattle.std.proofs.Common.{◌≡◌, ◌≢◌, ℕ, zero, suc, ◌+◌, ◌*◌, ◌<◌, ◌≤◌, ◌==◌, eqb, min, inl, inr, ⊎_elim, true, false, Bool, List, [], ◌∷◌, ◌++◌, get_or, set, refl, sym, ap, ◌∙◌, subst, arith, length-set, eq-eqb, ne_eqb, le_refl, if◌then◌else◌}
+use Rattle.std.specs.List.{All, Contains}
+use Rattle.std.proofs.lemmas.List.Elements.{All-push, All-weaker, Contains-append_left, Contains-push}
+use mathlib.Core.Option.{some}
 use mathlib.Core.Logic.{dite}
 use native.Mathlib.Decide.{ℕ_discrete}
 use Rattle.std.proofs.lemmas.Bool.{cases_lt}
 use lib.ListN.{get_elem?}
 use lib.Seq.{set-get_or}
 use prog.Atomic.{either}
-use Rattle.atomic_table.specs.Table.{State, Me, step, keeps, stepped, Allows}
-use Rattle.atomic_table.proofs.Lists.{exchanged}
+use Rattle.atomic_table.specs.Table.{State, Me, keeps, stepped, Allows}
 use Rattle.nj_claims.specs.declared.view.View.{View}
 use Rattle.nj_claims.specs.declared.view.Opening.{Opening}
 use Rattle.nj_claims.specs.declared.view.Flight.{Flight}
-use Rattle.nj_claims.specs.declared.view.Flight.TheVariants.{Idle, Looking, Found}
+use Rattle.nj_claims.specs.declared.view.Flight.TheVariants.{Idle, Found}
 use Rattle.nj_claims.specs.Tables.{no_owner, key_at, owner_at, slot_from, IsPlaced}
 use Rattle.nj_claims.specs.Places.{ArePassed}
 use Rattle.atomic_table.specs.Seated.{TableId}
 use Rattle.nj_claims.specs.Boards.{HasFirst, IsBoard}
-use Rattle.nj_claims.specs.Rule.{Reaches, HoldsOther, IsFullFor, FitsFlight, Fits, Somewhere, HasFound, Brings, Claims, Opens, Stems, Stays, Holds}
-use Rattle.nj_claims.specs.Steps.{looking, with_flight, passed, probed, after_look, after_put, after_own, looks, puts, Owns, owns}
+use Rattle.nj_claims.specs.Rule.{Reaches, HoldsOther, IsFullFor, FitsFlight, Fits, HasFound, Brings, Claims, Opens, Stems, Holds}
+use Rattle.nj_claims.specs.Steps.{looking, with_flight, passed, probed, after_look, after_put, after_own, Owns}
 use Rattle.nj_claims.proofs.Slots.{slot-inside, each_slot, put_placed, own_placed, key_at-set_owner, owner_at-set_key, key_at-set_same, key_at-set_other, owner_at-set_same, owner_at-set_other}
-use Rattle.nj_claims.proofs.Views.{at_get, same_at, set_at, sum_set, moved, all_seats, stems_on}
+use Rattle.nj_claims.proofs.Views.{set_at, moved, stems_on}
 use Rattle.nj_claims.proofs.Keeping.{Grows, same_words, fits_on, Owes, kept_step}
 
 -- a walk over so many slots is what a flight says of them
@@ -68,7 +67,7 @@ fits_passed n W key depth v f h = dite (ℕ_discrete depth n)
       claims = f.claims;
       seen = f.seen;
       full = All-push (IsFullFor n W) v.full key f.full (λ slot l. let at = each_slot n key slot l in
-        let ld : at.0 < n = at.1 in let d : ℕ = at.0 in subst (HoldsOther W key) at.2 (h d (omega arith)));
+          let ld : at.0 < n = at.1 in let d : ℕ = at.0 in subst (HoldsOther W key) at.2 (h d (omega arith)));
       flight = tt;
     })
     (λ ne. subst (λ b. Fits n W (if b then record v { full = v.full ++ key ∷ []; flight = Idle } else with_flight (looking key depth) v)) (sym (ne_eqb depth n ne)) record {
@@ -83,11 +82,11 @@ fits_probed : (n : ℕ) (W : List ℕ) (key depth held : ℕ) (v : View) → Fit
     → held ≡ key_at W (slot_from n key depth) → held ≢ 0 → Fits n W (probed n key depth (held == key) v)
 fits_probed n W key depth held v f some_key near flight is taken = let p : ℕ = slot_from n key depth in dite (ℕ_discrete held key)
     (λ e. subst (λ b. Fits n W (probed n key depth b v)) (sym (eq-eqb held key e))
-      (fits_found n W key p v f some_key (slot-inside n key depth (omega arith)) (sym is ∙ e)))
+    (fits_found n W key p v f some_key (slot-inside n key depth (omega arith)) (sym is ∙ e)))
     (λ ne. subst (λ b. Fits n W (probed n key depth b v)) (sym (ne_eqb held key ne))
-      (fits_passed n W key (depth + 1) v f (λ d l. dite (ℕ_discrete d depth)
-        (λ e. subst (λ x. HoldsOther W key (slot_from n key x)) (sym e) record { taken = λ z. taken (is ∙ z); other = λ z. ne (is ∙ z) })
-        (λ no. looking_fits n W key depth (subst (FitsFlight n W) flight f.flight) d (omega arith)))))
+    (fits_passed n W key (depth + 1) v f (λ d l. dite (ℕ_discrete d depth)
+    (λ e. subst (λ x. HoldsOther W key (slot_from n key x)) (sym e) record { taken = λ z. taken (is ∙ z); other = λ z. ne (is ∙ z) })
+    (λ no. looking_fits n W key depth (subst (FitsFlight n W) flight f.flight) d (omega arith)))))
 
 -- a step that changes no word, and of the view no more than its flight and the refused keys
 still : (o : Opening) (s : State ℕ View) (id i key depth : ℕ) (v w : View) → Holds o s → get_elem? s.views id ≡ some v → v.flight ≡ looking key depth → v.living ≡ true
@@ -104,7 +103,7 @@ still o s id i key depth v w h at flight lives same fits =
       owners = λ i l. inr (inl (refl, refl));
       told = let on : (k m : ℕ) → Stems o s.views k m → Stems o (set s.views id w) k m = λ k m. stems_on o s.views (set s.views id w) k m
           (moved s.views id v w (Claims k m) at (λ c. subst (λ cs. Contains cs (k, m)) (sym same.claims) c)) in
-        subst (λ cs. All (λ c. Stems o (set s.views id w) c.0 c.1) cs) (sym same.seen)
+          subst (λ cs. All (λ c. Stems o (set s.views id w) c.0 c.1) cs) (sym same.seen)
           (All-weaker (λ c. Stems o s.views c.0 c.1) (λ c. Stems o (set s.views id w) c.0 c.1) (λ c t. on c.0 c.1 t) v.seen (h.told id v at));
       living = same.living;
       lives = same.living ∙ lives;
@@ -124,10 +123,10 @@ look_allowed o key depth slots id me slot some_key near is flight lives s h wide
   tt,
   dite (ℕ_discrete held 0)
       (λ e. subst (λ b. Holds o (stepped s (2 * slot) held id me.1 (if b then v else probed o.slots key depth (held == key) v) keeps)) (sym (eq-eqb held 0 e))
-        (still o s id (2 * slot) key depth v v h at flight lives (as_itself v) (h.fits id v at)))
+      (still o s id (2 * slot) key depth v v h at flight lives (as_itself v) (h.fits id v at)))
       (λ ne. subst (λ b. Holds o (stepped s (2 * slot) held id me.1 (if b then v else probed o.slots key depth (held == key) v) keeps)) (sym (ne_eqb held 0 ne))
-        (still o s id (2 * slot) key depth v (probed o.slots key depth (held == key) v) h at flight lives (before_probed o.slots key depth (held == key) v)
-          (fits_probed o.slots s.words key depth held v (h.fits id v at) some_key near flight (ap (key_at s.words) is) ne))),
+      (still o s id (2 * slot) key depth v (probed o.slots key depth (held == key) v) h at flight lives (before_probed o.slots key depth (held == key) v)
+      (fits_probed o.slots s.words key depth held v (h.fits id v at) some_key near flight (ap (key_at s.words) is) ne))),
   refl,
 )
 
@@ -150,15 +149,15 @@ put_step o s id key depth slot v h at some_key near is flight lives empty = let 
       claims = λ k m c. c;
       brings = λ k b. looking_brings k key depth v w flight refl b;
       fits = subst (λ x. Fits n W (with_flight (Found key x) v)) is
-        (fits_found n W key slot v (fits_on n s.words W h.some_slot grows v (h.fits id v at)) some_key inside here);
+          (fits_found n W key slot v (fits_on n s.words W h.some_slot grows v (h.fits id v at)) some_key inside here);
       keys = λ i l taken. dite (ℕ_discrete i slot)
-        (λ e. inr (inr (sym (ap (key_at W) e ∙ here))))
-        (λ ne. inl (key_at-set_other s.words slot key i ne));
+          (λ e. inr (inr (sym (ap (key_at W) e ∙ here))))
+          (λ ne. inl (key_at-set_other s.words slot key i ne));
       owners = λ i l. dite (ℕ_discrete i slot)
-        (λ e. inl (owner_at-set_key s.words slot key i ∙ h.placed.bare i l (ap (key_at s.words) e ∙ empty)))
-        (λ ne. inr (inl (key_at-set_other s.words slot key i ne, owner_at-set_key s.words slot key i)));
+          (λ e. inl (owner_at-set_key s.words slot key i ∙ h.placed.bare i l (ap (key_at s.words) e ∙ empty)))
+          (λ ne. inr (inl (key_at-set_other s.words slot key i ne, owner_at-set_key s.words slot key i)));
       told = All-weaker (λ c. Stems o s.views c.0 c.1) (λ c. Stems o (set s.views id w) c.0 c.1)
-        (λ c t. stems_on o s.views (set s.views id w) c.0 c.1 (moved s.views id v w (Claims c.0 c.1) at (λ x. x)) t) v.seen (h.told id v at);
+          (λ c t. stems_on o s.views (set s.views id w) c.0 c.1 (moved s.views id v w (Claims c.0 c.1) at (λ x. x)) t) v.seen (h.told id v at);
       living = refl;
       lives = lives;
       out = refl;
@@ -174,10 +173,10 @@ put_allowed o key depth slots id me slot some_key near is flight lives s h wide 
   tt,
   dite (ℕ_discrete held 0)
       (λ e. subst (λ b. Holds o (stepped s (2 * slot) (either b key held) id me.1 (if b then probed o.slots key depth true v else probed o.slots key depth (held == key) v) keeps)) (sym (eq-eqb held 0 e))
-        (put_step o s id key depth slot v h at some_key near is flight lives e))
+      (put_step o s id key depth slot v h at some_key near is flight lives e))
       (λ ne. subst (λ b. Holds o (stepped s (2 * slot) (either b key held) id me.1 (if b then probed o.slots key depth true v else probed o.slots key depth (held == key) v) keeps)) (sym (ne_eqb held 0 ne))
-        (still o s id (2 * slot) key depth v (probed o.slots key depth (held == key) v) h at flight lives (before_probed o.slots key depth (held == key) v)
-          (fits_probed o.slots s.words key depth held v (h.fits id v at) some_key near flight (ap (key_at s.words) is) ne))),
+      (still o s id (2 * slot) key depth v (probed o.slots key depth (held == key) v) h at flight lives (before_probed o.slots key depth (held == key) v)
+      (fits_probed o.slots s.words key depth held v (h.fits id v at) some_key near flight (ap (key_at s.words) is) ne))),
   refl,
 )
 
@@ -195,52 +194,58 @@ own_owes o s id key number slot x v h at small flight lives is = let n : ℕ = o
     let grows : Grows n s.words W = record {
       keys = λ i l t. same i;
       owners = λ i l t. dite (ℕ_discrete i slot)
-        (λ e. let a : owner_at W i ≡ m = ap (owner_at W) e ∙ here in let b : owner_at s.words i ≡ x = ap (owner_at s.words) e ∙ sym is in omega arith)
-        (λ ne. let a : owner_at W i ≡ owner_at s.words i = else_at i ne in omega arith);
+          (λ e. let a : owner_at W i ≡ m = ap (owner_at W) e ∙ here in let b : owner_at s.words i ≡ x = ap (owner_at s.words) e ∙ sym is in omega arith)
+          (λ ne. let a : owner_at W i ≡ owner_at s.words i = else_at i ne in omega arith);
     } in
     let on = fits_on n s.words W h.some_slot grows v f in
     let mine : (k p : ℕ) → Claims k p v → Claims k p w = λ k p c. Contains-append_left v.claims ((key, number) ∷ []) (k, p) c in
     let new : Claims key number w = Contains-push v.claims (key, number) in
     let reach : (p : ℕ) → p < no_owner → m ≤ p → Reaches n W key p = λ p named l. record {
-      some_key = found.0; named = named; slot = slot; inside = inside; held = same slot ∙ found.2; owned = subst (λ (z : ℕ). z ≤ p) (sym here) l } in
+      some_key = found.0;
+      named = named;
+      slot = slot;
+      inside = inside;
+      held = same slot ∙ found.2;
+      owned = subst (λ (z : ℕ). z ≤ p) (sym here) l;
+    } in
     let stems : (k p : ℕ) → Stems o s.views k p → Stems o (set s.views id w) k p = λ k p. stems_on o s.views (set s.views id w) k p (moved s.views id v w (Claims k p) at (mine k p)) in record {
-  wide = length-set s.words (2 * slot + 1) m;
-  placed = own_placed n s.words slot m h.wide h.placed inside (λ z. found.0 (sym found.2 ∙ z));
-  grows = grows;
-  claims = mine;
-  brings = λ k b. ⊎_elim
-    (λ (a : (p : ℕ) × Contains v.claims (k, p)). inl (a.0, mine k a.0 a.1))
-    (λ (a : HasFound k v.flight). let e : key ≡ k = subst (HasFound k) flight a in inl (number, subst (λ (z : ℕ). Claims z number w) e new)) b;
-  fits = record {
-    claims = All-push (λ c. Reaches n W c.0 c.1) v.claims (key, number) on.claims (reach number small (omega arith));
-    seen = All-push (λ c. Reaches n W c.0 c.1) v.seen (key, m) on.seen (reach m (omega arith) (le_refl m));
-    full = on.full;
-    flight = tt;
-  };
-  keys = λ i l t. inl (same i);
-  owners = λ i l. dite (ℕ_discrete i slot)
-    (λ e. ⊎_elim
-      (λ (lt : x < number). let eq : m ≡ x = omega arith in inr (inl (same i, ap (owner_at W) e ∙ (here ∙ (eq ∙ (is ∙ ap (owner_at s.words) (sym e)))))))
-      (λ (le : number ≤ x). let eq : m ≡ number = omega arith in
-        let k : key_at W i ≡ key = ap (key_at W) e ∙ (same slot ∙ found.2) in let p : owner_at W i ≡ number = ap (owner_at W) e ∙ (here ∙ eq) in
-        inr (inr (subst (λ (z : ℕ × ℕ). Claims z.0 z.1 w) (λ j. (sym k j, sym p j)) new)))
-      (cases_lt x number))
-    (λ ne. inr (inl (same i, else_at i ne)));
-  told = All-push (λ c. Stems o (set s.views id w) c.0 c.1) v.seen (key, m)
-    (All-weaker (λ c. Stems o s.views c.0 c.1) (λ c. Stems o (set s.views id w) c.0 c.1) (λ c t. stems c.0 c.1 t) v.seen (h.told id v at))
-    (⊎_elim
-      (λ (lt : x < number). let eq : m ≡ x = omega arith in subst (λ (z : ℕ). Stems o (set s.views id w) key z) (sym eq)
-        (⊎_elim (λ (none_yet : owner_at s.words slot ≡ no_owner). absurd (let a : x ≡ no_owner = is ∙ none_yet in omega arith))
+      wide = length-set s.words (2 * slot + 1) m;
+      placed = own_placed n s.words slot m h.wide h.placed inside (λ z. found.0 (sym found.2 ∙ z));
+      grows = grows;
+      claims = mine;
+      brings = λ k b. ⊎_elim
+          (λ (a : (p : ℕ) × Contains v.claims (k, p)). inl (a.0, mine k a.0 a.1))
+          (λ (a : HasFound k v.flight). let e : key ≡ k = subst (HasFound k) flight a in inl (number, subst (λ (z : ℕ). Claims z number w) e new)) b;
+      fits = record {
+        claims = All-push (λ c. Reaches n W c.0 c.1) v.claims (key, number) on.claims (reach number small (omega arith));
+        seen = All-push (λ c. Reaches n W c.0 c.1) v.seen (key, m) on.seen (reach m (omega arith) (le_refl m));
+        full = on.full;
+        flight = tt;
+      };
+      keys = λ i l t. inl (same i);
+      owners = λ i l. dite (ℕ_discrete i slot)
+          (λ e. ⊎_elim
+          (λ (lt : x < number). let eq : m ≡ x = omega arith in inr (inl (same i, ap (owner_at W) e ∙ (here ∙ (eq ∙ (is ∙ ap (owner_at s.words) (sym e)))))))
+          (λ (le : number ≤ x). let eq : m ≡ number = omega arith in
+          let k : key_at W i ≡ key = ap (key_at W) e ∙ (same slot ∙ found.2) in let p : owner_at W i ≡ number = ap (owner_at W) e ∙ (here ∙ eq) in
+          inr (inr (subst (λ (z : ℕ × ℕ). Claims z.0 z.1 w) (λ j. (sym k j, sym p j)) new)))
+          (cases_lt x number))
+          (λ ne. inr (inl (same i, else_at i ne)));
+      told = All-push (λ c. Stems o (set s.views id w) c.0 c.1) v.seen (key, m)
+          (All-weaker (λ c. Stems o s.views c.0 c.1) (λ c. Stems o (set s.views id w) c.0 c.1) (λ c t. stems c.0 c.1 t) v.seen (h.told id v at))
+          (⊎_elim
+          (λ (lt : x < number). let eq : m ≡ x = omega arith in subst (λ (z : ℕ). Stems o (set s.views id w) key z) (sym eq)
+          (⊎_elim (λ (none_yet : owner_at s.words slot ≡ no_owner). absurd (let a : x ≡ no_owner = is ∙ none_yet in omega arith))
           (λ (b : Stems o s.views (key_at s.words slot) (owner_at s.words slot)).
-            stems key x (subst (λ (z : ℕ × ℕ). Stems o s.views z.0 z.1) (λ j. (found.2 j, sym is j)) b))
+          stems key x (subst (λ (z : ℕ × ℕ). Stems o s.views z.0 z.1) (λ j. (found.2 j, sym is j)) b))
           (h.owned slot inside)))
-      (λ (le : number ≤ x). let eq : m ≡ number = omega arith in subst (λ (z : ℕ). Stems o (set s.views id w) key z) (sym eq)
-        (inr record { seat = id; view = w; there = set_at s.views id w v at; has = new }))
-      (cases_lt x number));
-  living = refl;
-  lives = lives;
-  out = refl;
-}
+          (λ (le : number ≤ x). let eq : m ≡ number = omega arith in subst (λ (z : ℕ). Stems o (set s.views id w) key z) (sym eq)
+          (inr record { seat = id; view = w; there = set_at s.views id w v at; has = new }))
+          (cases_lt x number));
+      living = refl;
+      lives = lives;
+      out = refl;
+    }
 
 -- what the owner's step tells
 own_told : (o : Opening) (s : State ℕ View) (id key number most slot x : ℕ) (me : Me ℕ View) → Holds o s → get_elem? s.views id ≡ some me.0 → number < no_owner
@@ -248,18 +253,18 @@ own_told : (o : Opening) (s : State ℕ View) (id key number most slot x : ℕ) 
 own_told o s id key number most slot x me h at small flight is first = let n : ℕ = o.slots in let v : View = me.0 in let f = h.fits id v at in
     let found : (key ≢ 0) × (slot < n) × (key_at s.words slot ≡ key) = subst (FitsFlight n s.words) flight f.flight in
     let only : (i : ℕ) → i < n → key_at s.words i ≡ key → slot ≡ i = λ i l e.
-      h.placed.once slot i found.1 l (λ z. found.0 (sym found.2 ∙ z)) (found.2 ∙ sym e) in record {
-  view = refl;
-  seen = All-weaker (λ c. Reaches n s.words c.0 c.1) (λ c. c.0 ≡ key → min x number ≤ c.1)
-    (λ c r e. let there : slot ≡ r.slot = only r.slot r.inside (r.held ∙ e) in let low : owner_at s.words r.slot ≤ c.1 = r.owned in
-      let same : x ≡ owner_at s.words r.slot = is ∙ ap (owner_at s.words) there in omega arith) v.seen f.seen;
-  first = ⊎_elim
-    (λ (a : (i : ℕ) × Opens o i key most). let q = a.1 in let st = h.stays a.0 q.inside (λ z. q.some_key (sym q.held ∙ z)) in
-      let there : slot ≡ a.0 = only a.0 q.inside (st.key ∙ q.held) in
-      let same : x ≡ owner_at s.words a.0 = is ∙ ap (owner_at s.words) there in
-      let low : owner_at s.words a.0 ≤ owner_at o.words.items a.0 = st.owner in let top : owner_at o.words.items a.0 ≡ most = q.owned in omega arith)
-    (λ (e : most ≡ no_owner). omega arith) first;
-}
+    h.placed.once slot i found.1 l (λ z. found.0 (sym found.2 ∙ z)) (found.2 ∙ sym e) in record {
+      view = refl;
+      seen = All-weaker (λ c. Reaches n s.words c.0 c.1) (λ c. c.0 ≡ key → min x number ≤ c.1)
+          (λ c r e. let there : slot ≡ r.slot = only r.slot r.inside (r.held ∙ e) in let low : owner_at s.words r.slot ≤ c.1 = r.owned in
+          let same : x ≡ owner_at s.words r.slot = is ∙ ap (owner_at s.words) there in omega arith) v.seen f.seen;
+      first = ⊎_elim
+          (λ (a : (i : ℕ) × Opens o i key most). let q = a.1 in let st = h.stays a.0 q.inside (λ z. q.some_key (sym q.held ∙ z)) in
+          let there : slot ≡ a.0 = only a.0 q.inside (st.key ∙ q.held) in
+          let same : x ≡ owner_at s.words a.0 = is ∙ ap (owner_at s.words) there in
+          let low : owner_at s.words a.0 ≤ owner_at o.words.items a.0 = st.owner in let top : owner_at o.words.items a.0 ≡ most = q.owned in omega arith)
+          (λ (e : most ≡ no_owner). omega arith) first;
+    }
 
 pub own_allowed : (o : Opening) (key number most slots id : ℕ) (me : Me ℕ View) (slot : ℕ) → number < no_owner → me.0.flight ≡ Found key slot → me.0.living ≡ true
     → HasFirst key most o → Allows (Holds o) slots id me (2 * slot + 1) (λ x. min x number) (Owns key number most me)

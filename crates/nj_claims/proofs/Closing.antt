@@ -1,6 +1,6 @@
 -- What the last words are: all views but the first are spent, so each owner stems from the opening table or from the
 -- first pass's claims.
-use Rattle.std.proofs.Common.{◌≡◌, ◌≢◌, ℕ, zero, suc, ◌+◌, ◌-◌, ◌*◌, ◌/◌, ◌<◌, ◌≤◌, ◌⊎◌, inl, inr, ⊎_elim, true, false, Bool, List, [], ◌∷◌, ◌++◌, length, get_or, refl, sym, ap, ◌∙◌, subst, arith, if◌then◌else◌, cond, set, get_or-set_other, get_or-set_same}
+use Rattle.std.proofs.Common.{◌≡◌, ◌≢◌, ℕ, suc, ◌+◌, ◌*◌, ◌/◌, ◌<◌, ◌≤◌, inl, inr, ⊎_elim, true, false, Bool, List, [], ◌∷◌, length, get_or, refl, sym, ap, ◌∙◌, subst, arith, if◌then◌else◌, set, get_or-set_other, get_or-set_same}
 use Rattle.std.specs.Prelude.{Option, Some, None, IfSome}
 use Rattle.std.specs.List.{All, Contains, sum_by}
 use Rattle.std.proofs.lemmas.List.Elements.{All-weaker, All-contains}
@@ -11,11 +11,10 @@ use lib.ListN.{get_elem?}
 use Rattle.atomic_table.specs.Table.{State, Final, Seen}
 use Rattle.nj_claims.specs.declared.view.View.{View}
 use Rattle.nj_claims.specs.declared.view.Opening.{Opening}
-use Rattle.nj_claims.specs.declared.view.Flight.{Flight}
 use Rattle.nj_claims.specs.declared.view.Flight.TheVariants.{Idle}
-use Rattle.nj_claims.specs.Tables.{no_owner, key_at, owner_at, slot_count, IsPlaced, IsTable, entries_in, owner_in, owner_after}
+use Rattle.nj_claims.specs.Tables.{no_owner, key_at, owner_at, slot_count, IsPlaced, IsTable, owner_in, owner_after}
 use Rattle.nj_claims.specs.Passes.{WasOwner, HadNoRoom}
-use Rattle.nj_claims.specs.Rule.{Fits, Reaches, HoldsOther, IsFullFor, Somewhere, HasFound, Brings, Claims, Opens, Stems, Stays, spent_view, living_count, Holds}
+use Rattle.nj_claims.specs.Rule.{Reaches, IsFullFor, Somewhere, HasFound, Brings, Claims, Opens, Stems, spent_view, living_count, Holds}
 use Rattle.nj_claims.proofs.Views.{same_at, two_at_most, at_get}
 use Rattle.nj_claims.proofs.Mapping.{standing, absent_in, stood, zero_in, all_taken, seek, least_is, none_is, two_each}
 
@@ -46,14 +45,14 @@ root_claims : (o : Opening) (s : State ℕ View) (v : View) → IsLast o s v →
 root_claims o s v x key number p = dite (ℕ_discrete p.seat 0)
     (λ e. subst (λ (u : View). Contains u.claims (key, number)) (same_at s.views 0 p.view v (subst (λ (i : ℕ). get_elem? s.views i ≡ some p.view) e p.there) x.there) p.has)
     (λ ne. let c : Contains spent_view.claims (key, number) = subst (λ (u : View). Contains u.claims (key, number)) (others_spent o s v x p.seat p.view ne p.there) p.has in
-      absurd (nowhere (key, number) c))
+    absurd (nowhere (key, number) c))
 
 root_brings : (o : Opening) (s : State ℕ View) (v : View) → IsLast o s v → (key : ℕ) → Somewhere s.views (Brings key) → (number : ℕ) × Contains v.claims (key, number)
 root_brings o s v x key p = dite (ℕ_discrete p.seat 0)
     (λ e. let b : Brings key v = subst (Brings key) (same_at s.views 0 p.view v (subst (λ (i : ℕ). get_elem? s.views i ≡ some p.view) e p.there) x.there) p.has in
-      ⊎_elim (λ (a : (number : ℕ) × Contains v.claims (key, number)). a) (λ (f : HasFound key v.flight). absurd (let z : HasFound key Idle = subst (HasFound key) x.idle f in z)) b)
+    ⊎_elim (λ (a : (number : ℕ) × Contains v.claims (key, number)). a) (λ (f : HasFound key v.flight). absurd (let z : HasFound key Idle = subst (HasFound key) x.idle f in z)) b)
     (λ ne. let b : Brings key spent_view = subst (Brings key) (others_spent o s v x p.seat p.view ne p.there) p.has in
-      ⊎_elim (λ (a : (number : ℕ) × Contains spent_view.claims (key, number)). absurd (nowhere (key, a.0) a.1)) (λ (f : HasFound key spent_view.flight). absurd f) b)
+    ⊎_elim (λ (a : (number : ℕ) × Contains spent_view.claims (key, number)). absurd (nowhere (key, a.0) a.1)) (λ (f : HasFound key spent_view.flight). absurd f) b)
 
 opened : (o : Opening) (s : State ℕ View) (v : View) → IsLast o s v → length o.words.items ≡ 2 * o.slots
 opened o s v x = two_each o.words.items x.table ∙ ap (λ (n : ℕ). 2 * n) (sym x.slots)
@@ -71,47 +70,47 @@ stands : (o : Opening) (s : State ℕ View) (v : View) → IsLast o s v → (key
 stands o s v x key i real inside held = let h = x.holds in let n : ℕ = o.slots in let m : ℕ = owner_at s.words i in let f = h.fits 0 v x.there in
     let only : (j : ℕ) → j < n → key_at s.words j ≡ key → j ≡ i = λ j l e. h.placed.once j i l inside (λ z. real (sym e ∙ z)) (e ∙ sym held) in
     let reached : (c : ℕ × ℕ) → Reaches n s.words c.0 c.1 → c.0 ≡ key → m ≤ c.1 = λ c r e. let same = only r.slot r.inside (r.held ∙ e) in
-      subst (λ (j : ℕ). owner_at s.words j ≤ c.1) same r.owned in
+    subst (λ (j : ℕ). owner_at s.words j ≤ c.1) same r.owned in
     standing n s.words key i h.wide h.placed real inside held ∙ sym (least_is key (owner_in o.words.items key) v.claims m
-      (bound (owner_in o.words.items key) refl)
-      (All-weaker (λ c. Reaches n s.words c.0 c.1) (λ c. c.0 ≡ key → m ≤ c.1) reached v.claims f.claims)
-      (⊎_elim
-        (λ (none_yet : m ≡ no_owner). ⊎_elim
-          (λ (e : key_at o.words.items i ≡ key_at s.words i). let first : key_at o.words.items i ≡ key = e ∙ held in
-            let st = h.stays i inside (λ z. real (sym first ∙ z)) in let low : m ≤ owner_at o.words.items i = st.owner in
-            let top : owner_at o.words.items i ≤ no_owner = h.small i inside in
-            inl (standing n o.words.items key i (opened o s v x) (placed o s v x) real inside first ∙ ap (λ (y : ℕ). Some y) (let eq : owner_at o.words.items i ≡ m = omega arith in eq)))
-          (λ (b : Somewhere s.views (Brings (key_at s.words i))). let p = root_brings o s v x (key_at s.words i) b in
-            let r : Reaches n s.words (key_at s.words i) p.0 = All-contains (λ c. Reaches n s.words c.0 c.1) v.claims (key_at s.words i, p.0) f.claims p.1 in
-            let low : m ≤ p.0 = reached (key_at s.words i, p.0) r held in let named : p.0 < no_owner = r.named in absurd (omega arith))
-          (h.known i inside (λ z. real (sym held ∙ z))))
-        (λ (st : Stems o s.views (key_at s.words i) m). ⊎_elim
-          (λ (p : (slot : ℕ) × Opens o slot (key_at s.words i) m). inl (subst (λ (k : ℕ). owner_in o.words.items k ≡ Some m) held (opens o s v x p.0 (key_at s.words i) m p.1)))
-          (λ (p : Somewhere s.views (Claims (key_at s.words i) m)). inr (subst (λ (k : ℕ). Contains v.claims (k, m)) held (root_claims o s v x (key_at s.words i) m p))) st)
-        (h.owned i inside))) where
-  bound : (y : Option ℕ) → owner_in o.words.items key ≡ y → IfSome y (λ z. owner_at s.words i ≤ z)
-  bound None e = tt
-  bound (Some first) e = let h = x.holds in let a = stood o.slots o.words.items key first (opened o s v x) e in
-      let st = h.stays a.slot a.inside (λ z. real (sym a.held ∙ z)) in let low : owner_at s.words a.slot ≤ owner_at o.words.items a.slot = st.owner in
-      let same : a.slot ≡ i = h.placed.once a.slot i a.inside inside (λ z. real (sym (st.key ∙ a.held) ∙ z)) (st.key ∙ (a.held ∙ sym held)) in
-      let now : owner_at s.words a.slot ≡ owner_at s.words i = ap (owner_at s.words) same in let top : owner_at o.words.items a.slot ≡ first = a.owned in omega arith
+    (bound (owner_in o.words.items key) refl)
+    (All-weaker (λ c. Reaches n s.words c.0 c.1) (λ c. c.0 ≡ key → m ≤ c.1) reached v.claims f.claims)
+    (⊎_elim
+    (λ (none_yet : m ≡ no_owner). ⊎_elim
+    (λ (e : key_at o.words.items i ≡ key_at s.words i). let first : key_at o.words.items i ≡ key = e ∙ held in
+    let st = h.stays i inside (λ z. real (sym first ∙ z)) in let low : m ≤ owner_at o.words.items i = st.owner in
+    let top : owner_at o.words.items i ≤ no_owner = h.small i inside in
+    inl (standing n o.words.items key i (opened o s v x) (placed o s v x) real inside first ∙ ap (λ (y : ℕ). Some y) (let eq : owner_at o.words.items i ≡ m = omega arith in eq)))
+    (λ (b : Somewhere s.views (Brings (key_at s.words i))). let p = root_brings o s v x (key_at s.words i) b in
+    let r : Reaches n s.words (key_at s.words i) p.0 = All-contains (λ c. Reaches n s.words c.0 c.1) v.claims (key_at s.words i, p.0) f.claims p.1 in
+    let low : m ≤ p.0 = reached (key_at s.words i, p.0) r held in let named : p.0 < no_owner = r.named in absurd (omega arith))
+    (h.known i inside (λ z. real (sym held ∙ z))))
+    (λ (st : Stems o s.views (key_at s.words i) m). ⊎_elim
+    (λ (p : (slot : ℕ) × Opens o slot (key_at s.words i) m). inl (subst (λ (k : ℕ). owner_in o.words.items k ≡ Some m) held (opens o s v x p.0 (key_at s.words i) m p.1)))
+    (λ (p : Somewhere s.views (Claims (key_at s.words i) m)). inr (subst (λ (k : ℕ). Contains v.claims (k, m)) held (root_claims o s v x (key_at s.words i) m p))) st)
+    (h.owned i inside))) where
+      bound : (y : Option ℕ) → owner_in o.words.items key ≡ y → IfSome y (λ z. owner_at s.words i ≤ z)
+      bound None e = tt
+      bound (Some first) e = let h = x.holds in let a = stood o.slots o.words.items key first (opened o s v x) e in
+          let st = h.stays a.slot a.inside (λ z. real (sym a.held ∙ z)) in let low : owner_at s.words a.slot ≤ owner_at o.words.items a.slot = st.owner in
+          let same : a.slot ≡ i = h.placed.once a.slot i a.inside inside (λ z. real (sym (st.key ∙ a.held) ∙ z)) (st.key ∙ (a.held ∙ sym held)) in
+          let now : owner_at s.words a.slot ≡ owner_at s.words i = ap (owner_at s.words) same in let top : owner_at o.words.items a.slot ≡ first = a.owned in omega arith
 
 -- a key that stands in no slot
 stands_not : (o : Opening) (s : State ℕ View) (v : View) → IsLast o s v → (key : ℕ) → key ≢ 0 → ((i : ℕ) → i < o.slots → key_at s.words i ≢ key)
     → owner_in s.words key ≡ owner_after key (owner_in o.words.items key) v.claims
 stands_not o s v x key real none = let h = x.holds in let n : ℕ = o.slots in let f = h.fits 0 v x.there in
     absent_in n s.words key h.wide none ∙ sym (ap (λ (y : Option ℕ). owner_after key y v.claims)
-      (absent_in n o.words.items key (opened o s v x) (λ i l e. none i l ((h.stays i l (λ z. real (sym e ∙ z))).key ∙ e)))
-      ∙ none_is key v.claims (All-weaker (λ c. Reaches n s.words c.0 c.1) (λ c. c.0 ≢ key) (λ c r e. none r.slot r.inside (r.held ∙ e)) v.claims f.claims))
+    (absent_in n o.words.items key (opened o s v x) (λ i l e. none i l ((h.stays i l (λ z. real (sym e ∙ z))).key ∙ e)))
+    ∙ none_is key v.claims (All-weaker (λ c. Reaches n s.words c.0 c.1) (λ c. c.0 ≢ key) (λ c r e. none r.slot r.inside (r.held ∙ e)) v.claims f.claims))
 
 -- each owner at the end is the least of the opening owner and the numbers claimed
 pub closed_owner : (o : Opening) (s : State ℕ View) (v : View) → IsLast o s v → (key : ℕ) → owner_in s.words key ≡ owner_after key (owner_in o.words.items key) v.claims
 closed_owner o s v x key = let h = x.holds in let n : ℕ = o.slots in let f = h.fits 0 v x.there in dite (ℕ_discrete key 0)
     (λ z. subst (λ (k : ℕ). owner_in s.words k ≡ owner_after k (owner_in o.words.items k) v.claims) (sym z)
-      (zero_in n s.words h.wide ∙ sym (ap (λ (y : Option ℕ). owner_after 0 y v.claims) (zero_in n o.words.items (opened o s v x))
-        ∙ none_is 0 v.claims (All-weaker (λ c. Reaches n s.words c.0 c.1) (λ c. c.0 ≢ 0) (λ c r. r.some_key) v.claims f.claims))))
+    (zero_in n s.words h.wide ∙ sym (ap (λ (y : Option ℕ). owner_after 0 y v.claims) (zero_in n o.words.items (opened o s v x))
+    ∙ none_is 0 v.claims (All-weaker (λ c. Reaches n s.words c.0 c.1) (λ c. c.0 ≢ 0) (λ c r. r.some_key) v.claims f.claims))))
     (λ real. ⊎_elim (λ (p : (slot : ℕ) × (slot < n) × (key_at s.words slot ≡ key)). stands o s v x key p.0 real p.1 p.2)
-      (λ (none : (i : ℕ) → i < n → key_at s.words i ≢ key). stands_not o s v x key real none) (seek n s.words key))
+    (λ (none : (i : ℕ) → i < n → key_at s.words i ≢ key). stands_not o s v x key real none) (seek n s.words key))
 
 -- each number seen for a key was its owner, and the last owner is at most it
 pub closed_seen : (o : Opening) (s : State ℕ View) (v : View) → IsLast o s v → All (λ c. WasOwner o.words.items s.words v.claims c.0 c.1) v.seen
@@ -120,7 +119,7 @@ closed_seen o s v x = let h = x.holds in λ k d l. was (get_or v.seen k d).0 (ge
   was key number r st = record {
     bound = (owner_at s.words r.slot, standing o.slots s.words key r.slot x.holds.wide x.holds.placed r.some_key r.inside r.held, r.owned);
     source = ⊎_elim (λ (p : (slot : ℕ) × Opens o slot key number). inl (opens o s v x p.0 key number p.1))
-      (λ (p : Somewhere s.views (Claims key number)). inr (root_claims o s v x key number p)) st;
+        (λ (p : Somewhere s.views (Claims key number)). inr (root_claims o s v x key number p)) st;
   }
 
 -- where a claim found no room, no slot is empty and none has the key

@@ -1,17 +1,16 @@
 -- The words of a table as a map from keys to owners.
-use Rattle.std.proofs.Common.{◌≡◌, ◌≢◌, ℕ, zero, suc, ◌+◌, ◌-◌, ◌*◌, ◌<◌, ◌≤◌, ◌==◌, eqb, min, ◌⊎◌, inl, inr, ⊎_elim, true, false, Bool, List, [], ◌∷◌, ◌++◌, length, get_or, refl, sym, ap, ◌∙◌, subst, arith, eq-eqb, ne_eqb, le_refl, if◌then◌else◌, cond, ◌^◌, ◌/◌, add-one}
+use Rattle.std.proofs.Common.{◌≡◌, ◌≢◌, ℕ, zero, suc, ◌+◌, ◌*◌, ◌<◌, ◌≤◌, min, ◌⊎◌, inl, inr, ⊎_elim, List, [], ◌∷◌, length, get_or, refl, sym, ap, ◌∙◌, subst, arith, eq-eqb, ne_eqb, if◌then◌else◌, ◌^◌, add-one}
 use Rattle.std.specs.Prelude.{Option, Some, None, IfSome}
 use Rattle.std.specs.List.{All, Contains}
 use Rattle.std.specs.Option.{unwrap_or}
-use Rattle.std.proofs.lemmas.List.Elements.{All-head, All-tail, Contains-append_cases, All-contains}
+use Rattle.std.proofs.lemmas.List.Elements.{All-head, All-tail, Contains-append_cases}
 use mathlib.Core.Logic.{dite}
 use native.Mathlib.Decide.{ℕ_discrete}
 use Rattle.std.proofs.Math.Nat.{two-pow-succ}
 use Rattle.std.proofs.lemmas.Nat.{pow_pos}
 use Rattle.nj_claims.specs.declared.view.Opening.{Opening}
-use Rattle.nj_claims.specs.Rule.{Opens}
 use Rattle.nj_claims.specs.Boards.{HasFirst, first_owner}
-use Rattle.nj_claims.specs.Tables.{no_owner, key_at, owner_at, slot_from, slot_count, IsPlaced, IsTable, entries_in, owner_among, owner_in, lowered, owner_after}
+use Rattle.nj_claims.specs.Tables.{no_owner, key_at, owner_at, slot_count, IsPlaced, IsTable, entries_in, owner_among, owner_in, lowered, owner_after}
 
 -- the words of the slots behind the first
 pub key_at-rest : (k o : ℕ) (ws : List ℕ) (i : ℕ) → key_at (k ∷ o ∷ ws) (suc i) ≡ key_at ws i
@@ -29,7 +28,7 @@ entry_later : (key k o : ℕ) (ws : List ℕ) → k ≢ key → owner_among key 
 entry_later key k o ws ne = dite (ℕ_discrete k 0)
     (λ z. ap (λ b. owner_among key (if b then entries_in ws else (k, o) ∷ entries_in ws)) (eq-eqb k 0 z))
     (λ some. ap (λ b. owner_among key (if b then entries_in ws else (k, o) ∷ entries_in ws)) (ne_eqb k 0 some)
-      ∙ ap (λ b. if b then Some o else owner_among key (entries_in ws)) (ne_eqb k key ne))
+    ∙ ap (λ b. if b then Some o else owner_among key (entries_in ws)) (ne_eqb k key ne))
 
 -- a key that stands in a slot, and in none before it, has that slot's owner
 standing_among : (n : ℕ) (ws : List ℕ) (key slot : ℕ) → length ws ≡ 2 * n → key ≢ 0 → slot < n → key_at ws slot ≡ key → ((i : ℕ) → i < slot → key_at ws i ≢ key)
@@ -66,12 +65,12 @@ stood_among n (k ∷ []) key owner wide e = absurd (cc)
 stood_among zero (k ∷ o ∷ ws) key owner wide e = absurd (omega arith)
 stood_among (suc n) (k ∷ o ∷ ws) key owner wide e = dite (ℕ_discrete k key)
     (λ is. dite (ℕ_discrete k 0)
-      (λ z. let r = stood_among n ws key owner (omega arith) (sym (ap (λ b. owner_among key (if b then entries_in ws else (k, o) ∷ entries_in ws)) (eq-eqb k 0 z)) ∙ e) in later r)
-      (λ some. let same : o ≡ owner = let f = sym (entry_first key k o ws some is) ∙ e in cc in
-        record { some_key = λ z. some (is ∙ z); slot = 0; inside = omega arith; held = is; owned = same }))
+    (λ z. let r = stood_among n ws key owner (omega arith) (sym (ap (λ b. owner_among key (if b then entries_in ws else (k, o) ∷ entries_in ws)) (eq-eqb k 0 z)) ∙ e) in later r)
+    (λ some. let same : o ≡ owner = let f = sym (entry_first key k o ws some is) ∙ e in cc in
+    record { some_key = λ z. some (is ∙ z); slot = 0; inside = omega arith; held = is; owned = same }))
     (λ ne. later (stood_among n ws key owner (omega arith) (sym (entry_later key k o ws ne) ∙ e))) where
-  later : StandsAt n ws key owner → StandsAt (suc n) (k ∷ o ∷ ws) key owner
-  later r = let l : r.slot < n = r.inside in record { some_key = r.some_key; slot = suc r.slot; inside = omega arith; held = key_at-rest k o ws r.slot ∙ r.held; owned = owner_at-rest k o ws r.slot ∙ r.owned }
+      later : StandsAt n ws key owner → StandsAt (suc n) (k ∷ o ∷ ws) key owner
+      later r = let l : r.slot < n = r.inside in record { some_key = r.some_key; slot = suc r.slot; inside = omega arith; held = key_at-rest k o ws r.slot ∙ r.held; owned = owner_at-rest k o ws r.slot ∙ r.owned }
 
 -- the same of the map
 pub standing : (n : ℕ) (ws : List ℕ) (key slot : ℕ) → length ws ≡ 2 * n → IsPlaced n ws → key ≢ 0 → slot < n → key_at ws slot ≡ key → owner_in ws key ≡ Some (owner_at ws slot)
@@ -109,8 +108,8 @@ seek zero ws key = inr (λ i l. absurd (omega arith))
 seek (suc n) ws key = dite (ℕ_discrete (key_at ws n) key)
     (λ e. inl (n, omega arith, e))
     (λ ne. ⊎_elim (λ (p : (slot : ℕ) × (slot < n) × (key_at ws slot ≡ key)). let l : p.0 < n = p.1 in inl (p.0, omega arith, p.2))
-      (λ (none : (i : ℕ) → i < n → key_at ws i ≢ key). inr (λ i l e. dite (ℕ_discrete i n) (λ is. ne (ap (key_at ws) (sym is) ∙ e)) (λ no. none i (omega arith) e)))
-      (seek n ws key))
+    (λ (none : (i : ℕ) → i < n → key_at ws i ≢ key). inr (λ i l e. dite (ℕ_discrete i n) (λ is. ne (ap (key_at ws) (sym is) ∙ e)) (λ no. none i (omega arith) e)))
+    (seek n ws key))
 
 -- a key's owner after claims is the least of them: it is at most each, and one of them
 pub least_is : (key : ℕ) (first : Option ℕ) (claims : List (ℕ × ℕ)) (m : ℕ) → IfSome first (λ x. m ≤ x) → All (λ c. c.0 ≡ key → m ≤ c.1) claims
@@ -118,25 +117,28 @@ pub least_is : (key : ℕ) (first : Option ℕ) (claims : List (ℕ × ℕ)) (m 
 least_is key first [] m bound all source = ⊎_elim (λ (e : first ≡ Some m). e) (λ (c : Contains [] (key, m)). absurd (let l : c.0 < 0 = c.1 in omega arith)) source
 least_is key first (c ∷ cs) m bound all source = let P : ℕ × ℕ → Type 0 = λ c. c.0 ≡ key → m ≤ c.1 in dite (ℕ_discrete c.0 key)
     (λ e. ap (λ b. owner_after key (if b then lowered first c.1 else first) cs) (eq-eqb c.0 key e)
-      ∙ least_is key (lowered first c.1) cs m (low first bound (All-head P c cs all e)) (All-tail P c cs all)
-        (⊎_elim (λ (f : first ≡ Some m). inl (same first f (All-head P c cs all e)))
-          (λ (i : Contains (c ∷ cs) (key, m)). ⊎_elim (λ (h : Contains (c ∷ []) (key, m)). inl (own first bound (only c (key, m) h)))
-            (λ (t : Contains cs (key, m)). inr t) (Contains-append_cases (c ∷ []) cs (key, m) i)) source))
+    ∙ least_is key (lowered first c.1) cs m (low first bound (All-head P c cs all e)) (All-tail P c cs all)
+    (⊎_elim (λ (f : first ≡ Some m). inl (same first f (All-head P c cs all e)))
+    (λ (i : Contains (c ∷ cs) (key, m)). ⊎_elim (λ (h : Contains (c ∷ []) (key, m)). inl (own first bound (only c (key, m) h)))
+    (λ (t : Contains cs (key, m)). inr t) (Contains-append_cases (c ∷ []) cs (key, m) i)) source))
     (λ ne. ap (λ b. owner_after key (if b then lowered first c.1 else first) cs) (ne_eqb c.0 key ne)
-      ∙ least_is key first cs m bound (All-tail P c cs all)
-        (⊎_elim (λ (f : first ≡ Some m). inl f)
-          (λ (i : Contains (c ∷ cs) (key, m)). ⊎_elim (λ (h : Contains (c ∷ []) (key, m)). absurd (ne (ap (λ (z : ℕ × ℕ). z.0) (only c (key, m) h))))
-            (λ (t : Contains cs (key, m)). inr t) (Contains-append_cases (c ∷ []) cs (key, m) i)) source)) where
-  only : (a x : ℕ × ℕ) → Contains (a ∷ []) x → a ≡ x
-  only a x h = let l : h.0 < 1 = h.1 in subst (λ (k : ℕ). get_or (a ∷ []) k x ≡ x) (let z : h.0 ≡ 0 = omega arith in z) h.2
-  low : (first : Option ℕ) → IfSome first (λ x. m ≤ x) → m ≤ c.1 → IfSome (lowered first c.1) (λ x. m ≤ x)
-  low None b l = l
-  low (Some x) b l = omega arith
-  same : (first : Option ℕ) → first ≡ Some m → m ≤ c.1 → lowered first c.1 ≡ Some m
-  same first f l = ap (λ (o : Option ℕ). lowered o c.1) f ∙ ap (λ (x : ℕ). Some x) (let e : min m c.1 ≡ m = omega arith in e)
-  own : (first : Option ℕ) → IfSome first (λ x. m ≤ x) → c ≡ (key, m) → lowered first c.1 ≡ Some m
-  own None b e = ap (λ (z : ℕ × ℕ). Some z.1) e
-  own (Some x) b e = let at : c.1 ≡ m = ap (λ (z : ℕ × ℕ). z.1) e in ap (λ (x : ℕ). Some x) (let e : min x c.1 ≡ m = omega arith in e)
+    ∙ least_is key first cs m bound (All-tail P c cs all)
+    (⊎_elim (λ (f : first ≡ Some m). inl f)
+    (λ (i : Contains (c ∷ cs) (key, m)). ⊎_elim (λ (h : Contains (c ∷ []) (key, m)). absurd (ne (ap (λ (z : ℕ × ℕ). z.0) (only c (key, m) h))))
+    (λ (t : Contains cs (key, m)). inr t) (Contains-append_cases (c ∷ []) cs (key, m) i)) source)) where
+      only : (a x : ℕ × ℕ) → Contains (a ∷ []) x → a ≡ x
+      only a x h = let l : h.0 < 1 = h.1 in subst (λ (k : ℕ). get_or (a ∷ []) k x ≡ x) (let z : h.0 ≡ 0 = omega arith in z) h.2
+
+      low : (first : Option ℕ) → IfSome first (λ x. m ≤ x) → m ≤ c.1 → IfSome (lowered first c.1) (λ x. m ≤ x)
+      low None b l = l
+      low (Some x) b l = omega arith
+
+      same : (first : Option ℕ) → first ≡ Some m → m ≤ c.1 → lowered first c.1 ≡ Some m
+      same first f l = ap (λ (o : Option ℕ). lowered o c.1) f ∙ ap (λ (x : ℕ). Some x) (let e : min m c.1 ≡ m = omega arith in e)
+
+      own : (first : Option ℕ) → IfSome first (λ x. m ≤ x) → c ≡ (key, m) → lowered first c.1 ≡ Some m
+      own None b e = ap (λ (z : ℕ × ℕ). Some z.1) e
+      own (Some x) b e = let at : c.1 ≡ m = ap (λ (z : ℕ × ℕ). z.1) e in ap (λ (x : ℕ). Some x) (let e : min x c.1 ≡ m = omega arith in e)
 
 -- a key without an owner that nobody claimed has none after
 pub none_is : (key : ℕ) (claims : List (ℕ × ℕ)) → All (λ c. c.0 ≢ key) claims → owner_after key None claims ≡ None

@@ -1,5 +1,5 @@
 -- A number with one bit set is a power of two.
-use Rattle.std.proofs.Common.{◌≡◌, ◌≢◌, ℕ, zero, suc, ◌+◌, ◌-◌, ◌*◌, ◌/◌, ◌%◌, ◌^◌, ◌<◌, ◌≤◌, ◌==◌, eqb, ◌⊎◌, inl, inr, ⊎_elim, true, false, Bool, refl, sym, ap, ◌∙◌, subst, arith, eq-eqb}
+use Rattle.std.proofs.Common.{◌≡◌, ℕ, zero, suc, ◌+◌, ◌*◌, ◌/◌, ◌%◌, ◌^◌, ◌≤◌, true, ap, ◌∙◌, arith, eq-eqb}
 use Rattle.std.specs.Int.{is_power_of_two, IsPowerOfTwo}
 use Rattle.std.specs.Int.RustNames.{count_ones}
 use Rattle.std.proofs.lemmas.Nat.{zero_from_ones, ones_le_self, pow_pos}
@@ -13,7 +13,7 @@ one_bit : (fuel n : ℕ) → n ≤ fuel → count_ones n ≡ 1 → IsPowerOfTwo 
 one_bit zero n le e = let l : count_ones n ≤ n = ones_le_self n in absurd (omega arith)
 one_bit (suc fuel) n le e = let step : count_ones n ≡ n % 2 + count_ones (n / 2) = ones_step n in let l : count_ones n ≤ n = ones_le_self n in dite (ℕ_discrete (n % 2) 0)
     (λ even. let r = one_bit fuel (n / 2) (omega arith) (omega arith) in let half : n / 2 ≡ 2 ^ r.0 = r.1 in let two : 2 ^ suc r.0 ≡ 2 ^ r.0 + 2 ^ r.0 = two-pow-succ r.0 in
-      (suc r.0, omega arith))
+    (suc r.0, omega arith))
     (λ odd. let rest : count_ones (n / 2) ≡ 0 = omega arith in let half : n / 2 ≡ 0 = zero_from_ones (n / 2) rest in (0, omega arith))
 
 pub from_bits : (n : ℕ) → is_power_of_two n ≡ true → IsPowerOfTwo n

@@ -1,16 +1,16 @@
 -- When words are a table, told by their length and by each slot; and a table of empty slots.
-use Rattle.std.proofs.Common.{◌≡◌, ◌≢◌, ℕ, zero, suc, ◌+◌, ◌-◌, ◌*◌, ◌/◌, ◌%◌, ◌^◌, ◌<◌, ◌≤◌, ◌⊎◌, inl, inr, ⊎_elim, true, false, Bool, not, List, [], ◌∷◌, length, get_or, set, replicate, refl, sym, ap, ◌∙◌, subst, arith, add-one, length-set}
-use Rattle.std.specs.Prelude.{Option, Some, None, IsTrue}
+use Rattle.std.proofs.Common.{◌≡◌, ℕ, zero, suc, ◌+◌, ◌*◌, ◌/◌, ◌%◌, ◌^◌, ◌<◌, ◌≤◌, inl, true, false, List, length, set, replicate, refl, sym, ap, ◌∙◌, subst, arith, add-one, length-set}
+use Rattle.std.specs.Prelude.{None, IsTrue}
 use mathlib.Core.Logic.{dite}
 use native.Mathlib.Decide.{ℕ_discrete}
 use Rattle.std.specs.Int.{is_power_of_two, IsPowerOfTwo}
 use Rattle.std.proofs.lemmas.List.{length-replicate, get_or-replicate}
 use Rattle.std.proofs.Math.Nat.{two-pow-succ, mod-eq_of_lt, pow-le-pow_right}
 use Rattle.std.proofs.lemmas.Nat.{pow_pos}
-use Rattle.nj_claims.specs.Tables.{no_owner, key_at, owner_at, slot_from, slot_count, IsPlaced, IsTable, owner_in}
+use Rattle.nj_claims.specs.Tables.{no_owner, key_at, owner_at, slot_count, IsPlaced, IsTable, owner_in}
 use Rattle.nj_claims.specs.Places.{FitsSlot}
 use Rattle.nj_claims.proofs.Slots.{key_at-set_same, key_at-set_other, owner_at-set_key}
-use Rattle.nj_claims.proofs.Mapping.{absent_in, two_each, zero_in}
+use Rattle.nj_claims.proofs.Mapping.{absent_in, zero_in}
 use Rattle.nj_claims.proofs.Walking.{placed_fits, fits_placed}
 use Rattle.nj_claims.proofs.Powers.{from_bits, to_bits}
 
@@ -58,8 +58,11 @@ one_emptied n i W l a = record {
 
 pub empty_is_table : (n exponent : ℕ) (W : List ℕ) → n ≡ 2 ^ exponent → AreEmpty n n W → IsTable W
 empty_is_table n exponent W e a = let wide : length W ≡ 2 * n = a.wide in record {
-  size = (exponent, let p : 2 ^ suc exponent ≡ 2 ^ exponent + 2 ^ exponent = two-pow-succ exponent in
-      let q : 2 ^ (exponent + 1) ≡ 2 ^ suc exponent = ap (λ (i : ℕ). 2 ^ i) (add-one exponent) in omega arith);
+  size = (
+    exponent,
+    let p : 2 ^ suc exponent ≡ 2 ^ exponent + 2 ^ exponent = two-pow-succ exponent in
+        let q : 2 ^ (exponent + 1) ≡ 2 ^ suc exponent = ap (λ (i : ℕ). 2 ^ i) (add-one exponent) in omega arith,
+  );
   placed = subst (λ (m : ℕ). IsPlaced m W) (let h : n ≡ length W / 2 = omega arith in h) (fits_placed n W (λ i l. inl (a.empty i l, a.bare i l)));
 }
 

@@ -1,16 +1,15 @@
 -- What the views of all seats have, before and after one of them changes.
-use Rattle.std.proofs.Common.{◌≡◌, ◌≢◌, ℕ, zero, suc, ◌+◌, ◌-◌, ◌*◌, ◌<◌, ◌≤◌, ◌⊎◌, inl, inr, ⊎_elim, true, false, Bool, List, [], ◌∷◌, ◌++◌, length, get_or, set, refl, sym, ap, ◌∙◌, subst, arith}
-use Rattle.std.specs.List.{All, Contains, sum_by}
-use Rattle.std.proofs.lemmas.List.Sums.{sum_by-set, sum_by_push, get_or-le-sum_by}
-use mathlib.Core.Option.{Option, some, none, some-injective, some-ne-none}
+use Rattle.std.proofs.Common.{◌≡◌, ◌≢◌, ℕ, zero, suc, ◌+◌, ◌<◌, ◌≤◌, inl, inr, ⊎_elim, List, [], ◌∷◌, ◌++◌, length, get_or, set, refl, sym, ◌∙◌, subst, arith}
+use Rattle.std.specs.List.{sum_by}
+use Rattle.std.proofs.lemmas.List.Sums.{sum_by-set, get_or-le-sum_by}
+use mathlib.Core.Option.{some, some-injective, some-ne-none}
 use mathlib.Core.Logic.{dite}
 use native.Mathlib.Decide.{ℕ_discrete}
 use lib.ListN.{get_elem?}
-use Rattle.atomic_table.proofs.Lists.{at_set, set_else, at_longer, at_snoc, at_last}
+use Rattle.atomic_table.proofs.Lists.{at_set, set_else, at_longer}
 use Rattle.nj_claims.specs.declared.view.View.{View}
 use Rattle.nj_claims.specs.declared.view.Opening.{Opening}
-use Rattle.nj_claims.specs.Tables.{key_at, owner_at}
-use Rattle.nj_claims.specs.Rule.{Somewhere, Claims, Opens, Stems, Brings}
+use Rattle.nj_claims.specs.Rule.{Somewhere, Claims, Opens, Stems}
 
 module _ {A : Type 0} where
   -- an element that is there is within the list
@@ -72,18 +71,18 @@ merged views id other v w both spent Has ne at at_other mine theirs p = let root
       has = mine (subst Has (same_at views id p.view v (subst (λ (i : ℕ). get_elem? views i ≡ some p.view) e p.there) at) p.has);
     })
     (λ no. dite (ℕ_discrete p.seat other)
-      (λ e. record {
-        seat = id;
-        view = both;
-        there = root;
-        has = theirs (subst Has (same_at views other p.view w (subst (λ (i : ℕ). get_elem? views i ≡ some p.view) e p.there) at_other) p.has);
-      })
-      (λ nor. record {
-        seat = p.seat;
-        view = p.view;
-        there = set_else (set views id both) other p.seat spent nor ∙ (set_else views id p.seat both no ∙ p.there);
-        has = p.has;
-      }))
+    (λ e. record {
+      seat = id;
+      view = both;
+      there = root;
+      has = theirs (subst Has (same_at views other p.view w (subst (λ (i : ℕ). get_elem? views i ≡ some p.view) e p.there) at_other) p.has);
+    })
+    (λ nor. record {
+      seat = p.seat;
+      view = p.view;
+      there = set_else (set views id both) other p.seat spent nor ∙ (set_else views id p.seat both no ∙ p.there);
+      has = p.has;
+    }))
 
 -- what holds of the changed view and of each other one holds of all
 pub all_seats : (K : ℕ → View → Type 0) (views : List View) (id : ℕ) (w : View) → K id w → ((j : ℕ) (u : View) → j ≢ id → get_elem? views j ≡ some u → K j u)

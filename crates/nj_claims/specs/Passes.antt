@@ -1,5 +1,5 @@
 -- What contracts see of a table that threads share, and of a pass.
-use Rattle.std.specs.Prelude.{◌≡◌, ℕ, Bool, true, ◌+◌, ◌-◌, ◌≤◌, List, [], ◌∷◌, ◌++◌, length, IfSome, Some, None, ◌⊎◌}
+use Rattle.std.specs.Prelude.{◌≡◌, ℕ, Bool, true, ◌+◌, ◌-◌, ◌≤◌, List, [], ◌++◌, length, Some, None, ◌⊎◌}
 use Rattle.std.specs.List.{Contains}
 use Rattle.atomic_table.specs.Seated.{TableId}
 use Rattle.nj_claims.specs.Tables.{owner_in, entries_in, slot_count}

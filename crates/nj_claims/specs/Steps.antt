@@ -1,5 +1,5 @@
 -- What each step of a claim makes of the claimer's view.
-use Rattle.std.specs.Prelude.{◌≡◌, ℕ, Bool, true, false, ◌+◌, ◌-◌, ◌<◌, ◌≤◌, ◌==◌, min, zero, suc, List, [], ◌∷◌, ◌++◌, if◌then◌else◌}
+use Rattle.std.specs.Prelude.{◌≡◌, ℕ, Bool, true, ◌+◌, ◌-◌, ◌≤◌, ◌==◌, min, zero, suc, [], ◌∷◌, ◌++◌, if◌then◌else◌}
 use Rattle.std.specs.List.{All}
 use Rattle.atomic_table.specs.Table.{Step, Me}
 use Rattle.nj_claims.specs.declared.view.View.{View}

@@ -45,9 +45,7 @@ impl ClaimTable {
         ensures { pass.new ≡ joined_pass pass.old other }
     {
         let Pass { seat } = other;
-        self.table
-            .shared
-            .join_seat::<TakeIn>(&mut pass.seat, seat);
+        self.table.shared.join_seat::<TakeIn>(&mut pass.seat, seat);
     }
 
     /// Claims the key for the number: the key stands in the table from now on, and its owner is at
@@ -84,7 +82,10 @@ impl ClaimTable {
     {
         let ClaimTable { table, opening } = self;
         let Pass { seat } = pass;
-        let Opening { slots: _, mut words } = opening;
+        let Opening {
+            slots: _,
+            mut words,
+        } = opening;
         let closed = table.close_with(seat);
         for i in 0..words.len() {
             words[i] = closed.word(i);

@@ -1,7 +1,6 @@
 -- The first empty slot is met.
-use Rattle.std.proofs.Common.{◌≡◌, ◌≢◌, ap, sym, ◌∙◌, arith, subst, ℕ, ◌<◌}
+use Rattle.std.proofs.Common.{ap, ◌∙◌}
 use Rattle.nj_claims.specs.Tables.{key_at}
-use Rattle.nj_claims.proofs.Slots.{each_slot}
 use Rattle.nj_claims.proofs.Walking.{passed_one}
 use Rattle.nj_claims.proofs.Inserting.{passes_all}
 use Rattle.nj_claims.proofs.placing.free_slot.Goals as goal

@@ -1,5 +1,4 @@
 -- The load keeps the rule.
-use Rattle.std.proofs.Common.{rules}
 use Rattle.nj_claims.proofs.Claiming.{look_on, key_word, walk_inside}
 use Rattle.nj_claims.proofs.probe.look.Goals as goal
 

@@ -1,5 +1,5 @@
 -- One slot more holds another key.
-use Rattle.std.proofs.Common.{◌≡◌, ◌≢◌, ap, sym, ◌∙◌}
+use Rattle.std.proofs.Common.{ap, ◌∙◌}
 use Rattle.nj_claims.specs.Tables.{key_at}
 use Rattle.nj_claims.proofs.Walking.{passed_one}
 use Rattle.nj_claims.proofs.words.find.Goals as goal

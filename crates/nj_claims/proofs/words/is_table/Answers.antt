@@ -1,5 +1,5 @@
 -- By the length, and by each slot.
-use Rattle.std.proofs.Common.{◌≡◌, ◌<◌, ◌≤◌, ◌/◌, true, false, sym, ◌∙◌, arith, length, refl}
+use Rattle.std.proofs.Common.{◌≡◌, ◌/◌, true, false, sym, ◌∙◌, arith, length, refl}
 use Rattle.nj_claims.proofs.Testing.{is_table_if, is_long, is_power, slot_fits, tells_no}
 use Rattle.nj_claims.proofs.words.is_table.Goals as goal
 
@@ -16,6 +16,6 @@ returns-then-not-fits c = tells_no c.args.words.now (λ t.
 pub returns : goal.returns
 returns c = (
   λ _. is_table_if c.args.words.now (length c.args.words.now / 2) refl (omega arith) (sym c.if-not-is_power_of_two.ensures)
-    (λ i l. c.loop-slot.invariant i (omega arith)),
+      (λ i l. c.loop-slot.invariant i (omega arith)),
   λ _. refl,
 )

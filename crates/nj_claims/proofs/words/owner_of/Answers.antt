@@ -1,5 +1,5 @@
 -- What the walk finds.
-use Rattle.std.proofs.Common.{◌≡◌, ◌*◌, ◌/◌, ◌<◌, ◌≤◌, ap, sym, ◌∙◌, arith, length}
+use Rattle.std.proofs.Common.{ap, sym, ◌∙◌, arith}
 use Rattle.nj_claims.specs.Tables.{owner_in, slot_count}
 use Rattle.nj_claims.proofs.Mapping.{two_each, some_slot, zero_in}
 use Rattle.nj_claims.proofs.Walking.{found_owner, found_none}

@@ -1,5 +1,5 @@
 -- The table is one that was opened.
-use Rattle.std.proofs.Common.{arith, ◌<◌, ◌^◌, length}
+use Rattle.std.proofs.Common.{arith}
 use Rattle.nj_claims.proofs.Passing.{board_of}
 use Rattle.nj_claims.proofs.shared.ClaimTable.claim.Goals as goal
 
