@@ -1,0 +1,12 @@
+pub mod Slots
+pub mod Views
+pub mod Keeping
+pub mod Claiming
+pub mod Mapping
+pub mod Passing
+pub mod Closing
+pub mod Walking
+pub mod Powers
+pub mod Testing
+pub mod Entries
+pub mod Inserting
