@@ -1,2 +1,4 @@
 pub mod Tallies
 pub mod Rule
+pub mod Dealing
+pub mod Takers

@@ -3,4 +3,8 @@
 //! and [`Pieces::gather`] gives those that nobody took.
 #![tactic(auto)]
 
+mod parts;
 mod rule;
+mod take;
+
+pub use parts::{Pieces, Taker};
