@@ -2,3 +2,5 @@ pub mod Tallies
 pub mod Rule
 pub mod Dealing
 pub mod Takers
+pub mod Seating
+pub mod Gathering

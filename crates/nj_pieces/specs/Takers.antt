@@ -82,3 +82,9 @@ pub record IsTakerOf (pieces : Pieces) (taker : Taker) : Type 0 where
   pub none_taken : (worker_view taker.owner).taken ≡ []
   pub accesses : AreAccesses pieces.count pieces.thieves.items taker.accesses.items
   pub noted : (h : ℕ → ℕ) → sum_by h (worker_view taker.owner).log ≡ weight_of h taker.accesses.items
+
+-- all takers of these pieces, in the order of their workers
+pub record AreTakersOf (pieces : Pieces) (takers : List Taker) : Type 0 where
+  pub many : length takers ≡ workers_of pieces
+  pub each : (k : ℕ) (d : Taker) → k < length takers → IsTakerOf pieces (slice_index_or takers k d)
+  pub numbers : (k : ℕ) (d : Taker) → k < length takers → number_of (slice_index_or takers k d) ≡ k

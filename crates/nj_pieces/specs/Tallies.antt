@@ -68,3 +68,7 @@ both v u = record v { seats = v.seats + u.seats; ends = v.ends + u.ends; taken =
 -- the owner's pass with one more piece noted
 abbrev pub noted : Tally → ℕ → Tally
 noted v p = record v { log = v.log ++ p ∷ [] }
+
+-- the owner's pass before any piece was taken: these pieces were dealt, and it has the rights to so many marks
+abbrev pub opening : List ℕ → ℕ → Tally
+opening dealt marks = record { seats = marks; ends = 0; marks = marks; dealt = dealt; taken = []; log = [] }

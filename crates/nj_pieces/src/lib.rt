@@ -3,6 +3,8 @@
 //! and [`Pieces::gather`] gives those that nobody took.
 #![tactic(auto)]
 
+mod deal;
+mod gather;
 mod parts;
 mod rule;
 mod take;
