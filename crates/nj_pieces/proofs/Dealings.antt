@@ -7,7 +7,7 @@ use Rattle.std.proofs.lemmas.List.Elements.{filter-append}
 use Rattle.nj_pieces.specs.Dealing.{dealt_to}
 
 -- a range of one number more
-range_more : (a n : ℕ) → range_with_len a (n + 1) ≡ range_with_len a n ++ (a + n) ∷ []
+pub range_more : (a n : ℕ) → range_with_len a (n + 1) ≡ range_with_len a n ++ (a + n) ∷ []
 range_more a zero = ap (λ (k : ℕ). k ∷ []) (let e : a ≡ a + 0 = omega arith in e)
 range_more a (suc n) =
     let longer : suc n + 1 ≡ suc (n + 1) = omega arith in
@@ -15,7 +15,7 @@ range_more a (suc n) =
     ap (range_with_len a) longer ∙ ap (λ xs. a ∷ xs) (range_more (a + 1) n ∙ ap (λ (k : ℕ). range_with_len (a + 1) n ++ k ∷ []) same)
 
 -- the pieces of a worker below one more
-dealt_more : (number workers count : ℕ) → dealt_to number workers (count + 1) ≡ dealt_to number workers count ++ (if count % workers == number then count ∷ [] else [])
+pub dealt_more : (number workers count : ℕ) → dealt_to number workers (count + 1) ≡ dealt_to number workers count ++ (if count % workers == number then count ∷ [] else [])
 dealt_more number workers count =
     let test : ℕ → Bool = λ p. p % workers == number in
     let same : 0 + count ≡ count = omega arith in

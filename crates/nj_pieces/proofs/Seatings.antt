@@ -181,7 +181,7 @@ not_all [] filled fresh = absurd (omega arith)
 not_all (a ∷ accesses) filled fresh = list_all_at (λ (b : Access). b.ended) (a ∷ accesses) 0 a filled (fresh 0 a filled)
 
 -- one of a list
-one_of : {X : Type 0} (xs : List X) → 0 < length xs → X
+pub one_of : {X : Type 0} (xs : List X) → 0 < length xs → X
 one_of [] filled = absurd (omega arith)
 one_of (x ∷ xs) filled = x
 

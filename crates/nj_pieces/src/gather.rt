@@ -4,8 +4,8 @@ ghost use Rattle.std.specs.List.Sorted.{IsSorted};
 ghost use Rattle.std.specs.Ordering.{nat_cmp};
 ghost use Rattle.crossbeam_deque.specs.Handles.{worker_flavor, worker_port, worker_view};
 ghost use Rattle.nj_pieces.specs.Dealing.{times, once_below};
-ghost use Rattle.nj_pieces.specs.Takers.{count_of, taken_of, is_done, weight_of, AreTakersOf};
-ghost use Rattle.nj_pieces.specs.Gathering.{IsReturn, IsGathered, IsGiven};
+ghost use Rattle.nj_pieces.specs.Takers.{count_of, taken_of, is_done, AreTakersOf};
+ghost use Rattle.nj_pieces.specs.Gathering.{IsReturn, IsGathered, IsGiven, weight_back, weight_out};
 
 use crate::parts::{Access, Pieces, Taker};
 use crate::rule::{Drains, Gives, Owner, Task};
@@ -40,7 +40,7 @@ fn take_back(alloc: Global, takers: &mut [Taker])
     requires returns { (j k : ℕ) (d : Taker) (a : Access) → j < length takers.old → k < length takers.old → IsReturn (slice_index_or takers.old k d) (slice_index_or (slice_index_or takers.old j d).accesses.items k a) }
     ensures many { length takers.new ≡ length takers.old }
     ensures owners { (k : ℕ) (d : Taker) → k < length takers.old → IsGathered (length takers.old) (slice_index_or takers.old k d) (slice_index_or takers.new k d) }
-    ensures weights { (h : ℕ → ℕ) → sum_by (λ t. sum_by h (worker_view t.owner).taken) takers.new ≡ sum_by (λ t. sum_by h (worker_view t.owner).taken) takers.old + sum_by (λ t. weight_of h t.accesses.items) takers.old }
+    ensures weights { (h : ℕ → ℕ) → sum_by (weight_back h) takers.new ≡ sum_by (weight_back h) takers.old + sum_by (weight_out h) takers.old }
     ensures ended { (j k : ℕ) (d : Taker) → j < length takers.old → k < length takers.old → is_done (slice_index_or takers.old j d) ≡ true → 0 < (worker_view (slice_index_or takers.new k d).owner).ends }
 {
     for from in 0..takers.len() {

@@ -1,4 +1,4 @@
-ghost use Rattle.std.specs.Prelude.{◌≡◌, ◌≤◌, [], vec_capacity};
+ghost use Rattle.std.specs.Prelude.{◌≡◌, ◌<◌, ◌≤◌, [], length, vec_capacity};
 
 use crate::rule::{Owner, Thief, Ticket};
 use std::alloc::Global;
@@ -29,6 +29,7 @@ pub struct Pieces {
     // Room for the pieces that nobody takes.
     pub(crate) left: Vec<u64>,
     pub(crate) alloc: Global,
+    ghost has_worker: { 0 < length thieves.items },
     ghost left_is_empty: { left.items ≡ [] },
     ghost left_has_room: { count ≤ vec_capacity left },
 }

@@ -24,6 +24,7 @@ returns-clause-dealt c =
       thieves = c.in_ok-takers.thieves;
       left = c.in_ok-left.left;
       alloc = c.args.alloc;
+      has_worker = (let many = o.thieves in let filled = c.requires.workers.0 in omega arith);
       left_is_empty = c.in_ok-left.ensures.items;
       left_has_room = search rules
     } in
@@ -39,6 +40,7 @@ returns-clause-none_taken c =
       thieves = c.in_ok-takers.thieves;
       left = c.in_ok-left.left;
       alloc = c.args.alloc;
+      has_worker = (let many = o.thieves in let filled = c.requires.workers.0 in omega arith);
       left_is_empty = c.in_ok-left.ensures.items;
       left_has_room = search rules
     } in
@@ -54,6 +56,7 @@ returns-clause-none_done c =
       thieves = c.in_ok-takers.thieves;
       left = c.in_ok-left.left;
       alloc = c.args.alloc;
+      has_worker = (let many = o.thieves in let filled = c.requires.workers.0 in omega arith);
       left_is_empty = c.in_ok-left.ensures.items;
       left_has_room = search rules
     } in
