@@ -10,3 +10,6 @@ mod rule;
 mod take;
 
 pub use parts::{Pieces, Taker};
+
+#[cfg(test)]
+mod tests;
