@@ -1,6 +1,6 @@
 -- What a deal has done after one more piece, and that all workers' pieces are the pieces below the count.
-use Rattle.std.proofs.Common.{◌≡◌, ℕ, zero, suc, ◌+◌, ◌%◌, ◌==◌, ◌≢◌, ◌⊎◌, ⊎_elim, ◌<◌, ◌≤◌, Bool, true, false, List, [], ◌∷◌, ◌++◌, sym, refl, ap, ◌∙◌, arith, if◌then◌else◌}
-use Rattle.std.specs.List.{filter, range_with_len, sum_by}
+use Rattle.std.proofs.Common.{◌≡◌, ℕ, zero, suc, ◌+◌, ◌%◌, ◌==◌, ◌≢◌, ⊎_elim, Bool, false, List, [], ◌∷◌, ◌++◌, refl, ap, ◌∙◌, arith, if◌then◌else◌}
+use Rattle.std.specs.List.{filter, range_with_len}
 use Rattle.std.proofs.lemmas.Bool.{eq-eqb}
 use Rattle.std.proofs.lemmas.Bool.Decides.{eqb_tells}
 use Rattle.std.proofs.lemmas.List.Elements.{filter-append}
@@ -29,6 +29,6 @@ pub dealt_else : (number workers count : ℕ) → count % workers ≢ number →
 dealt_else number workers count other =
     let differs : (count % workers == number) ≡ false = ⊎_elim (λ same. absurd (other same.1)) (λ not_same. not_same.0) (eqb_tells (count % workers) number) in
     dealt_more number workers count ∙ ap (λ (b : Bool). dealt_to number workers count ++ (if b then count ∷ [] else [])) differs ∙ append_none (dealt_to number workers count) where
-  append_none : (xs : List ℕ) → xs ++ [] ≡ xs
-  append_none [] = refl
-  append_none (x ∷ xs) = ap (λ ys. x ∷ ys) (append_none xs)
+      append_none : (xs : List ℕ) → xs ++ [] ≡ xs
+      append_none [] = refl
+      append_none (x ∷ xs) = ap (λ ys. x ∷ ys) (append_none xs)

@@ -1,11 +1,11 @@
 -- What an owner has taken of what was left in its deque.
-use Rattle.std.proofs.Common.{◌≡◌, ℕ, ◌+◌, ◌-◌, ◌<◌, ◌≤◌, List, [], ◌∷◌, ◌++◌, length, sym, refl, ap, ◌∙◌, subst, arith, length-append, Global}
+use Rattle.std.proofs.Common.{◌≡◌, ℕ, ◌+◌, ◌-◌, ◌<◌, ◌≤◌, List, [], ◌∷◌, ◌++◌, length, refl, ap, ◌∙◌, arith, length-append, Global}
 use Rattle.std.specs.Prelude.{Vec, vec_len, vec_capacity}
 use Rattle.std.specs.List.{sum_by}
-use Rattle.std.proofs.lemmas.List.Sums.{sum_by-cons, sum_by_push}
-use Rattle.crossbeam_deque.specs.Handles.{worker_flavor, worker_port, worker_view, SameWorker}
+use Rattle.std.proofs.lemmas.List.Sums.{sum_by-cons}
+use Rattle.crossbeam_deque.specs.Handles.{worker_flavor, worker_port, worker_view}
 use Rattle.nj_pieces.specs.declared.rule.Tally.{Tally}
-use Rattle.nj_pieces.specs.Tallies.{with_piece, IsSettled}
+use Rattle.nj_pieces.specs.Tallies.{with_piece}
 use Rattle.nj_pieces.specs.Takers.{Owner}
 
 -- a length is a sum of ones

@@ -1,5 +1,5 @@
 -- What a gather has put together so far.
-use Rattle.std.proofs.Common.{◌≡◌, ℕ, zero, suc, ◌+◌, ◌<◌, ◌≤◌, Bool, true, ◌==◌, if◌then◌else◌, List, [], ◌∷◌, ◌++◌, length, get_or, take, sym, refl, ap, ◌∙◌, subst, arith, length-append, Global}
+use Rattle.std.proofs.Common.{◌≡◌, ℕ, ◌+◌, ◌<◌, ◌≤◌, true, ◌==◌, if◌then◌else◌, List, [], ◌∷◌, ◌++◌, length, get_or, take, sym, refl, ap, ◌∙◌, subst, arith, length-append, Global}
 use Rattle.std.specs.Prelude.{Vec, vec_len, vec_capacity}
 use Rattle.std.specs.List.{All, sum_by, range_with_len}
 use Rattle.std.specs.List.Sorted.{IsPermutation}
@@ -9,12 +9,12 @@ use Rattle.std.proofs.lemmas.List.{get_or_default}
 use Rattle.std.proofs.lemmas.List.FromFn.{length-range_with_len}
 use Rattle.std.proofs.lemmas.List.Sorted.{sum_by-IsPermutation, length_permutation}
 use Rattle.std.proofs.lemmas.List.Sums.{sum_by_push}
-use Rattle.crossbeam_deque.specs.Handles.{worker_flavor, worker_port, worker_deque, worker_view}
+use Rattle.crossbeam_deque.specs.Handles.{worker_flavor, worker_port, worker_view}
 use Rattle.nj_pieces.specs.declared.parts.Access.{Access}
 use Rattle.nj_pieces.specs.declared.parts.Taker.{Taker}
 use Rattle.nj_pieces.specs.declared.parts.Pieces.{Pieces}
 use Rattle.nj_pieces.specs.Dealing.{dealt_to, times, once_below}
-use Rattle.nj_pieces.specs.Takers.{Owner, Thief, workers_of, number_of, taken_of, is_done, IsOwner, IsTakerOf, AreTakersOf}
+use Rattle.nj_pieces.specs.Takers.{Thief, workers_of, number_of, taken_of, is_done, IsOwner, AreTakersOf}
 use Rattle.nj_pieces.specs.Gathering.{IsReturn, IsGathered, weight_back, weight_out}
 use Rattle.nj_pieces.proofs.Seatings.{one_of, none_in_all}
 use Rattle.nj_pieces.proofs.Drainings.{length-sum_by}
@@ -50,7 +50,7 @@ pub record IsGathering (count : ℕ) (given all now : List Taker) (left : Vec �
 all_init : (P : Taker → Type 0) (xs : List Taker) (y : Taker) → All P (xs ++ y ∷ []) → All P xs × P y
 all_init P xs y all = (
   (λ k d within. subst P (get_or-append xs (y ∷ []) d k within) (all k d (omega (arith, length-append xs (y ∷ []))))),
-  subst P (get_or-append_seam xs y [] y) (all (length xs) y (omega (arith, length-append xs (y ∷ []))))
+  subst P (get_or-append_seam xs y [] y) (all (length xs) y (omega (arith, length-append xs (y ∷ [])))),
 )
 
 pub taker_whole : (count : ℕ) (given all was now : List Taker) (taker : Taker) (left : Vec ℕ Global) → was ≡ now ++ taker ∷ [] → IsGathering count given all was left → IsWhole taker
@@ -62,16 +62,22 @@ pub taker_room : (count : ℕ) (given all was now : List Taker) (taker : Taker) 
 taker_room count given all was now taker left popped is =
     let f : ℕ → ℕ = λ _. 1 in
     let d : sum_by (weight_dealt (λ _. 1)) was ≡ sum_by (weight_dealt (λ _. 1)) now + sum_by (λ _. 1) (worker_view taker.owner).dealt =
-        ap (sum_by (weight_dealt (λ _. 1))) popped ∙ sum_by_push (weight_dealt (λ _. 1)) now taker in
+    ap (sum_by (weight_dealt (λ _. 1))) popped ∙ sum_by_push (weight_dealt (λ _. 1)) now taker in
     let b : sum_by (weight_back (λ _. 1)) was ≡ sum_by (weight_back (λ _. 1)) now + sum_by (λ _. 1) (worker_view taker.owner).taken =
-        ap (sum_by (weight_back (λ _. 1))) popped ∙ sum_by_push (weight_back (λ _. 1)) now taker in
+    ap (sum_by (weight_back (λ _. 1))) popped ∙ sum_by_push (weight_back (λ _. 1)) now taker in
     let balance = is.weights (λ _. 1) in
     let less = is.less (λ _. 1) in
     let whole = is.dealt (λ _. 1) in
     let room = is.room in
     let a : vec_len left ≡ length left.items = left.ok.0 in
-    omega (arith, length-sum_by (worker_view taker.owner).dealt, length-sum_by (worker_view taker.owner).taken, length-sum_by left.items,
-        length-sum_by (range_with_len 0 count), length-range_with_len 0 count)
+    omega (
+      arith,
+      length-sum_by (worker_view taker.owner).dealt,
+      length-sum_by (worker_view taker.owner).taken,
+      length-sum_by left.items,
+      length-sum_by (range_with_len 0 count),
+      length-range_with_len 0 count,
+    )
 
 pub gathering_more : (count : ℕ) (given all was now : List Taker) (taker : Taker) (left after : Vec ℕ Global) → was ≡ now ++ taker ∷ [] → IsGathering count given all was left
     → ((h : ℕ → ℕ) → sum_by h after.items + sum_by h (worker_view taker.owner).taken ≡ sum_by h left.items + sum_by h (worker_view taker.owner).dealt)
@@ -93,7 +99,7 @@ gathering_more count given all was now taker left after popped is drained capaci
   ended = λ all_ended.
       let was_ended = is.ended all_ended in
       let both = all_init HasEnded now taker (subst (All HasEnded) popped was_ended.1) in
-      (none both.1.ended ∙ was_ended.0, both.0)
+      (none both.1.ended ∙ was_ended.0, both.0);
 }
 
 -- what is asked of the takers before their accesses are given back
@@ -125,8 +131,8 @@ all_returnable pieces takers slice are same = subst AreReturnable (sym same) (re
       record {
         deque = (access.deque.0 ∙ ap (λ x. x.0) (sym owner.deque), access.deque.1 ∙ ap (λ x. x.1) (sym owner.deque), access.deque.2, access.deque.3);
         seats = access.seats;
-        ends = access.ends
-      }
+        ends = access.ends;
+      };
 })
 
 -- the gather begins once all accesses were given back
@@ -152,22 +158,22 @@ begins_with pieces given now left are empty room many owners weights ended =
       less = λ h. omega arith;
       dealt = λ h.
           sum_by_place (weight_dealt h) (λ k. sum_by h (dealt_to k (length pieces.thieves.items) pieces.count)) now 0
-              (λ k d within.
-                  let own = owner_at pieces given are k d s (omega arith) in
-                  ap (sum_by h) ((owners k d (omega arith)).dealt ∙ own.dealt)
-                  ∙ ap (λ (j : ℕ). sum_by h (dealt_to j (length pieces.thieves.items) pieces.count)) (let e : k ≡ 0 + k = omega arith in e))
+          (λ k d within.
+          let own = owner_at pieces given are k d s (omega arith) in
+          ap (sum_by h) ((owners k d (omega arith)).dealt ∙ own.dealt)
+          ∙ ap (λ (j : ℕ). sum_by h (dealt_to j (length pieces.thieves.items) pieces.count)) (let e : k ≡ 0 + k = omega arith in e))
           ∙ ap (λ (m : ℕ). sum_by (λ k. sum_by h (dealt_to k (length pieces.thieves.items) pieces.count)) (range_with_len 0 m)) (many ∙ n)
           ∙ dealt_all h (length pieces.thieves.items) pieces.count pieces.has_worker;
       back = λ h.
           let none : sum_by (weight_back h) given ≡ 0 = none_in_all (weight_back h) given (λ k d within. ap (sum_by h) (are.each k d within).none_taken) in
           let out : sum_by (weight_out h) given ≡ sum_by (λ taker. sum_by h (taken_of taker)) given =
-              sum_same (weight_out h) (λ taker. sum_by h (taken_of taker)) given (λ k d within. sym ((are.each k d within).noted h)) in
+          sum_same (weight_out h) (λ taker. sum_by h (taken_of taker)) given (λ k d within. sym ((are.each k d within).noted h)) in
           let all = weights h in omega arith;
       room = room;
       done = λ k d within is. λ j e j_within. record {
-        ended = ended k j e within (omega arith) (ap is_done (get_or_default given k e d within) ∙ is)
+        ended = ended k j e within (omega arith) (ap is_done (get_or_default given k e d within) ∙ is);
       };
-      ended = λ all_ended. (empty, all_ended)
+      ended = λ all_ended. (empty, all_ended);
     }
 
 pub gathering_begins : (pieces : Pieces) (given slice now rest : List Taker) (n : ℕ) (left : Vec ℕ Global) → AreTakersOf pieces given → slice ≡ given → n ≡ length given

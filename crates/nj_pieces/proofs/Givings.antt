@@ -1,20 +1,16 @@
 -- What the owners have taken back so far.
-use Rattle.std.proofs.Common.{◌≡◌, ◌≢◌, ℕ, zero, suc, ◌+◌, ◌<◌, ◌≤◌, Bool, true, false, List, [], ◌∷◌, ◌++◌, length, get_or, set, take, sym, refl, ap, ◌∙◌, subst, arith, length-append, length-set, Global, if◌then◌else◌}
+use Rattle.std.proofs.Common.{◌≡◌, ℕ, ◌+◌, ◌<◌, ◌≤◌, List, [], ◌∷◌, ◌++◌, length, get_or, set, sym, refl, ap, ◌∙◌, subst, arith, length-append, length-set}
 use mathlib.Core.Logic.{dite}
 use native.Mathlib.Decide.{ℕ_discrete}
-use Rattle.std.specs.Prelude.{Vec}
-use Rattle.std.specs.List.{sum_by, list_all}
 use Rattle.std.proofs.Math.Seq.{get_or-append_seam}
 use Rattle.std.proofs.Math.ListN.{get_or-append}
-use Rattle.std.proofs.lemmas.List.{get_or-set_same, get_or-set_other, get_or_default, get_or-take}
-use Rattle.std.proofs.lemmas.List.Sums.{sum_by-cons, sum_by-append}
-use Rattle.crossbeam_deque.specs.Handles.{IsPassOf, worker_deque, worker_port, worker_view, SameWorker}
-use Rattle.nj_pieces.specs.declared.rule.Tally.{Tally}
+use Rattle.std.proofs.lemmas.List.{get_or-set_same, get_or-set_other, get_or_default}
+use Rattle.crossbeam_deque.specs.Handles.{worker_port, worker_view, SameWorker}
 use Rattle.nj_pieces.specs.declared.parts.Access.{Access}
 use Rattle.nj_pieces.specs.declared.parts.Taker.{Taker}
 use Rattle.nj_pieces.specs.Tallies.{both}
-use Rattle.nj_pieces.specs.Takers.{Owner, seen, weight_of, is_done}
-use Rattle.nj_pieces.specs.Gathering.{IsReturn, IsGiven, IsGathered, weight_back, weight_out}
+use Rattle.nj_pieces.specs.Takers.{Owner, seen}
+use Rattle.nj_pieces.specs.Gathering.{IsReturn, IsGiven}
 
 -- the owners from the place where the accesses left end on have what the accesses there had
 pub record AreGiven (first takers : List Taker) (all left : List Access) : Type 0 where
@@ -46,10 +42,10 @@ give_more first takers all was left access at d owner popped at_is are same now 
       left_are = λ k a within. sym (get_or-append left (access ∷ []) a k within) ∙ ap (λ xs. get_or xs k a) (sym popped) ∙ are.left_are k a (omega arith);
       given = λ k e a after within. dite (ℕ_discrete k at)
           (λ is. subst (λ j. IsGiven (get_or first j e) (get_or all j a) (get_or (set takers at new) j e)) (sym is)
-              (subst (λ (p : Taker × Access × Taker). IsGiven p.0 p.1 p.2)
-                  (λ i. (is_old e i, sym (ap (λ (j : ℕ). get_or all j a) at_is ∙ last_is first takers all was left access popped are a) i, sym (here e) i)) given_here))
+          (subst (λ (p : Taker × Access × Taker). IsGiven p.0 p.1 p.2)
+          (λ i. (is_old e i, sym (ap (λ (j : ℕ). get_or all j a) at_is ∙ last_is first takers all was left access popped are a) i, sym (here e) i)) given_here))
           (λ other. subst (IsGiven (get_or first k e) (get_or all k a)) (sym (get_or-set_other takers at k new e other)) (are.given k e a (omega arith) within));
-      untouched = λ k e before. get_or-set_other takers at k new e (λ is. absurd (omega arith)) ∙ are.untouched k e (omega arith)
+      untouched = λ k e before. get_or-set_other takers at k new e (λ is. absurd (omega arith)) ∙ are.untouched k e (omega arith);
     }
 
 -- the owner at the place of the last access is as it was, and the access is of its deque
@@ -69,7 +65,7 @@ give_begins first all many = record {
   fewer = omega arith;
   left_are = λ k a within. refl;
   given = λ k d a after within. absurd (omega arith);
-  untouched = λ k d within. refl
+  untouched = λ k d within. refl;
 }
 
 -- its port is the first

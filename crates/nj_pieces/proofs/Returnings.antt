@@ -1,5 +1,5 @@
 -- What the owners have once the accesses of some takers were given back.
-use Rattle.std.proofs.Common.{◌≡◌, ◌≢◌, ℕ, zero, suc, ◌+◌, ◌<◌, ◌≤◌, Bool, true, false, List, [], ◌∷◌, ◌++◌, length, get_or, set, take, sym, refl, ap, ◌∙◌, subst, arith, length-set, Global, if◌then◌else◌}
+use Rattle.std.proofs.Common.{◌≡◌, ◌≢◌, ℕ, suc, ◌+◌, ◌<◌, ◌≤◌, Bool, true, List, [], ◌∷◌, length, get_or, set, take, sym, refl, ap, ◌∙◌, subst, arith, length-set, Global, if◌then◌else◌}
 use mathlib.Core.Logic.{dite}
 use native.Mathlib.Decide.{ℕ_discrete}
 use Rattle.std.specs.Prelude.{Vec}
@@ -7,7 +7,6 @@ use Rattle.std.specs.List.{sum_by, list_all}
 use Rattle.std.proofs.lemmas.List.{get_or-set_same, get_or-set_other, get_or_default}
 use Rattle.std.proofs.lemmas.List.Sums.{sum_by-cons, sum_by-append, sum_by_more, AllPass-from_list_all}
 use Rattle.crossbeam_deque.specs.Handles.{worker_view, SameWorker}
-use Rattle.nj_pieces.specs.declared.rule.Tally.{Tally}
 use Rattle.nj_pieces.specs.declared.parts.Access.{Access}
 use Rattle.nj_pieces.specs.declared.parts.Taker.{Taker}
 use Rattle.nj_pieces.specs.Tallies.{both}
@@ -42,7 +41,7 @@ returned_begins first = record {
   owners = λ k d within. record { same = (refl, refl, refl, omega arith); seats = omega arith; marks = refl; dealt = refl };
   kept = λ k d after within. refl;
   weights = λ h. omega arith;
-  ended = λ j k d before. absurd (omega arith)
+  ended = λ j k d before. absurd (omega arith);
 }
 
 -- the takers where one has handed its accesses out
@@ -61,7 +60,7 @@ module _ (first takers mid : List Taker) (at : ℕ) (d : Taker) (empty accesses 
   mid_owner : (k : ℕ) (e : Taker) → k < length first → (get_or mid k e).owner ≡ (get_or takers k e).owner
   mid_owner k e k_within = let many = are.many in dite (ℕ_discrete k at)
       (λ is. ap (λ (xs : List Taker). (get_or xs k e).owner) mid_is ∙ ap (λ (j : ℕ). (get_or (set takers at new) j e).owner) is
-          ∙ ap (λ t. t.owner) (get_or-set_same takers at new e (omega arith)) ∙ ap (λ t. t.owner) (get_or_default takers at d e (omega arith)) ∙ ap (λ (j : ℕ). (get_or takers j e).owner) (sym is))
+      ∙ ap (λ t. t.owner) (get_or-set_same takers at new e (omega arith)) ∙ ap (λ t. t.owner) (get_or_default takers at d e (omega arith)) ∙ ap (λ (j : ℕ). (get_or takers j e).owner) (sym is))
       (λ other. ap (λ (xs : List Taker). (get_or xs k e).owner) mid_is ∙ ap (λ t. t.owner) (get_or-set_other takers at k new e other))
 
   -- and the accesses of the others
@@ -86,7 +85,7 @@ module _ (first takers mid : List Taker) (at : ℕ) (d : Taker) (empty accesses 
       let m = mid_many in
       let n = are.many in
       let back : (k : ℕ) (e : Taker) (a : Access) → k < length first → worker_view (get_or now k e).owner ≡ both (worker_view (get_or takers k e).owner) (seen (get_or accesses.items k a)) =
-          λ k e a k_within. (given k e a (omega arith)).view_is ∙ ap (λ (o : Owner). both (worker_view o) (seen (get_or accesses.items k a))) (mid_owner k e k_within) in record {
+      λ k e a k_within. (given k e a (omega arith)).view_is ∙ ap (λ (o : Owner). both (worker_view o) (seen (get_or accesses.items k a))) (mid_owner k e k_within) in record {
         many = now_many ∙ mid_many;
         owners = λ k e k_within.
             let a : Access = one_of accesses.items (let q = accesses_many in omega arith) in
@@ -101,7 +100,7 @@ module _ (first takers mid : List Taker) (at : ℕ) (d : Taker) (empty accesses 
               same = (here.0 ∙ was.same.0, here.1 ∙ was.same.1, here.2 ∙ was.same.2, (let low = was.same.3 in let high = here.3 in omega arith));
               seats = omega arith;
               marks = ap (λ v. v.marks) view_is ∙ was.marks;
-              dealt = ap (λ v. v.dealt) view_is ∙ was.dealt
+              dealt = ap (λ v. v.dealt) view_is ∙ was.dealt;
             };
         kept = λ k e after k_within.
             let a : Access = one_of accesses.items (let q = accesses_many in omega arith) in
@@ -109,22 +108,22 @@ module _ (first takers mid : List Taker) (at : ℕ) (d : Taker) (empty accesses 
         weights = λ h.
             let q = accesses_many in
             let all = sum_both (weight_back h) (λ (a : Access). sum_by h (seen a).taken) takers now accesses.items (now_many ∙ mid_many ∙ sym n) (omega arith)
-                (λ k e a k_within. ap (λ v. sum_by h v.taken) (back k e a (omega arith)) ∙ sum_by-append h (worker_view (get_or takers k e).owner).taken (seen (get_or accesses.items k a)).taken) in
+            (λ k e a k_within. ap (λ v. sum_by h v.taken) (back k e a (omega arith)) ∙ sum_by-append h (worker_view (get_or takers k e).owner).taken (seen (get_or accesses.items k a)).taken) in
             let out : weight_of h accesses.items ≡ weight_out h (get_or first at d) = ap (λ (v : Vec Access Global). weight_of h v.items) (handed d) in
             let was = are.weights h in
             omega (arith, sum_by_more (weight_out h) first at d within);
         ended = λ j k e before k_within done. dite (ℕ_discrete j at)
             (λ is.
-                let a : Access = one_of accesses.items (let q = accesses_many in omega arith) in
-                let done_here : list_all (λ (x : Access). x.ended) accesses.items ≡ true =
-                    ap (λ (v : Vec Access Global). list_all (λ (x : Access). x.ended) v.items) (handed e) ∙ ap (λ (i : ℕ). is_done (get_or first i e)) (sym is) ∙ done in
-                let met : (get_or accesses.items k a).ended ≡ true = AllPass-from_list_all (λ (x : Access). x.ended) accesses.items done_here k a (let q = accesses_many in omega arith) in
-                let one : (seen (get_or accesses.items k a)).ends ≡ 1 = (access_of k e a k_within).ends ∙ ap (λ (b : Bool). if b then 1 else 0) met in
-                let now_is : (worker_view (get_or now k e).owner).ends ≡ (worker_view (get_or takers k e).owner).ends + (seen (get_or accesses.items k a)).ends = ap (λ v. v.ends) (back k e a k_within) in
-                omega arith)
+            let a : Access = one_of accesses.items (let q = accesses_many in omega arith) in
+            let done_here : list_all (λ (x : Access). x.ended) accesses.items ≡ true =
+            ap (λ (v : Vec Access Global). list_all (λ (x : Access). x.ended) v.items) (handed e) ∙ ap (λ (i : ℕ). is_done (get_or first i e)) (sym is) ∙ done in
+            let met : (get_or accesses.items k a).ended ≡ true = AllPass-from_list_all (λ (x : Access). x.ended) accesses.items done_here k a (let q = accesses_many in omega arith) in
+            let one : (seen (get_or accesses.items k a)).ends ≡ 1 = (access_of k e a k_within).ends ∙ ap (λ (b : Bool). if b then 1 else 0) met in
+            let now_is : (worker_view (get_or now k e).owner).ends ≡ (worker_view (get_or takers k e).owner).ends + (seen (get_or accesses.items k a)).ends = ap (λ v. v.ends) (back k e a k_within) in
+            omega arith)
             (λ other.
-                let a : Access = one_of accesses.items (let q = accesses_many in omega arith) in
-                let was = are.ended j k e (omega arith) k_within done in
-                let now_is : (worker_view (get_or now k e).owner).ends ≡ (worker_view (get_or takers k e).owner).ends + (seen (get_or accesses.items k a)).ends = ap (λ v. v.ends) (back k e a k_within) in
-                omega arith)
+            let a : Access = one_of accesses.items (let q = accesses_many in omega arith) in
+            let was = are.ended j k e (omega arith) k_within done in
+            let now_is : (worker_view (get_or now k e).owner).ends ≡ (worker_view (get_or takers k e).owner).ends + (seen (get_or accesses.items k a)).ends = ap (λ v. v.ends) (back k e a k_within) in
+            omega arith);
       }

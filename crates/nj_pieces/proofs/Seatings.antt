@@ -1,5 +1,5 @@
 -- What the loops of a deal have done so far.
-use Rattle.std.proofs.Common.{◌≡◌, ◌≢◌, ℕ, zero, suc, ◌+◌, ◌-◌, ◌<◌, ◌≤◌, Bool, true, false, List, [], ◌∷◌, ◌++◌, length, get_or, set, take, sym, refl, ap, ◌∙◌, subst, arith, ◌%◌, ◌==◌, length-append, length-set, Global, if◌then◌else◌}
+use Rattle.std.proofs.Common.{◌≡◌, ◌≢◌, ℕ, ◌+◌, ◌-◌, ◌<◌, ◌≤◌, Bool, false, List, [], ◌∷◌, ◌++◌, length, get_or, set, take, sym, refl, ap, ◌∙◌, subst, arith, ◌%◌, ◌==◌, length-append, length-set, Global, if◌then◌else◌}
 use mathlib.Core.Logic.{dite}
 use native.Mathlib.Decide.{ℕ_discrete}
 use Rattle.std.specs.Prelude.{Vec}
@@ -11,14 +11,14 @@ use Rattle.std.proofs.lemmas.List.FromFn.{get_or-range_with_len, length-range_wi
 use Rattle.std.proofs.lemmas.List.Sums.{sum_by-le}
 use Rattle.std.proofs.Math.ListN.{get_or-append}
 use Rattle.std.proofs.Math.Seq.{get_or-append_seam, take-append_seam}
-use Rattle.crossbeam_deque.specs.Handles.{view, IsPassOf, worker_deque, worker_port, worker_view, SameWorker}
+use Rattle.crossbeam_deque.specs.Handles.{IsPassOf, worker_deque, worker_view, SameWorker}
 use Rattle.nj_pieces.specs.declared.rule.Tally.{Tally}
 use Rattle.nj_pieces.specs.declared.parts.Access.{Access}
 use Rattle.nj_pieces.specs.declared.parts.Taker.{Taker}
 use Rattle.nj_pieces.specs.declared.parts.Pieces.{Pieces}
 use Rattle.nj_pieces.specs.Tallies.{cut, guest, opening}
 use Rattle.nj_pieces.specs.Dealing.{dealt_to}
-use Rattle.nj_pieces.specs.Takers.{Owner, Thief, seen, workers_of, number_of, dealt_of, taken_of, is_done, weight_of, IsAccess, IsOwner, AreAccesses, IsTakerOf, AreTakersOf}
+use Rattle.nj_pieces.specs.Takers.{Owner, Thief, seen, workers_of, number_of, dealt_of, taken_of, is_done, IsAccess, IsOwner, IsTakerOf, AreTakersOf}
 use Rattle.nj_pieces.specs.Seating.{IsOpened, MayCut, IsCut, IsSeat}
 
 -- the element behind a list
@@ -45,7 +45,7 @@ opened_more count workers takers thieves number t h are new = record {
   thieves_many = let many = are.thieves_many in omega (arith, length-append thieves (h ∷ []));
   each = λ k d s within. (each_more (λ j x. (e : Thief) → IsOpened count workers j x (get_or (thieves ++ h ∷ []) j e)) takers t number are.takers_many
       (λ j x within e. subst (IsOpened count workers j (get_or takers j x)) (sym (get_or-append thieves (h ∷ []) e j (let many = are.thieves_many in omega arith))) (are.each j x e within))
-      (λ e. subst (IsOpened count workers number t) (sym (at_end thieves h e number (sym are.thieves_many))) new) k d within) s
+      (λ e. subst (IsOpened count workers number t) (sym (at_end thieves h e number (sym are.thieves_many))) new) k d within) s;
 }
 
 -- the same with the lists that two pushes make
@@ -82,14 +82,14 @@ cutting_more first takers accesses accesses_now at d owner a pushed are within s
       accesses_many = let many = are.accesses_many in omega (arith, length-append accesses (a ∷ []));
       cut_so_far = λ k e before. dite (ℕ_discrete k at)
           (λ is. subst (λ j. IsCut 1 (get_or first j e) (get_or (set takers at new) j e)) (sym is)
-              (subst (λ (p : Taker × Taker). IsCut 1 p.0 p.1) (λ i. (is_old e i, sym (here e) i)) cut_here))
+          (subst (λ (p : Taker × Taker). IsCut 1 p.0 p.1) (λ i. (is_old e i, sym (here e) i)) cut_here))
           (λ other. subst (IsCut 1 (get_or first k e)) (sym (get_or-set_other takers at k new e other)) (are.cut_so_far k e (omega arith)));
       kept = λ k e. dite (ℕ_discrete k at)
           (λ is. ap (λ (j : ℕ). (get_or (set takers at new) j e).accesses) is ∙ ap (λ t. t.accesses) (here e) ∙ ap (λ t. t.accesses) (is_old e) ∙ ap (λ (j : ℕ). (get_or first j e).accesses) (sym is))
           (λ other. ap (λ t. t.accesses) (get_or-set_other takers at k new e other) ∙ are.kept k e);
       untouched = λ k e after. get_or-set_other takers at k new e (λ is. absurd (omega arith)) ∙ are.untouched k e (omega arith);
       seats = λ k e b before. each_more (λ j x. IsSeat (get_or first j e) x) accesses a at are.accesses_many (λ j x j_within. are.seats j e x j_within)
-          (subst (λ t. IsSeat t a) (is_old e) seat_here) k b before
+          (subst (λ t. IsSeat t a) (is_old e) seat_here) k b before;
     })
 
 -- the takers below this place have their accesses
@@ -104,7 +104,7 @@ cut_again : (times : ℕ) (a b c : Taker) → IsCut times a b → IsCut 1 b c �
 cut_again times a b c one two = record {
   numbered = two.numbered ∙ one.numbered;
   same = (two.same.0 ∙ one.same.0, two.same.1 ∙ one.same.1, two.same.2 ∙ one.same.2, (let low = one.same.3 in let high = two.same.3 in omega arith));
-  view_is = two.view_is ∙ ap cut one.view_is ∙ ap (λ (n : ℕ). record (worker_view a.owner) { seats = n }) (let e : (worker_view a.owner).seats - times - 1 ≡ (worker_view a.owner).seats - (times + 1) = omega arith in e)
+  view_is = two.view_is ∙ ap cut one.view_is ∙ ap (λ (n : ℕ). record (worker_view a.owner) { seats = n }) (let e : (worker_view a.owner).seats - times - 1 ≡ (worker_view a.owner).seats - (times + 1) = omega arith in e);
 }
 
 -- an access to the deque of an owner that has given rights away is one of the owner as it was
@@ -112,7 +112,7 @@ seat_before : (times : ℕ) (a b : Taker) (access : Access) → IsCut times a b 
 seat_before times a b access is_cut seat = record {
   deque = (seat.deque.0 ∙ ap (λ d. d.0) is_cut.same.0, seat.deque.1 ∙ ap (λ d. d.1) is_cut.same.0, seat.deque.2, seat.deque.3);
   seen_is = seat.seen_is ∙ ap guest is_cut.view_is;
-  not_ended = seat.not_ended
+  not_ended = seat.not_ended;
 }
 
 -- who may still give a right away
@@ -121,7 +121,7 @@ may_cut times most a b may is_cut less = record {
   port = is_cut.same.2 ∙ may.port;
   seats = let is : (worker_view b.owner).seats ≡ (worker_view a.owner).seats - times = ap (λ v. v.seats) is_cut.view_is in let enough = may.seats in omega arith;
   none_ended = ap (λ v. v.ends) is_cut.view_is ∙ may.none_ended;
-  none_taken = ap (λ v. v.taken) is_cut.view_is ∙ may.none_taken
+  none_taken = ap (λ v. v.taken) is_cut.view_is ∙ may.none_taken;
 }
 
 pub seating_more : (first takers mid : List Taker) (at : ℕ) (d : Taker) (accesses : Vec Access Global) → AreSeating first takers at → at < length first
@@ -134,28 +134,28 @@ seating_more first takers mid at d accesses are within mid_many cuts kept seats_
     let many : length takers ≡ length first = are.many in
     let here : (e : Taker) → get_or (set mid at new) at e ≡ new = λ e. get_or-set_same mid at new e (omega arith) in
     let cut_new : (e : Taker) → IsCut 1 (get_or takers at e) new = λ e.
-        let c = cuts at e (omega arith) in
-        let same : get_or mid at e ≡ get_or mid at d = get_or_default mid at e d (omega arith) in
-        record {
-          numbered = ap (λ t. t.number) (sym same) ∙ c.numbered;
-          same = subst (λ (o : Owner). SameWorker (get_or takers at e).owner o) (ap (λ t. t.owner) same) c.same;
-          view_is = ap (λ t. worker_view t.owner) (sym same) ∙ c.view_is
-        } in
+    let c = cuts at e (omega arith) in
+    let same : get_or mid at e ≡ get_or mid at d = get_or_default mid at e d (omega arith) in
+    record {
+      numbered = ap (λ t. t.number) (sym same) ∙ c.numbered;
+      same = subst (λ (o : Owner). SameWorker (get_or takers at e).owner o) (ap (λ t. t.owner) same) c.same;
+      view_is = ap (λ t. worker_view t.owner) (sym same) ∙ c.view_is;
+    } in
     let other_is : (k : ℕ) (e : Taker) → k ≢ at → get_or (set mid at new) k e ≡ get_or mid k e = λ k e other. get_or-set_other mid at k new e other in record {
       many = length-set mid at new ∙ mid_many ∙ many;
       cut_so_far = λ k e k_within. cut_again at (get_or first k e) (get_or takers k e) (get_or (set mid at new) k e) (are.cut_so_far k e k_within)
           (dite (ℕ_discrete k at)
-              (λ is. subst (λ j. IsCut 1 (get_or takers j e) (get_or (set mid at new) j e)) (sym is) (subst (IsCut 1 (get_or takers at e)) (sym (here e)) (cut_new e)))
-              (λ other. subst (IsCut 1 (get_or takers k e)) (sym (other_is k e other)) (cuts k e (omega arith))));
+          (λ is. subst (λ j. IsCut 1 (get_or takers j e) (get_or (set mid at new) j e)) (sym is) (subst (IsCut 1 (get_or takers at e)) (sym (here e)) (cut_new e)))
+          (λ other. subst (IsCut 1 (get_or takers k e)) (sym (other_is k e other)) (cuts k e (omega arith))));
       accesses_many = λ j e before. dite (ℕ_discrete j at)
           (λ is. ap (λ (i : ℕ). length (get_or (set mid at new) i e).accesses.items) is ∙ ap (λ t. length t.accesses.items) (here e) ∙ seats_many ∙ many)
           (λ other. ap (λ t. length t.accesses.items) (other_is j e other) ∙ ap (λ (v : Vec Access Global). length v.items) (kept j e (omega arith)) ∙ are.accesses_many j e (omega arith));
       seats = λ j k e a before k_within. dite (ℕ_discrete j at)
           (λ is. subst (λ i. IsSeat (get_or first k e) (get_or (get_or (set mid at new) i e).accesses.items k a)) (sym is)
-              (subst (λ (t : Taker). IsSeat (get_or first k e) (get_or t.accesses.items k a)) (sym (here e))
-                  (seat_before at (get_or first k e) (get_or takers k e) (get_or accesses.items k a) (are.cut_so_far k e k_within) (seats k e a (omega arith)))))
+          (subst (λ (t : Taker). IsSeat (get_or first k e) (get_or t.accesses.items k a)) (sym (here e))
+          (seat_before at (get_or first k e) (get_or takers k e) (get_or accesses.items k a) (are.cut_so_far k e k_within) (seats k e a (omega arith)))))
           (λ other. subst (λ (t : Taker). IsSeat (get_or first k e) (get_or t.accesses.items k a)) (sym (other_is j e other))
-              (subst (λ (v : Vec Access Global). IsSeat (get_or first k e) (get_or v.items k a)) (sym (kept j e (omega arith))) (are.seats j k e a (omega arith) k_within)))
+          (subst (λ (v : Vec Access Global). IsSeat (get_or first k e) (get_or v.items k a)) (sym (kept j e (omega arith))) (are.seats j k e a (omega arith) k_within)));
     }
 
 -- all workers have their takers, with their accesses, and nothing was taken
@@ -194,7 +194,7 @@ all_may_cut count workers takers slice thieves same filled takers_many thieves_m
       port = is.port;
       seats = let seats : (worker_view (get_or takers k d).owner).seats ≡ workers = ap (λ v. v.seats) is.view_is in omega arith;
       none_ended = ap (λ v. v.ends) is.view_is;
-      none_taken = ap (λ v. v.taken) is.view_is
+      none_taken = ap (λ v. v.taken) is.view_is;
     })
 
 -- what the loops have made is a dealing
@@ -209,24 +209,28 @@ all_dealt pieces workers first takers filled first_many thieves_many opened many
   takers_are = record {
     many = many ∙ first_many ∙ sym thieves_many;
     each = λ k d within. taker k d (omega arith);
-    numbers = λ k d within. number k d (omega arith)
+    numbers = λ k d within. number k d (omega arith);
   };
   dealt = λ k d within. ap (λ v. v.dealt) (view_of k d within);
   none_taken = λ k d within. ap (λ v. v.log) (view_of k d (omega arith));
   none_done = λ k d within.
       let n = accesses_many k d (omega arith) in
-      not_all (get_or takers k d).accesses.items (omega arith) (λ j a j_within. (seats k j d a (omega arith) (omega arith)).not_ended)
+      not_all (get_or takers k d).accesses.items (omega arith) (λ j a j_within. (seats k j d a (omega arith) (omega arith)).not_ended);
 } where
   thief : Thief
   thief = one_of pieces.thieves.items (omega arith)
+
   number : (k : ℕ) (d : Taker) → k < workers → (get_or takers k d).number ≡ k
   number k d within = (cut_all k d (omega arith)).numbered ∙ (opened k d thief within).numbered
+
   view_of : (k : ℕ) (d : Taker) → k < workers → worker_view (get_or takers k d).owner ≡ record (opening (dealt_to k workers pieces.count) workers) { seats = 0 }
   view_of k d within =
       (cut_all k d (omega arith)).view_is ∙ ap (λ (v : Tally). record v { seats = v.seats - length first }) (opened k d thief within).view_is
       ∙ ap (λ (n : ℕ). record (opening (dealt_to k workers pieces.count) workers) { seats = n }) (let none : workers - length first ≡ 0 = omega arith in none)
+
   taken : (k : ℕ) (d : Taker) (m : ℕ) (a : Access) → k < workers → m < workers → seen (get_or (get_or takers k d).accesses.items m a) ≡ guest (opening (dealt_to m workers pieces.count) workers)
   taken k d m a within m_within = (seats k m d a (omega arith) (omega arith)).seen_is ∙ ap guest (opened m d thief m_within).view_is
+
   access : (k : ℕ) (d : Taker) → k < workers → (m : ℕ) (s : Thief) (a : Access) → m < workers → IsAccess pieces.count (get_or pieces.thieves.items m s) (get_or (get_or takers k d).accesses.items m a)
   access k d within m s a m_within =
       let seat = seats k m d a (omega arith) (omega arith) in
@@ -236,8 +240,9 @@ all_dealt pieces workers first takers filled first_many thieves_many opened many
         deque = (seat.deque.0 ∙ ap (λ x. x.0) (sym open_m.deque), seat.deque.1 ∙ ap (λ x. x.1) (sym open_m.deque), seat.deque.2, seat.deque.3);
         seats = ap (λ v. v.seats) now;
         ends = ap (λ v. v.ends) now ∙ sym (ap (λ (b : Bool). if b then 1 else 0) seat.not_ended);
-        below = subst (All (λ p. p < pieces.count)) (sym (ap (λ v. v.dealt) now)) (dealt_below m workers pieces.count)
+        below = subst (All (λ p. p < pieces.count)) (sym (ap (λ v. v.dealt) now)) (dealt_below m workers pieces.count);
       }
+
   owner : (k : ℕ) (d : Taker) → k < workers → (s : Thief) → IsOwner pieces.count workers k 0 (get_or pieces.thieves.items k s) (get_or takers k d).owner
   owner k d within s =
       let open_k = opened k d s within in
@@ -248,8 +253,9 @@ all_dealt pieces workers first takers filled first_many thieves_many opened many
         port = is_cut.same.2 ∙ open_k.port;
         seats_are = ap (λ v. v.seats) now;
         marks = ap (λ v. v.marks) now;
-        dealt = ap (λ v. v.dealt) now
+        dealt = ap (λ v. v.dealt) now;
       }
+
   taker : (k : ℕ) (d : Taker) → k < workers → IsTakerOf pieces (get_or takers k d)
   taker k d within =
       let n = number k d within in
@@ -262,7 +268,7 @@ all_dealt pieces workers first takers filled first_many thieves_many opened many
         none_taken = ap (λ v. v.taken) now;
         accesses = record { many = a_many ∙ sym thieves_many; each = λ m s a m_within. access k d within m s a (omega arith) };
         noted = λ h. ap (λ v. sum_by h v.log) now ∙ sym (none_in_all (λ a. sum_by h (seen a).taken) (get_or takers k d).accesses.items
-            (λ m a m_within. ap (λ v. sum_by h v.taken) (taken k d m a within (omega arith))))
+            (λ m a m_within. ap (λ v. sum_by h v.taken) (taken k d m a within (omega arith))));
       }
 
 -- the same of the list that a vector has after a call on its slice
@@ -276,6 +282,6 @@ all_dealt_within pieces workers n first slice takers rest is n_is filled first_m
     let same : n ≡ length takers = n_is ∙ ap length (sym is) ∙ sym many in
     let whole : take n (takers ++ rest) ≡ takers = ap (λ k. take k (takers ++ rest)) same ∙ take-append_seam takers rest in
     let opened_slice : (k : ℕ) (d : Taker) (s : Thief) → k < workers → IsOpened pieces.count workers k (get_or slice k d) (get_or pieces.thieves.items k s) =
-        λ k d s within. subst (λ (xs : List Taker). IsOpened pieces.count workers k (get_or xs k d) (get_or pieces.thieves.items k s)) (sym is) (opened k d s within) in
+    λ k d s within. subst (λ (xs : List Taker). IsOpened pieces.count workers k (get_or xs k d) (get_or pieces.thieves.items k s)) (sym is) (opened k d s within) in
     subst (λ xs. AreDealt pieces xs pieces.count workers) (sym whole)
     (all_dealt pieces workers slice takers filled (ap length is ∙ first_many) thieves_many opened_slice many cut_all accesses_many seats)

@@ -1,7 +1,6 @@
 -- Each step of a pass keeps the rule of its deque.
-use Rattle.std.proofs.Common.{◌≡◌, ◌≢◌, ℕ, zero, suc, ◌+◌, ◌-◌, ◌<◌, ◌≤◌, ◌⊎◌, inl, inr, List, [], ◌∷◌, ◌++◌, length, map, replicate, set, sym, refl, ap, ◌∙◌, subst, ⊎_elim, append_assoc, append-nil, length-append, arith}
+use Rattle.std.proofs.Common.{◌≡◌, ◌≢◌, ℕ, zero, suc, ◌+◌, ◌<◌, ◌≤◌, ◌⊎◌, inl, inr, List, [], ◌∷◌, ◌++◌, length, replicate, set, sym, refl, ap, ◌∙◌, subst, ⊎_elim, arith}
 use Rattle.std.specs.List.{sum_by}
-use Rattle.std.proofs.lemmas.List.{length-map}
 use Rattle.std.proofs.lemmas.List.Sums.{sum_by-append, sum_by-cons, sum_by_push}
 use mathlib.Core.Option.{some, some-ne-none, some-injective}
 use lib.ListN.{get_elem?}
@@ -38,7 +37,7 @@ begins = record {
   marks_are = refl;
   pieces_are = λ h. refl;
   ended = λ some_ended. refl;
-  fits = each_snoc (Fits blank) [] blank (λ port v e. absurd (some-ne-none v (sym e))) (blank_fits blank)
+  fits = each_snoc (Fits blank) [] blank (λ port v e. absurd (some-ne-none v (sym e))) (blank_fits blank);
 }
 
 -- a piece goes behind the pieces, where no mark stands
@@ -90,7 +89,7 @@ puts_piece port v p is_root unmarked items views h at =
       fits = each_set (λ _ u. Fits (root_of (set views 0 w)) u) views 0 w
           (record { within = mine.within; idle = mine.idle; told = λ some_seat. absurd (let has = total_has seats views 0 v first in omega arith) })
           (λ j u other e. let theirs = h.fits j u e in
-              record { within = theirs.within; idle = theirs.idle; told = λ some_seat. absurd (let has = total_has seats views j u e in omega arith) })
+          record { within = theirs.within; idle = theirs.idle; told = λ some_seat. absurd (let has = total_has seats views j u e in omega arith) });
     } in
     subst (λ k. (u : Tally) × Holds (items ++ Piece p ∷ []) (set views k u) × (u ≡ w)) (sym is_root) (w, kept, refl)
 
@@ -119,7 +118,7 @@ puts_end port v is_root items views h at =
       fits = each_set (λ _ u. Fits (root_of (set views 0 w)) u) views 0 w
           (record { within = let within = mine.within in omega arith; idle = λ none. absurd (omega arith); told = λ some_seat. sym (ap (λ u. u.dealt) new_root) })
           (λ j u other e. let theirs = h.fits j u e in
-              record { within = theirs.within; idle = theirs.idle; told = λ some_seat. theirs.told some_seat ∙ sym deal })
+          record { within = theirs.within; idle = theirs.idle; told = λ some_seat. theirs.told some_seat ∙ sym deal });
     } in
     subst (λ k. (u : Tally) × Holds (items ++ End ∷ []) (set views k u) × (u ≡ w)) (sym is_root) (w, kept, refl)
 
@@ -142,8 +141,8 @@ piece_step port v x items views h p r at some_seat is items_are =
     let marks : (root_of (set views port w)).marks ≡ (root_of views).marks = root_keeps (λ u. u.marks) views port v w at refl in
     let deal : (root_of (set views port w)).dealt ≡ (root_of views).dealt = root_keeps (λ u. u.dealt) views port v w at refl in
     let no_end : 0 < total ends (set views port w) → ⊥ = λ some_ended.
-        let s = total_set ends views port v w at in
-        let none : h.rest ≡ [] = h.ended (omega arith) in absurd (cc) in record {
+    let s = total_set ends views port v w at in
+    let none : h.rest ≡ [] = h.ended (omega arith) in absurd (cc) in record {
       rest = r;
       left = h.left;
       items_are = items_are;
@@ -158,7 +157,7 @@ piece_step port v x items views h p r at some_seat is items_are =
       fits = each_set (λ _ u. Fits (root_of (set views port w)) u) views port w
           (record { within = mine.within; idle = λ none. absurd (omega arith); told = λ seat. mine.told seat ∙ sym deal })
           (λ j u other e. let theirs = h.fits j u e in
-              record { within = theirs.within; idle = theirs.idle; told = λ seat. theirs.told seat ∙ sym deal })
+          record { within = theirs.within; idle = theirs.idle; told = λ seat. theirs.told seat ∙ sym deal });
     }
 
 -- a pass takes a mark, where no piece is left
@@ -183,7 +182,7 @@ end_step port v x items views h l at some_right none left items_are =
       fits = each_set (λ _ u. Fits (root_of (set views port w)) u) views port w
           (record { within = omega arith; idle = λ no_seat. absurd (omega arith); told = λ seat. mine.told seat ∙ sym deal })
           (λ j u other e. let theirs = h.fits j u e in
-              record { within = theirs.within; idle = theirs.idle; told = λ seat. theirs.told seat ∙ sym deal })
+          record { within = theirs.within; idle = theirs.idle; told = λ seat. theirs.told seat ∙ sym deal });
     }
 
 -- the piece that stands first is one that was dealt
@@ -203,9 +202,9 @@ takes port v some_right (x ∷ []) items views filled few h at =
     let some_seat : 0 < v.seats = omega arith in
     ⊎_elim
     (λ (f : (p : ℕ) × (r : List ℕ) × (h.rest ≡ p ∷ r) × (x ≡ Piece p) × (items ≡ tasks r h.left)).
-        subst Goal (sym f.3) (with_piece v f.0, piece_step port v x items views h f.0 f.1 at some_seat f.2 f.4, (refl, is_of port v (x ∷ items) views h f.0 f.1 at some_seat f.2)))
+    subst Goal (sym f.3) (with_piece v f.0, piece_step port v x items views h f.0 f.1 at some_seat f.2 f.4, (refl, is_of port v (x ∷ items) views h f.0 f.1 at some_seat f.2)))
     (λ (f : (l : ℕ) × (h.rest ≡ []) × (h.left ≡ suc l) × (x ≡ End) × (items ≡ tasks [] l)).
-        subst Goal (sym f.3) (with_end v, end_step port v x items views h f.0 at some_right f.1 f.2 f.4, refl))
+    subst Goal (sym f.3) (with_end v, end_step port v x items views h f.0 at some_right f.1 f.2 f.4, refl))
     (first_of x items h.rest h.left h.items_are)
 
 -- it never finds the deque empty
@@ -226,8 +225,8 @@ alone f (x ∷ xs) v e all none =
     let mine : x.seats ≡ v.seats = ap seats same in
     let value : f x ≡ f v = ap f same in
     let others = total_none seats f xs (omega arith) (λ k. none (suc k)) in omega arith where
-  some_injective_here : some x ≡ some v → x ≡ v
-  some_injective_here q = some-injective x v q
+      some_injective_here : some x ≡ some v → x ≡ v
+      some_injective_here q = some-injective x v q
 
 -- what the owner's pass that has all marks knows at a moment: the pieces left are those that are not in its list
 settled : (v : Tally) (items : List Task) (views : List Tally) (h : Holds items views) → get_elem? views 0 ≡ some v → v.seats ≡ v.marks → h.rest ≡ [] → IsSettled v
@@ -253,22 +252,22 @@ drains port v is_root whole some_seat (x ∷ []) items views filled few h at =
     let root = root_is views v first in
     ⊎_elim
     (λ (f : (p : ℕ) × (r : List ℕ) × (h.rest ≡ p ∷ r) × (x ≡ Piece p) × (items ≡ tasks r h.left)).
-        let no_end : v.ends ≡ 0 = not_some v.ends (λ some_ended.
-            let has = total_has ends views port v at in
-            let none : h.rest ≡ [] = h.ended (omega arith) in let is = f.2 in absurd (cc)) in
-        let most : (g : ℕ → ℕ) → sum_by g v.taken + g f.0 ≤ sum_by g v.dealt = λ g.
-            let has = total_has (weight g) views port v at in
-            let same : sum_by g v.dealt ≡ sum_by g (root_of views).dealt = ap (λ u. sum_by g u.dealt) (sym root) in
-            let start : sum_by g h.rest ≡ sum_by g (f.0 ∷ f.1) = ap (sum_by g) f.2 in
-            let balance = h.pieces_are g in omega (arith, sum_by-cons g f.0 f.1) in
-        subst Goal (sym f.3) (with_piece v f.0, piece_step port v x items views h f.0 f.1 at some_seat f.2 f.4, (refl, no_end, most)))
+    let no_end : v.ends ≡ 0 = not_some v.ends (λ some_ended.
+    let has = total_has ends views port v at in
+    let none : h.rest ≡ [] = h.ended (omega arith) in let is = f.2 in absurd (cc)) in
+    let most : (g : ℕ → ℕ) → sum_by g v.taken + g f.0 ≤ sum_by g v.dealt = λ g.
+    let has = total_has (weight g) views port v at in
+    let same : sum_by g v.dealt ≡ sum_by g (root_of views).dealt = ap (λ u. sum_by g u.dealt) (sym root) in
+    let start : sum_by g h.rest ≡ sum_by g (f.0 ∷ f.1) = ap (sum_by g) f.2 in
+    let balance = h.pieces_are g in omega (arith, sum_by-cons g f.0 f.1) in
+    subst Goal (sym f.3) (with_piece v f.0, piece_step port v x items views h f.0 f.1 at some_seat f.2 f.4, (refl, no_end, most)))
     (λ (f : (l : ℕ) × (h.rest ≡ []) × (h.left ≡ suc l) × (x ≡ End) × (items ≡ tasks [] l)).
-        let right : v.ends < v.seats =
-            let has = total_has ends views port v at in
-            let counted = h.marks_are in
-            let left = f.2 in
-            let marks : (root_of views).marks ≡ v.marks = ap (λ u. u.marks) root in omega arith in
-        subst Goal (sym f.3) (with_end v, end_step port v x items views h f.0 at right f.1 f.2 f.4, (refl, settled v (x ∷ items) views h first whole f.1)))
+    let right : v.ends < v.seats =
+    let has = total_has ends views port v at in
+    let counted = h.marks_are in
+    let left = f.2 in
+    let marks : (root_of views).marks ≡ v.marks = ap (λ u. u.marks) root in omega arith in
+    subst Goal (sym f.3) (with_end v, end_step port v x items views h f.0 at right f.1 f.2 f.4, (refl, settled v (x ∷ items) views h first whole f.1)))
     (first_of x items h.rest h.left h.items_are)
 
 no_rest : (rest : List ℕ) (left : ℕ) → [] ≡ tasks rest left → rest ≡ []
@@ -292,7 +291,7 @@ splits v w u items views h first seats_same marks_same ends_same no_ends deal_sa
     let deal : (root_of (middle ++ u ∷ [])).dealt ≡ (root_of views).dealt = ap (λ y. y.dealt) new_root ∙ deal_same ∙ sym (ap (λ y. y.dealt) root) in
     let now = fit (root_of (middle ++ u ∷ [])) (ap (λ y. y.dealt) new_root) in
     let ends_now : total ends (middle ++ u ∷ []) ≡ total ends views =
-        (let s = total_set ends views 0 v w first in let t = total_snoc ends middle u in omega arith) in record {
+    (let s = total_set ends views 0 v w first in let t = total_snoc ends middle u in omega arith) in record {
       rest = h.rest;
       left = h.left;
       items_are = h.items_are;
@@ -308,22 +307,23 @@ splits v w u items views h first seats_same marks_same ends_same no_ends deal_sa
       ended = λ some_ended. h.ended (omega arith);
       fits = each_snoc (Fits (root_of (middle ++ u ∷ []))) middle u
           (each_set (λ _ y. Fits (root_of (middle ++ u ∷ [])) y) views 0 w now.0
-              (λ j y other e. let theirs = h.fits j y e in
-                  record { within = theirs.within; idle = theirs.idle; told = λ seat. theirs.told seat ∙ sym deal }))
-          now.1
+          (λ j y other e. let theirs = h.fits j y e in
+          record { within = theirs.within; idle = theirs.idle; told = λ seat. theirs.told seat ∙ sym deal }))
+          now.1;
     } where
-  set_first : (xs : List Tally) (a b : Tally) → get_elem? xs 0 ≡ some a → get_elem? (set xs 0 b) 0 ≡ some b
-  set_first [] a b e = absurd (some-ne-none a (sym e))
-  set_first (x ∷ xs) a b e = refl
+      set_first : (xs : List Tally) (a b : Tally) → get_elem? xs 0 ≡ some a → get_elem? (set xs 0 b) 0 ≡ some b
+      set_first [] a b e = absurd (some-ne-none a (sym e))
+      set_first (x ∷ xs) a b e = refl
 
 -- the owner gives one right away, before anything was taken by it
 pub cuts : (port : ℕ) (v : Tally) → port ≡ 0 → 0 < v.seats → v.ends ≡ 0 → v.taken ≡ [] → Forks Holds port v (cut v) (guest v)
 cuts port v is_root some_seat no_ends none items views h at =
     subst (λ k. Holds items (set views k (cut v) ++ guest v ∷ [])) (sym is_root)
     (splits v (cut v) (guest v) items views h (subst (λ k. get_elem? views k ≡ some v) is_root at) (omega arith) refl refl refl refl refl refl
-        (λ root deal.
-            ((record { within = omega arith; idle = λ no_seat. none; told = λ seat. sym deal }),
-            (record { within = omega arith; idle = λ no_seat. refl; told = λ seat. sym deal }))))
+    (λ root deal. (
+      (record { within = omega arith; idle = λ no_seat. none; told = λ seat. sym deal }),
+      (record { within = omega arith; idle = λ no_seat. refl; told = λ seat. sym deal }),
+    )))
 
 -- the owner notes a piece
 pub notes : (port : ℕ) (v : Tally) (p : ℕ) → port ≡ 0 → Forks Holds port v (noted v p) blank
@@ -332,8 +332,8 @@ notes port v p is_root items views h at =
     let mine = h.fits 0 v first in
     subst (λ k. Holds items (set views k (noted v p) ++ blank ∷ [])) (sym is_root)
     (splits v (noted v p) blank items views h first (omega arith) refl refl refl refl refl refl
-        (λ root deal.
-            ((record { within = mine.within; idle = mine.idle; told = λ seat. sym deal }), blank_fits root)))
+    (λ root deal.
+    ((record { within = mine.within; idle = mine.idle; told = λ seat. sym deal }), blank_fits root)))
 
 -- nothing is taken where both have taken nothing
 both_none : (xs ys : List ℕ) → xs ≡ [] → ys ≡ [] → xs ++ ys ≡ []
@@ -355,7 +355,7 @@ gives port v other u is_root items views h at apart at' =
     let mine = h.fits 0 v first in
     let theirs_u = h.fits other u was in
     let ends_now : total ends (set middle other blank) ≡ total ends views =
-        (let s = total_set ends views 0 v w first in let t = total_set ends middle other u blank there in omega arith) in
+    (let s = total_set ends views 0 v w first in let t = total_set ends middle other u blank there in omega arith) in
     let kept : Holds items (set middle other blank) = record {
       rest = h.rest;
       left = h.left;
@@ -370,16 +370,16 @@ gives port v other u is_root items views h at apart at' =
       ended = λ some_ended. h.ended (omega arith);
       fits = each_set (λ _ y. Fits (root_of (set middle other blank)) y) middle other blank (blank_fits _)
           (λ j y apart_j e. ⊎_elim
-              (λ (x : (j ≡ 0) × (w ≡ y)). subst (Fits (root_of (set middle other blank))) x.1 (record {
-                within = let a = mine.within in let b = theirs_u.within in omega arith;
-                idle = λ no_seat. both_none v.taken u.taken (mine.idle (omega arith)) (theirs_u.idle (omega arith));
-                told = λ seat. sym (ap (λ z. z.dealt) new_root)
-              }))
-              (λ (x : (j ≢ 0) × (get_elem? views j ≡ some y)). let theirs = h.fits j y x.1 in
-                  record { within = theirs.within; idle = theirs.idle; told = λ seat. theirs.told seat ∙ sym deal })
-              (at_set views 0 j w y e))
+          (λ (x : (j ≡ 0) × (w ≡ y)). subst (Fits (root_of (set middle other blank))) x.1 (record {
+            within = let a = mine.within in let b = theirs_u.within in omega arith;
+            idle = λ no_seat. both_none v.taken u.taken (mine.idle (omega arith)) (theirs_u.idle (omega arith));
+            told = λ seat. sym (ap (λ z. z.dealt) new_root);
+          }))
+          (λ (x : (j ≢ 0) × (get_elem? views j ≡ some y)). let theirs = h.fits j y x.1 in
+          record { within = theirs.within; idle = theirs.idle; told = λ seat. theirs.told seat ∙ sym deal })
+          (at_set views 0 j w y e));
     } in
     subst (λ k. Holds items (set (set views k w) other blank)) (sym is_root) kept where
-  not_first : (k : ℕ) → (k ≡ 0 → ⊥) → 0 < k
-  not_first zero apart_zero = absurd (apart_zero refl)
-  not_first (suc k) apart_zero = omega arith
+      not_first : (k : ℕ) → (k ≡ 0 → ⊥) → 0 < k
+      not_first zero apart_zero = absurd (apart_zero refl)
+      not_first (suc k) apart_zero = omega arith

@@ -1,5 +1,5 @@
 -- Sums over lists and ranges.
-use Rattle.std.proofs.Common.{◌≡◌, ◌≢◌, ℕ, zero, suc, ◌+◌, ◌%◌, ◌==◌, ◌<◌, ◌≤◌, ◌⊎◌, inl, inr, ⊎_elim, Bool, true, false, List, [], ◌∷◌, ◌++◌, length, get_or, sym, refl, ap, ◌∙◌, arith, ltb, if◌then◌else◌}
+use Rattle.std.proofs.Common.{◌≡◌, ◌≢◌, ℕ, zero, suc, ◌+◌, ◌%◌, ◌==◌, ◌<◌, ◌≤◌, ◌⊎◌, inl, inr, ⊎_elim, Bool, true, false, List, [], ◌∷◌, length, get_or, sym, refl, ap, ◌∙◌, arith, ltb, if◌then◌else◌}
 use mathlib.Core.Logic.{dite}
 use native.Mathlib.Decide.{ℕ_discrete}
 use Rattle.std.specs.List.{sum_by, range_with_len}
@@ -49,13 +49,13 @@ one_here : (f : ℕ → ℕ) (m a n : ℕ) → ((k : ℕ) → k ≢ m → f k �
 one_here f m a zero off low high = absurd (omega arith)
 one_here f m a (suc n) off low high = dite (ℕ_discrete a m)
     (λ is.
-        let rest = none_here f m (a + 1) n off (inl (omega arith)) in
-        let same : f a ≡ f m = ap f is in
-        omega (arith, sum_by-cons f a (range_with_len (a + 1) n)))
+    let rest = none_here f m (a + 1) n off (inl (omega arith)) in
+    let same : f a ≡ f m = ap f is in
+    omega (arith, sum_by-cons f a (range_with_len (a + 1) n)))
     (λ other.
-        let rest = one_here f m (a + 1) n off (omega arith) (omega arith) in
-        let none = off a other in
-        omega (arith, sum_by-cons f a (range_with_len (a + 1) n)))
+    let rest = one_here f m (a + 1) n off (omega arith) (omega arith) in
+    let none = off a other in
+    omega (arith, sum_by-cons f a (range_with_len (a + 1) n)))
 
 -- what an equation, or an inequation, says of a choice by it
 is_chosen : (a b c : ℕ) → a ≡ b → (if a == b then c else 0) ≡ c
@@ -73,6 +73,7 @@ pub times-range : (piece count : ℕ) → times piece (range_with_len 0 count) �
 times-range piece count = by_test (ltb piece count) refl where
   off : (k : ℕ) → k ≢ piece → one_for piece k ≡ 0
   off k other = not_chosen k piece 1 other
+
   by_test : (b : Bool) → ltb piece count ≡ b → times piece (range_with_len 0 count) ≡ once_below piece count
   by_test true e =
       one_here (one_for piece) piece 0 count off (omega arith) (let below = ltb-true piece count e in omega arith)
@@ -92,16 +93,16 @@ dealt_all h workers zero filled = none_in_all (λ k. sum_by h (dealt_to k worker
 dealt_all h workers (suc n) filled =
     let e : n + 1 ≡ suc n = omega arith in
     let each : (k : ℕ) → sum_by h (dealt_to k workers (suc n)) ≡ sum_by h (dealt_to k workers n) + (if n % workers == k then h n else 0) = λ k.
-        sym (ap (λ (m : ℕ). sum_by h (dealt_to k workers m)) e) ∙ ap (sum_by h) (dealt_more k workers n)
-        ∙ sum_by-append h (dealt_to k workers n) (if n % workers == k then n ∷ [] else [])
-        ∙ ap (λ (m : ℕ). sum_by h (dealt_to k workers n) + m) (one_weight h n (n % workers == k)) in
+    sym (ap (λ (m : ℕ). sum_by h (dealt_to k workers m)) e) ∙ ap (sum_by h) (dealt_more k workers n)
+    ∙ sum_by-append h (dealt_to k workers n) (if n % workers == k then n ∷ [] else [])
+    ∙ ap (λ (m : ℕ). sum_by h (dealt_to k workers n) + m) (one_weight h n (n % workers == k)) in
     let sums = sum_add (λ k. sum_by h (dealt_to k workers (suc n))) (λ k. sum_by h (dealt_to k workers n)) (λ k. if n % workers == k then h n else 0) (range_with_len 0 workers) each in
     let before = dealt_all h workers n filled in
     let small : n % workers < workers = mod-lt n filled in
     let one : sum_by (λ k. if n % workers == k then h n else 0) (range_with_len 0 workers) ≡ h n =
-        one_here (λ k. if n % workers == k then h n else 0) (n % workers) 0 workers (λ k other. not_chosen (n % workers) k (h n) (λ same. other (sym same))) (omega arith) (omega arith)
-        ∙ is_chosen (n % workers) (n % workers) (h n) refl in
+    one_here (λ k. if n % workers == k then h n else 0) (n % workers) 0 workers (λ k other. not_chosen (n % workers) k (h n) (λ same. other (sym same))) (omega arith) (omega arith)
+    ∙ is_chosen (n % workers) (n % workers) (h n) refl in
     let longer : sum_by h (range_with_len 0 (suc n)) ≡ sum_by h (range_with_len 0 n) + h (0 + n) =
-        sym (ap (λ (m : ℕ). sum_by h (range_with_len 0 m)) e) ∙ ap (sum_by h) (range_more 0 n) ∙ sum_by_push h (range_with_len 0 n) (0 + n) in
+    sym (ap (λ (m : ℕ). sum_by h (range_with_len 0 m)) e) ∙ ap (sum_by h) (range_more 0 n) ∙ sum_by_push h (range_with_len 0 n) (0 + n) in
     let last : h (0 + n) ≡ h n = ap h (let z : 0 + n ≡ n = omega arith in z) in
     omega arith

@@ -1,11 +1,10 @@
 -- Numbers of all passes added up, after a change of one pass.
-use Rattle.std.proofs.Common.{◌≡◌, ◌≢◌, ℕ, zero, suc, ◌+◌, ◌<◌, ◌≤◌, List, [], ◌∷◌, ◌++◌, length, set, sym, refl, ap, ◌∙◌, subst, ⊎_elim, arith}
+use Rattle.std.proofs.Common.{◌≡◌, ◌≢◌, ℕ, zero, suc, ◌+◌, ◌<◌, ◌≤◌, List, [], ◌∷◌, ◌++◌, set, sym, refl, ap, ◌∙◌, subst, ⊎_elim, arith}
 use mathlib.Core.Option.{some, some-ne-none, some-injective}
 use lib.ListN.{get_elem?}
 use Rattle.crossbeam_deque.proofs.Lists.{at_set, at_snoc}
 use Rattle.nj_pieces.specs.declared.rule.Tally.{Tally}
-use Rattle.nj_pieces.specs.Tallies.{blank}
-use Rattle.nj_pieces.specs.Rule.{total, root_of, Fits}
+use Rattle.nj_pieces.specs.Rule.{total, root_of}
 
 -- the fact holds of each pass, by its number
 abbrev pub Each : (ℕ → Tally → Type 0) → List Tally → Type 0
@@ -47,9 +46,9 @@ total_less f g (x ∷ xs) all zero v e =
     let one : f x ≡ f v = ap f (some-injective x v e) in
     let two : g x ≡ g v = ap g (some-injective x v e) in
     let rest = total_most xs (λ port. all (suc port)) in omega arith where
-  total_most : (xs : List Tally) → Each (λ _ v. f v ≤ g v) xs → total f xs ≤ total g xs
-  total_most [] every = omega arith
-  total_most (y ∷ ys) every = let here = every 0 y refl in let rest = total_most ys (λ port. every (suc port)) in omega arith
+      total_most : (xs : List Tally) → Each (λ _ v. f v ≤ g v) xs → total f xs ≤ total g xs
+      total_most [] every = omega arith
+      total_most (y ∷ ys) every = let here = every 0 y refl in let rest = total_most ys (λ port. every (suc port)) in omega arith
 total_less f g (x ∷ xs) all (suc port) v e =
     let here = all 0 x refl in
     let rest = total_less f g xs (λ k. all (suc k)) port v e in omega arith

@@ -1,5 +1,5 @@
 -- Which pieces go to which worker, and how often a piece stands in a list.
-use Rattle.std.specs.Prelude.{◌≡◌, ℕ, ◌==◌, ◌%◌, nat_lt, List, if◌then◌else◌}
+use Rattle.std.specs.Prelude.{ℕ, ◌==◌, ◌%◌, nat_lt, List, if◌then◌else◌}
 use Rattle.std.specs.List.{filter, range_with_len, sum_by}
 
 -- the pieces below this count that go to the worker of this number: those whose remainder by the workers it is, in rising order

@@ -1,5 +1,5 @@
 -- How the owners of the deques take back what the accesses have.
-use Rattle.std.specs.Prelude.{◌≡◌, ℕ, ◌+◌, ◌≤◌, if◌then◌else◌}
+use Rattle.std.specs.Prelude.{◌≡◌, ℕ, ◌+◌, if◌then◌else◌}
 use Rattle.std.specs.List.{sum_by}
 use Rattle.crossbeam_deque.specs.Handles.{IsPassOf, worker_deque, worker_view, SameWorker}
 use Rattle.nj_pieces.specs.declared.parts.Access.{Access}
@@ -13,10 +13,11 @@ pub record IsReturn (to : Taker) (access : Access) : Type 0 where
   pub seats : (seen access).seats ≡ 1
   pub ends : (seen access).ends ≡ (if access.ended then 1 else 0)
 
--- the weights of the pieces in the list of an owner's pass, and in the lists of a taker's accesses
+-- the weights of the pieces in the list of an owner's pass
 abbrev pub weight_back : (ℕ → ℕ) → Taker → ℕ
 weight_back h taker = sum_by h (worker_view taker.owner).taken
 
+-- the weights of the pieces in the lists of a taker's accesses
 abbrev pub weight_out : (ℕ → ℕ) → Taker → ℕ
 weight_out h taker = weight_of h taker.accesses.items
 

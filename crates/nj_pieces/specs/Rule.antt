@@ -28,6 +28,7 @@ pub record Fits (root v : Tally) : Type 0 where
   pub idle : v.seats ≡ 0 → v.taken ≡ []
   pub told : 0 < v.seats → v.dealt ≡ root.dealt
 
+-- what stands in the deque and what its passes know fit together, as the rule says
 pub record Holds (items : List Task) (views : List Tally) : Type 0 where
   pub rest : List ℕ
   pub left : ℕ

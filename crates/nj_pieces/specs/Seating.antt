@@ -1,7 +1,6 @@
 -- How the takers of a dealing get their accesses.
-use Rattle.std.specs.Prelude.{◌≡◌, ℕ, ◌-◌, ◌<◌, ◌≤◌, false, [], length}
+use Rattle.std.specs.Prelude.{◌≡◌, ℕ, ◌-◌, ◌≤◌, false, []}
 use Rattle.crossbeam_deque.specs.Handles.{IsPassOf, worker_deque, worker_flavor, worker_port, worker_view, stealer_deque, stealer_flavor, SameWorker}
-use Rattle.nj_pieces.specs.declared.rule.Tally.{Tally}
 use Rattle.nj_pieces.specs.declared.parts.Access.{Access}
 use Rattle.nj_pieces.specs.declared.parts.Taker.{Taker}
 use Rattle.nj_pieces.specs.Tallies.{opening, guest}

@@ -1,5 +1,5 @@
 -- What is known of the takers of a dealing, and what contracts see of them.
-use Rattle.std.specs.Prelude.{◌≡◌, ℕ, Bool, ◌<◌, ◌≤◌, List, [], length, slice_index_or, if◌then◌else◌}
+use Rattle.std.specs.Prelude.{◌≡◌, ℕ, Bool, ◌<◌, List, [], length, slice_index_or, if◌then◌else◌}
 use Rattle.std.specs.Global.{Global}
 use Rattle.std.specs.List.{All, sum_by, list_all}
 use Rattle.crossbeam_deque.specs.declared.handles.Worker.{Worker}
@@ -13,10 +13,11 @@ use Rattle.nj_pieces.specs.declared.parts.Taker.{Taker}
 use Rattle.nj_pieces.specs.declared.parts.Pieces.{Pieces}
 use Rattle.nj_pieces.specs.Dealing.{dealt_to}
 
--- the owner's end of a deque, and a handle that takes from it
+-- the owner's end of a deque
 abbrev pub Owner : Type 0
 Owner = Worker Task Global Tally Fair
 
+-- a handle that takes from a deque
 abbrev pub Thief : Type 0
 Thief = Stealer Task Global Tally Fair
 

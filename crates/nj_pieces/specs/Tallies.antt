@@ -1,5 +1,5 @@
 -- What a pass of a deque may do and has done, and what each step makes of it.
-use Rattle.std.specs.Prelude.{◌≡◌, ℕ, ◌+◌, ◌-◌, ◌<◌, ◌≤◌, List, [], ◌∷◌, ◌++◌}
+use Rattle.std.specs.Prelude.{◌≡◌, ℕ, ◌+◌, ◌-◌, ◌≤◌, List, [], ◌∷◌, ◌++◌}
 use Rattle.std.specs.List.{sum_by}
 use Rattle.nj_pieces.specs.declared.rule.Tally.{Tally}
 use Rattle.nj_pieces.specs.declared.rule.Task.{Task}
@@ -19,10 +19,11 @@ abbrev pub put : Tally → List Task → Tally
 put v [] = v
 put v (x ∷ xs) = put (put_one v x) xs
 
--- after a piece was taken, and after a mark was
+-- after a piece was taken
 abbrev pub with_piece : Tally → ℕ → Tally
 with_piece v p = record v { taken = v.taken ++ p ∷ [] }
 
+-- after a mark was taken
 abbrev pub with_end : Tally → Tally
 with_end v = record v { ends = v.ends + 1 }
 

@@ -14,11 +14,7 @@ impl Pieces {
     /// Deals the pieces below `count`, piece p to worker p mod `workers`, in rising order. There is a taker
     /// for each worker, in their order.
     #[tactic(auto, unfolding(crate::specs::Takers::count_of, crate::specs::Takers::workers_of))]
-    pub fn deal(
-        alloc: Global,
-        count: u64,
-        workers: u32,
-    ) -> Result<(Pieces, Vec<Taker>), AllocError>
+    pub fn deal(alloc: Global, count: u64, workers: u32) -> Result<(Pieces, Vec<Taker>), AllocError>
         requires workers { (0 < workers) × (workers ≤ 64) }
         requires pieces { count ≤ 65536 }
         ensures count { IfOk result (λ dealing. count_of dealing.0 ≡ count) }
@@ -42,11 +38,7 @@ impl Pieces {
 }
 
 // A taker for each worker, with the owner's end of its deque and no access, and a handle that takes from each deque.
-fn opened(
-    alloc: Global,
-    count: u64,
-    workers: usize,
-) -> Result<(Vec<Taker>, Vec<Thief>), AllocError>
+fn opened(alloc: Global, count: u64, workers: usize) -> Result<(Vec<Taker>, Vec<Thief>), AllocError>
     requires { (0 < workers) × (workers ≤ 64) × (count ≤ 65536) }
     ensures takers { IfOk result (λ pair. length pair.0.items ≡ workers) }
     ensures thieves { IfOk result (λ pair. length pair.1.items ≡ workers) }
@@ -68,12 +60,7 @@ fn opened(
 
 // A deque with the pieces of the worker of this number.
 #[tactic(auto, using(crate::proofs::Dealings::dealt_here, crate::proofs::Dealings::dealt_else))]
-fn filled(
-    alloc: Global,
-    number: usize,
-    count: u64,
-    workers: usize,
-) -> Result<Owner, AllocError>
+fn filled(alloc: Global, number: usize, count: u64, workers: usize) -> Result<Owner, AllocError>
     requires { (0 < workers) × (workers ≤ 64) × (count ≤ 65536) }
     ensures fifo { IfOk result (λ owner. worker_flavor owner ≡ 0) }
     ensures port { IfOk result (λ owner. worker_port owner ≡ 0) }

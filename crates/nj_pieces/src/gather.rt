@@ -59,9 +59,7 @@ fn give(takers: &mut [Taker], accesses: Vec<Access>)
 {
     let mut accesses = accesses;
     while let Some(access) = accesses.pop() {
-        takers[accesses.len()]
-            .owner
-            .absorb::<Gives>(access.ticket);
+        takers[accesses.len()].owner.absorb::<Gives>(access.ticket);
     }
 }
 

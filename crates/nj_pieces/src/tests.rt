@@ -60,7 +60,10 @@ fn the_own_deque_comes_first(rt: HostRuntime) -> Result<(), Fail> {
 #[test]
 fn what_nobody_took_is_gathered(rt: HostRuntime) -> Result<(), Fail> {
     let (pieces, takers) = Pieces::deal(rt.alloc(), 5, 3)?;
-    assert_eq!(rt; pieces.gather(takers).as_slice(), [0, 1, 2, 3, 4].as_slice());
+    assert_eq!(rt;
+        pieces.gather(takers).as_slice(),
+        [0, 1, 2, 3, 4].as_slice()
+    );
     Ok(())
 }
 

@@ -16,5 +16,5 @@ loop-number-preserved c =
       port = m.same.2 ∙ f.port;
       view_is = search rules;
       deque = s.0;
-      thief_fifo = s.1 ∙ m.same.1 ∙ f.fifo
+      thief_fifo = s.1 ∙ m.same.1 ∙ f.fifo;
     })

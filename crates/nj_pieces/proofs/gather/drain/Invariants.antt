@@ -1,4 +1,4 @@
-use Rattle.std.proofs.Common.{◌≡◌, ◌-◌, length}
+use Rattle.std.proofs.Common.{◌-◌, length}
 use Rattle.crossbeam_deque.specs.Handles.{worker_view}
 use Rattle.nj_pieces.proofs.Drainings.{IsDraining}
 use Rattle.nj_pieces.proofs.gather.drain.Given as goal

@@ -1,7 +1,5 @@
-use Rattle.std.proofs.Common.{◌≡◌, ◌+◌, length, ◌++◌, ◌∷◌, [], sym, ap, ◌∙◌, subst, arith, get_or, rules}
+use Rattle.std.proofs.Common.{◌≡◌, length, ◌∙◌, arith, rules}
 use Rattle.std.specs.Prelude.{vec_len}
-use Rattle.crossbeam_deque.specs.Handles.{worker_port}
-use Rattle.nj_pieces.specs.declared.parts.Taker.{Taker}
 use Rattle.nj_pieces.proofs.Steps.{gives}
 use Rattle.nj_pieces.proofs.Givings.{give_begins, give_place, give_more, give_port}
 use Rattle.nj_pieces.proofs.gather.give.Goals as goal
@@ -12,12 +10,12 @@ loop-access-init c = give_begins c.args.takers.now c.args.accesses.items c.requi
 pub absorb-requires-clause-table : goal.absorb-requires-clause-table
 absorb-requires-clause-table c =
     (give_place c.args.takers.now c.loop-access.takers c.args.accesses.items c.loop-access.accesses.items c.pop.new.self.items c.in-Some.access c.len.result c.index-takers-len.result
-        c.in-Some.ensures.items (c.len.ensures ∙ c.pop.new.self.ok.0) c.loop-access.invariant c.requires.returns).deque
+    c.in-Some.ensures.items (c.len.ensures ∙ c.pop.new.self.ok.0) c.loop-access.invariant c.requires.returns).deque
 
 pub absorb-requires-clause-rule : goal.absorb-requires-clause-rule
 absorb-requires-clause-rule c = gives _ _ _ _
     (give_port c.args.takers.now c.loop-access.takers c.args.accesses.items c.loop-access.accesses.items c.pop.new.self.items c.in-Some.access c.len.result c.index-takers-len.result
-        c.in-Some.ensures.items (c.len.ensures ∙ c.pop.new.self.ok.0) c.loop-access.invariant c.requires.ports)
+    c.in-Some.ensures.items (c.len.ensures ∙ c.pop.new.self.ok.0) c.loop-access.invariant c.requires.ports)
 
 pub loop-access-preserved : goal.loop-access-preserved
 loop-access-preserved c =

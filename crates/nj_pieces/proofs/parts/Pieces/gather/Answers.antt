@@ -1,4 +1,4 @@
-use Rattle.std.proofs.Common.{◌≡◌, length, ◌∙◌, sym, arith, rules}
+use Rattle.std.proofs.Common.{◌≡◌, ◌∙◌, sym, rules}
 use Rattle.std.specs.Prelude.{vec_len}
 use Rattle.nj_pieces.specs.Takers.{count_of}
 use Rattle.nj_pieces.proofs.Gatherings.{taker_whole, taker_room, gathering_begins, gathering_more, all_returnable, gathered, gathered_once, gathered_none}

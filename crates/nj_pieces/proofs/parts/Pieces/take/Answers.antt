@@ -1,4 +1,4 @@
-use Rattle.std.proofs.Common.{rules, arith}
+use Rattle.std.proofs.Common.{arith}
 use Rattle.nj_pieces.proofs.Takings.{all_ended}
 use Rattle.nj_pieces.proofs.parts.Pieces.take.Goals as goal
 

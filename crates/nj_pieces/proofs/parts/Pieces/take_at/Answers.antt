@@ -1,5 +1,4 @@
-use Rattle.std.proofs.Common.{rules, refl, slice_index_or}
-use Rattle.nj_pieces.specs.declared.parts.Access.{Access}
+use Rattle.std.proofs.Common.{rules, refl}
 use Rattle.nj_pieces.proofs.Takings.{is_below, access_at, piece_taken, mark_met}
 use Rattle.nj_pieces.proofs.parts.Pieces.take_at.Goals as goal
 
