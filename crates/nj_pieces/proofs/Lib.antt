@@ -1,0 +1,10 @@
+pub mod Totals
+pub mod Steps
+pub mod Takings
+pub mod Dealings
+pub mod Seatings
+pub mod Drainings
+pub mod Givings
+pub mod Returnings
+pub mod Sums
+pub mod Gatherings
