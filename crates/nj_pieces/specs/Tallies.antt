@@ -36,6 +36,7 @@ abbrev pub TakesOne : Tally → Task → Tally → Type 0
 TakesOne v (Piece p) w = (w ≡ with_piece v p) × IsOf v.dealt p
 TakesOne v End w = w ≡ with_end v
 
+-- the tasks that were taken in one step are one task, and the tally is the one after it
 abbrev pub IsTaken : Tally → List Task → Tally → Type 0
 IsTaken v [] w = ⊥
 IsTaken v (x ∷ []) w = TakesOne v x w
