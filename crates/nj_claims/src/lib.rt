@@ -34,8 +34,6 @@ mod probe;
 mod rule;
 mod shared;
 mod table;
-#[cfg(test)]
-mod tests;
 mod view;
 mod words;
 

@@ -11,5 +11,3 @@ mod take;
 
 pub use parts::{Pieces, Taker};
 
-#[cfg(test)]
-mod tests;

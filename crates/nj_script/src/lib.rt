@@ -12,8 +12,6 @@ mod refusal;
 mod rules;
 mod script;
 mod sets;
-#[cfg(test)]
-mod tests;
 
 pub use nj_pad::Pad;
 pub use nj_rules::{

@@ -20,7 +20,7 @@ pub use refused::WordsRefused;
 use std::alloc::Global;
 
 /// A command of the program, with the names and options that it was given.
-#[derive(Clone, Debug, Drop)]
+#[derive(Debug, Drop)]
 pub enum Command {
     /// Plays a movie on a cartridge.
     Play {

@@ -1,7 +1,7 @@
 ghost use Rattle.std.specs.Prelude.{◌≡◌, ◌+◌, ◌^◌, ◌<◌, ◌≤◌, true};
 ghost use Rattle.nj_claims.specs.Tables.{no_owner};
 
-use super::*;
+use nj_claims::{ClaimTable, Claimed, Pass, empty_table, insert, is_table, owner_of};
 use std::test::Fail;
 use std::thread;
 

@@ -1,10 +1,10 @@
 ghost use Rattle.std.specs.Prelude.{◌≡◌};
 ghost use Rattle.nj_pieces.specs.Takers.{number_of, IsTakerOf, AreTakersOf};
 
-use super::*;
+use nj_pieces::{Pieces, Taker};
 use std::sync::Wait;
 use std::sync::atomic::{AtomicU64, Ordering};
-use std::test::*;
+use std::test::Fail;
 use std::thread;
 use std::thread::Threads;
 

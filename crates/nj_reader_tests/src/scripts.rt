@@ -1,5 +1,5 @@
-use crate::{Script, ScriptRefused};
 use nj_rules::{Status, Verdict, allowed, judge, key_of};
+use nj_script::{Script, ScriptRefused};
 use std::alloc::Global;
 use std::test::Fail;
 
