@@ -1,8 +1,9 @@
 -- A text that is written or put piece by piece, and what is told after each piece.
-use Rattle.std.proofs.Common.{◌≡◌, ℕ, ◌+◌, ◌≤◌, List, [], ◌++◌, Option, Some, None, length, take, drop, refl, sym, ◌∙◌, ap, arith}
+use Rattle.std.proofs.Common.{◌≡◌, ℕ, ◌+◌, ◌<◌, ◌≤◌, List, [], ◌++◌, Bool, true, false, Option, Some, None, length, take, drop, refl, sym, ◌∙◌, ap, subst, arith, length-drop, drop-drop}
 use Rattle.std.proofs.Math.Seq.{take-add}
-use Rattle.std.proofs.lemmas.List.{take_all, length-take-le}
+use Rattle.std.proofs.lemmas.List.{take_all, drop_all, length-take-le}
 use Rattle.std.specs.Prelude.{unwrap_or}
+use Rattle.nj_outside.specs.Handed.{HandsOver, nothing_left, fails, takes}
 use Rattle.nj_outside.specs.Told.{Files, with_file, bytes_at, put_file, put_file_from, appended, appended-append, with_file_same, with_file_twice}
 
 -- the next piece of the text is appended after its first i bytes
@@ -42,3 +43,23 @@ put_place (Some was) told files name text i within before is =
     sym (length-take-le i text within)
     ∙ ap length (sym (length-put was name (take i text)))
     ∙ ap (λ f. length (bytes_at f name)) same
+
+module _ {S : Type 0} (wrote : S → List ℕ → Option ℕ → S → Type 0) (text : List ℕ) (taken : ℕ) where
+  -- where all was taken, nothing is left to hand over
+  pub all_handed : (sink : S) → length text ≤ taken → HandsOver wrote sink (drop taken text) true sink
+  all_handed sink all = subst (λ left. HandsOver wrote sink left true sink) (sym (drop_all taken text all)) (nothing_left sink)
+
+  -- a write of all that is left, and the writes of what it left
+  pub more_handed : (sink next last : S) (left : List ℕ) (count : ℕ) (whole : Bool) → left ≡ drop taken text → taken < length text →
+      wrote sink left (Some count) next → HandsOver wrote next (drop (taken + count) text) whole last →
+      HandsOver wrote sink (drop taken text) whole last
+  more_handed sink next last left count whole is some here rest =
+      takes sink next last (drop taken text) count whole (omega (arith, length-drop taken text))
+      (subst (λ piece. wrote sink piece (Some count) next) is here)
+      (subst (λ piece. HandsOver wrote next piece whole last) (sym (drop-drop count taken text)) rest)
+
+  -- a write of all that is left, which failed
+  pub none_handed : (sink next : S) (left : List ℕ) → left ≡ drop taken text → taken < length text → wrote sink left None next →
+      HandsOver wrote sink (drop taken text) false next
+  none_handed sink next left is some here =
+      fails sink next (drop taken text) (omega (arith, length-drop taken text)) (subst (λ piece. wrote sink piece None next) is here)

@@ -1,6 +1,7 @@
 -- The shelf and the sink over memory, as contracts see them. Ours.
-use Rattle.std.specs.Prelude.{◌≡◌, ℕ, ◌<◌, true, false, List, [], ◌∷◌, length, map, slice_index_or, Some, None, String, Vec, string_bytes, bytes_eq, if◌then◌else◌}
+use Rattle.std.specs.Prelude.{◌≡◌, ℕ, ◌<◌, min, true, false, List, [], ◌∷◌, length, map, slice_index_or, Option, Some, None, IfSome, String, Vec, string_bytes, bytes_eq, if◌then◌else◌}
 use Rattle.std.specs.Global.{Global}
+use Rattle.nj_outside.specs.Rise.{one_more}
 use Rattle.nj_outside.specs.Told.{Files}
 
 -- a file: its name, and its bytes
@@ -61,3 +62,10 @@ pub record MemorySink : Type 0 where
   pub calls : ℕ
   pub faults : ℕ
   pub dry : ℕ
+
+-- a write to a memory sink is one call more, and took the lesser of `most` and the piece, unless it failed
+pub record IsMemoryWrite (old : MemorySink) (piece : List ℕ) (taken : Option ℕ) (new : MemorySink) : Type 0 where
+  pub counted : new.calls ≡ one_more old.calls
+  pub moved : IfSome taken (λ count. count ≡ min old.most (length piece))
+  pub most : new.most ≡ old.most
+  pub failing : new.failing ≡ old.failing

@@ -1,6 +1,6 @@
 -- What a shelf or a sink tells of the bytes that it has. Ours.
-use Rattle.std.specs.Prelude.{◌≡◌, ◌≢◌, ℕ, List, [], ◌++◌, take, Option, Some, None, unwrap_or, if◌then◌else◌, bytes_eq, refl}
-use Rattle.std.proofs.Common.{ap, append_assoc, Bool, true, false, sym}
+use Rattle.std.specs.Prelude.{◌≡◌, ℕ, List, [], ◌++◌, take, Option, Some, None, unwrap_or, if◌then◌else◌, bytes_eq, refl}
+use Rattle.std.proofs.Common.{ap, append_assoc, Bool, true, false}
 use Rattle.std.proofs.Math.Path.{fun_ext}
 use Rattle.std.proofs.lemmas.List.{append-nil}
 use Rattle.std.proofs.lemmas.Slice.Eq.{bytes_eq-Decides}
@@ -36,14 +36,6 @@ appended (Some written) bytes = Some (written ++ bytes)
 pub with_file_same : (files : Files) (name bytes : List ℕ) → with_file files name bytes name ≡ Some bytes
 unfolding with_file
 with_file_same files name bytes = ap (λ b. if b then Some bytes else files name) ((bytes_eq-Decides name name).1 refl)
-
--- every other file is as before
-pub with_file_other : (files : Files) (name bytes other : List ℕ) → other ≢ name → with_file files name bytes other ≡ files other
-unfolding with_file
-with_file_other files name bytes other differs = other_by (bytes_eq name other) ((bytes_eq-Decides name other).0) where
-  other_by : (b : Bool) → (b ≡ true → name ≡ other) → (if b then Some bytes else files other) ≡ files other
-  other_by true same = absurd (differs (sym (same refl)))
-  other_by false same = refl
 
 -- of two puts of one name the last counts
 pub with_file_twice : (files : Files) (name first last : List ℕ) → with_file (with_file files name first) name last ≡ with_file files name last

@@ -157,6 +157,7 @@ impl Shelf for MemShelf {
         ensures failed { OnErr result (Rose self.old.read_faults self.new.read_faults) }
         ensures failed_name { OnErr result (self.new.failed_read ≡ fnv_of name.now) }
         ensures not_failed { OnOk result (self.new.failed_read ≡ self.old.failed_read) }
+        ensures no_fault { OnOk result (self.new.read_faults ≡ self.old.read_faults) }
         ensures never_falls { self.old.read_faults ≤ self.new.read_faults }
         ensures put_faults { self.new.put_faults ≡ self.old.put_faults }
         ensures failed_put { self.new.failed_put ≡ self.old.failed_put }
@@ -192,6 +193,7 @@ impl Shelf for MemShelf {
         ensures failed { OnErr result (Rose self.old.put_faults self.new.put_faults) }
         ensures failed_name { OnErr result (self.new.failed_put ≡ fnv_of name.now) }
         ensures not_failed { OnOk result (self.new.failed_put ≡ self.old.failed_put) }
+        ensures no_fault { OnOk result (self.new.put_faults ≡ self.old.put_faults) }
         ensures never_falls { self.old.put_faults ≤ self.new.put_faults }
         ensures read_faults { self.new.read_faults ≡ self.old.read_faults }
         ensures failed_read { self.new.failed_read ≡ self.old.failed_read }

@@ -1,7 +1,8 @@
-ghost use Rattle.std.specs.Prelude.{◌≡◌, ◌↔◌, ℕ, ◌+◌, ◌<◌, ◌≤◌, ◌⊎◌, IsTrue, [], Option, Some, length, min, take, is_err, if◌then◌else◌, IfOk, OnErr, IsErr, Contains};
+ghost use Rattle.std.specs.Prelude.{◌≡◌, ◌↔◌, ℕ, ◌+◌, ◌<◌, ◌≤◌, ◌⊎◌, IsTrue, [], Option, Some, length, min, take, is_err, if◌then◌else◌, IfOk, OnOk, OnErr, IsErr, Contains};
+ghost use Rattle.std.specs.Result.{result_ok};
 ghost use Rattle.nj_outside.specs.Rise.{Rose, one_more};
 ghost use Rattle.nj_outside.specs.Told.{appended};
-ghost use Rattle.nj_outside.specs.Memory.{MemorySink};
+ghost use Rattle.nj_outside.specs.Memory.{MemorySink, IsMemoryWrite};
 
 use crate::shelves::Failed;
 use crate::sinks::Sink;
@@ -81,12 +82,16 @@ impl Sink for MemSink {
 
     ghost faults = { λ s. s.faults };
 
+    ghost wrote = { IsMemoryWrite };
+
     fn write(&mut self, bytes: &[u8]) -> Result<usize, Failed>
         ensures within { IfOk result (λ n. n ≤ length bytes.now) }
         ensures some { IfOk result (λ n. 0 < length bytes.now → 0 < n) }
         ensures appends { IfOk result (λ n. Some self.new.written ≡ appended (Some self.old.written) (take n bytes.now)) }
         ensures unchanged { OnErr result (Some self.new.written ≡ Some self.old.written) }
+        ensures wrote { IsMemoryWrite self.old bytes.now (result_ok result) self.new }
         ensures failed { OnErr result (Rose self.old.faults self.new.faults) }
+        ensures no_fault { OnOk result (self.new.faults ≡ self.old.faults) }
         ensures never_falls { self.old.faults ≤ self.new.faults }
 
         ensures moved { IfOk result (λ n. n ≡ min self.old.most (length bytes.now)) }

@@ -51,6 +51,9 @@ pub fn read_all<S: Shelf>(
         → (Rose (S.read_faults shelf.old) (S.read_faults shelf.new) → ⊥)
         → IsErrOf result (ReadRefused.TooLong limit) ⊎ IsErrOf result ReadRefused.NoMemory }
 
+    // no fault is passed over
+    ensures no_fault { (IsErrOf result ReadRefused.ReadFault → ⊥) → S.read_faults shelf.new ≡ S.read_faults shelf.old }
+
     ensures content { S.content shelf.new ≡ S.content shelf.old }
     ensures never_falls { S.read_faults shelf.old ≤ S.read_faults shelf.new }
     ensures put_faults { S.put_faults shelf.new ≡ S.put_faults shelf.old }

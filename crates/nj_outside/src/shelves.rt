@@ -37,6 +37,7 @@ pub trait Shelf {
         ensures failed { OnErr result (Rose (read_faults self.old) (read_faults self.new)) }
         ensures failed_name { OnErr result (failed_read self.new ≡ fnv_of name.now) }
         ensures not_failed { OnOk result (failed_read self.new ≡ failed_read self.old) }
+        ensures no_fault { OnOk result (read_faults self.new ≡ read_faults self.old) }
         ensures never_falls { read_faults self.old ≤ read_faults self.new }
         ensures put_faults { put_faults self.new ≡ put_faults self.old }
         ensures failed_put { failed_put self.new ≡ failed_put self.old };
@@ -53,6 +54,7 @@ pub trait Shelf {
         ensures failed { OnErr result (Rose (put_faults self.old) (put_faults self.new)) }
         ensures failed_name { OnErr result (failed_put self.new ≡ fnv_of name.now) }
         ensures not_failed { OnOk result (failed_put self.new ≡ failed_put self.old) }
+        ensures no_fault { OnOk result (put_faults self.new ≡ put_faults self.old) }
         ensures never_falls { put_faults self.old ≤ put_faults self.new }
         ensures read_faults { read_faults self.new ≡ read_faults self.old }
         ensures failed_read { failed_read self.new ≡ failed_read self.old };

@@ -1,4 +1,4 @@
-ghost use Rattle.std.specs.Prelude.{◌≡◌, ◌≤◌, ◌<◌, None, length, IfOk, OnErr, is_err, if◌then◌else◌};
+ghost use Rattle.std.specs.Prelude.{◌≡◌, ◌≤◌, ◌<◌, None, length, IfOk, OnOk, OnErr, is_err, if◌then◌else◌};
 ghost use Rattle.nj_outside.specs.Rise.{Rose, one_more};
 
 use crate::file_shelf::write_some;
@@ -43,10 +43,13 @@ impl<W: Write + Drop> Sink for StreamSink<W> {
 
     ghost faults = { λ s. s };
 
+    ghost wrote = { λ _ _ _ _. Unit {0} };
+
     fn write(&mut self, bytes: &[u8]) -> Result<usize, Failed>
         ensures within { IfOk result (λ n. n ≤ length bytes.now) }
         ensures some { IfOk result (λ n. 0 < length bytes.now → 0 < n) }
         ensures failed { OnErr result (Rose self.old self.new) }
+        ensures no_fault { OnOk result (self.new ≡ self.old) }
         ensures never_falls { self.old ≤ self.new }
         ensures counted { self.new ≡ (if is_err result then one_more self.old else self.old) }
     {

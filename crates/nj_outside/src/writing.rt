@@ -1,5 +1,6 @@
-ghost use Rattle.std.specs.Prelude.{◌≡◌, ℕ, ◌<◌, ◌≤◌, ◌⊎◌, length, take, OnOk, OnErr};
+ghost use Rattle.std.specs.Prelude.{◌≡◌, ℕ, ◌<◌, ◌≤◌, ◌⊎◌, length, take, is_ok, OnOk, OnErr};
 ghost use Rattle.nj_outside.specs.Fnv.{fnv_of};
+ghost use Rattle.nj_outside.specs.Handed.{HandsOver};
 ghost use Rattle.nj_outside.specs.Rise.{Rose};
 ghost use Rattle.nj_outside.specs.Told.{appended, put_file};
 
@@ -16,7 +17,9 @@ pub fn write_all<O: Sink>(sink: &mut O, bytes: &[u8]) -> Result<(), WriteFault>
     ensures ok { OnOk result (O.written sink.new ≡ appended (O.written sink.old) bytes.now) }
     ensures prefix { OnErr result ((n : ℕ) × (n ≤ length bytes.now)
         × (O.written sink.new ≡ appended (O.written sink.old) (take n bytes.now))) }
+    ensures hands_over { HandsOver O.wrote sink.old bytes.now (is_ok result) sink.new }
     ensures fault { OnErr result (Rose (O.faults sink.old) (O.faults sink.new)) }
+    ensures no_fault { OnOk result (O.faults sink.new ≡ O.faults sink.old) }
     ensures never_falls { O.faults sink.old ≤ O.faults sink.new }
 {
     let mut taken = 0;
@@ -39,6 +42,7 @@ pub fn put_all<S: Shelf>(shelf: &mut S, name: &str, bytes: &[u8]) -> Result<(), 
     ensures fault { OnErr result (Rose (S.put_faults shelf.old) (S.put_faults shelf.new)) }
     ensures fault_name { OnErr result (S.failed_put shelf.new ≡ fnv_of name.now) }
     ensures not_failed { OnOk result (S.failed_put shelf.new ≡ S.failed_put shelf.old) }
+    ensures no_fault { OnOk result (S.put_faults shelf.new ≡ S.put_faults shelf.old) }
     ensures never_falls { S.put_faults shelf.old ≤ S.put_faults shelf.new }
     ensures read_faults { S.read_faults shelf.new ≡ S.read_faults shelf.old }
     ensures failed_read { S.failed_read shelf.new ≡ S.failed_read shelf.old }

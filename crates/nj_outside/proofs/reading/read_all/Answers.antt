@@ -22,7 +22,7 @@ loop-piece-preserved g c = record {
       (λ none. let missing = c.in-Ok.ensures.missing files now none in cc)
       (λ file is. rw (← place) (c.in-Ok.ensures.bytes files now file is)));
   content = c.in-Ok.ensures.content ∙ c.loop-piece.invariant.content;
-  counted = omega (arith, c.in-Ok.ensures.never_falls);
+  counted = c.in-Ok.ensures.no_fault ∙ c.loop-piece.invariant.counted;
   put_faults = c.in-Ok.ensures.put_faults ∙ c.loop-piece.invariant.put_faults;
   failed_put = c.in-Ok.ensures.failed_put ∙ c.loop-piece.invariant.failed_put;
 }

@@ -16,7 +16,7 @@ loop-taken-preserved g c =
       within = omega arith;
       content = put_more _ _ _ _ _ _ _ c.loop-taken.invariant.within c.loop-taken.invariant.content
           (c.in-Ok-put_at.ensures.put ∙ ap (λ t. put_file_from (g.S.Shelf.content c.loop-taken.shelf) c.args.name.now c.loop-taken.taken (take c.in-Ok-put_at.count t)) c.split_at.ensures.back);
-      counted = omega (arith, c.in-Ok-put_at.ensures.never_falls);
+      counted = c.in-Ok-put_at.ensures.no_fault ∙ c.loop-taken.invariant.counted;
       failed_put = c.in-Ok-put_at.ensures.not_failed ∙ c.loop-taken.invariant.failed_put;
       read_faults = c.in-Ok-put_at.ensures.read_faults ∙ c.loop-taken.invariant.read_faults;
       failed_read = c.in-Ok-put_at.ensures.failed_read ∙ c.loop-taken.invariant.failed_read;
