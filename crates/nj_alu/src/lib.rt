@@ -1,5 +1,7 @@
 //! The arithmetic of the NMOS 6502: sums, comparisons, shifts and the flag byte. Every value is a
-//! byte, and a flag is a `bool`.
+//! byte, and a flag is a `bool`. Definitions and code speak in sums, quotients and remainders and
+//! not in words of bits, so that the check finds the proofs itself; three laws say above them what
+//! overflow, borrow and the flag byte mean. Read `sum_of` (specs/Arithmetic.antt) first.
 #![tactic(auto)]
 
 mod arithmetic;
@@ -10,7 +12,7 @@ mod shifts;
 pub use arithmetic::{Flags3, Sum, adc, compare, sbc};
 pub use flags::{Flags, pack_flags, unpack_flags};
 pub use laws::{flags_come_back, overflow_tells_signed_sum, subtraction_borrows};
-pub use shifts::{Shifted, asl, lsr, rol, ror};
+pub use shifts::{Shifted, arr, asl, lsr, rol, ror};
 
 #[cfg(test)]
 mod tests {
@@ -49,6 +51,10 @@ mod tests {
         assert_eq!(rt; lsr(0x81).value, 0x40);
         assert_eq!(rt; rol(0x81, true).value, 0x03);
         assert_eq!(rt; ror(0x81, true).value, 0xC0);
+        let rotated = arr(0xC0, 0xFF, true);
+        assert_eq!(rt; rotated.value, 0xE0);
+        assert!(rt; rotated.carry && !rotated.overflow);
+        assert!(rt; !arr(0x40, 0xFF, false).carry && arr(0x40, 0xFF, false).overflow);
         assert!(rt; compare(0x10, 0x10).zero);
         assert!(rt; compare(0x10, 0x20).negative);
         assert_eq!(rt; pack_flags(unpack_flags(0x00), true), 0x30);

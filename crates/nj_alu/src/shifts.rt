@@ -1,7 +1,9 @@
 //! Shifts and rotations.
 
 ghost use Rattle.std.specs.Prelude.{◌≡◌};
-ghost use Rattle.nj_alu.specs.Shifts.{shifted_left, shifted_right, rotated_left, rotated_right};
+ghost use Rattle.nj_alu.specs.Shifts.{shifted_left, shifted_right, rotated_left, rotated_right, and_rotated};
+
+use crate::arithmetic::Sum;
 
 /// A byte moved by one bit, and the bit that left it.
 #[derive(Clone, Copy, Debug, PartialEq, Eq)]
@@ -55,5 +57,22 @@ pub fn ror(v: u8, carry: bool) -> Shifted
     Shifted {
         value: v / 2 + carry as u8 * 128,
         carry: v % 2 == 1,
+    }
+}
+
+/// ARR: the AND of two bytes, rotated right. The carry is bit 6 of the result, and the overflow is
+/// bit 6 xor bit 5.
+#[tactic(auto, unfolding(crate::specs::Shifts::and_rotated))]
+#[inline]
+pub fn arr(a: u8, m: u8, carry: bool) -> Sum
+    ensures { result ≡ and_rotated a m carry }
+{
+    let value = ror(a & m, carry).value;
+    let bit_6 = value / 64 % 2 == 1;
+    let bit_5 = value / 32 % 2 == 1;
+    Sum {
+        value,
+        carry: bit_6,
+        overflow: bit_6 != bit_5,
     }
 }

@@ -16,7 +16,7 @@ use Rattle.nj_isa.specs.declared.classes.Class.{Class}
 use Rattle.nj_isa.specs.declared.classes.Class.TheVariants.{ByMode, Branches, Jumps, JumpsIndirect, Calls, Returns, ReturnsFromInterrupt, Breaks, PushesA, PushesFlags, PullsA, PullsFlags, Jams}
 use Rattle.nj_isa.specs.declared.table.OpRow.{OpRow}
 use Rattle.nj_cpu.specs.declared.state.Cpu.{Cpu}
-use Rattle.nj_cpu.specs.Effects.{is_taken, shifted, done}
+use Rattle.nj_cpu.specs.Effects.{is_taken, shifted, joined, done}
 use Rattle.nj_cpu.specs.Walk.{Walk, address_of, is_made, read_at, transferred, moved, step, walk}
 use Rattle.nj_cpu.specs.Unit.{Unit, opened, finished, branched, settled, rest_by, rest_of, unit_of, end_of}
 use Rattle.nj_cpu.specs.Laws.{Runs, branches, goes_on_in, goes_on, bytes_of}
@@ -32,7 +32,7 @@ shifted-stays op Accumulator value cpu = record { pc = refl; jammed = refl }
 shifted-stays op _ value cpu = record { pc = refl; jammed = refl }
 
 done-stays : (op : Op) (mode : Mode) (value : ℕ) (cpu : Cpu) → Stays cpu (done op mode value cpu)
-unfolding done
+unfolding done joined
 done-stays Asl mode value cpu = shifted-stays Asl mode value cpu
 done-stays Lsr mode value cpu = shifted-stays Lsr mode value cpu
 done-stays Rol mode value cpu = shifted-stays Rol mode value cpu

@@ -3,11 +3,11 @@
 ghost use Rattle.std.specs.Prelude.{◌≡◌, ◌+◌, ◌*◌};
 ghost use Rattle.nj_alu.specs.Bits.{is_negative};
 ghost use Rattle.nj_isa.specs.declared.operations.Op.TheVariants.{Asl as AslOp, Lsr as LsrOp, Rol as RolOp, Ror as RorOp, Inc as IncOp, Dec as DecOp};
-ghost use Rattle.nj_cpu.specs.Effects.{stored_by, changed_by, is_taken, with_result, in_a, in_x, in_y, with_sum, compared, with_changed, shifted, tested, done};
+ghost use Rattle.nj_cpu.specs.Effects.{stored_by, changed_by, is_taken, with_result, in_a, in_x, in_y, with_sum, compared, with_changed, shifted, tested, joined, done};
 ghost use Rattle.nj_cpu.specs.Walk.{word, index_of, target_of};
 
 use crate::state::Cpu;
-use nj_alu::{Flags, Flags3, Shifted, Sum, adc, asl, compare, lsr, rol, ror, sbc};
+use nj_alu::{Flags, Flags3, Shifted, Sum, adc, arr, asl, compare, lsr, rol, ror, sbc};
 use nj_isa::{Index, Mode, Op};
 
 /// The word of two bytes.
@@ -51,6 +51,7 @@ pub(crate) fn stored(op: Op, cpu: &Cpu) -> u8
         Op::Sta | Op::Pha => cpu.a,
         Op::Stx => cpu.x,
         Op::Sty => cpu.y,
+        Op::Sax => cpu.a & cpu.x,
         _ => 0,
     }
 }
@@ -62,12 +63,12 @@ pub(crate) fn changed(op: Op, carry: bool, value: u8) -> u8
     ensures { result ≡ changed_by op carry value }
 {
     match op {
-        Op::Asl => asl(value).value,
-        Op::Lsr => lsr(value).value,
-        Op::Rol => rol(value, carry).value,
-        Op::Ror => ror(value, carry).value,
-        Op::Inc => value.wrapping_add(1),
-        Op::Dec => value.wrapping_sub(1),
+        Op::Asl | Op::Slo => asl(value).value,
+        Op::Lsr | Op::Sre => lsr(value).value,
+        Op::Rol | Op::Rla => rol(value, carry).value,
+        Op::Ror | Op::Rra => ror(value, carry).value,
+        Op::Inc | Op::Isc => value.wrapping_add(1),
+        Op::Dec | Op::Dcp => value.wrapping_sub(1),
         _ => value,
     }
 }
@@ -234,6 +235,65 @@ fn test_bits(cpu: &mut Cpu, value: u8)
     cpu.flags.v = value / 64 % 2 == 1;
 }
 
+/// A change of memory and then an operation on A and the byte that it made, or two operations on
+/// registers: what unofficial opcodes do beside the manual's operations.
+#[tactic(auto, unfolding(crate::specs::Effects::joined, crate::specs::Effects::changed_by, crate::specs::Effects::carry_by))]
+#[cold]
+#[inline(never)]
+fn finish_joined(cpu: &mut Cpu, op: Op, value: u8)
+    ensures { cpu.new ≡ joined op value cpu.old }
+{
+    match op {
+        Op::Slo => {
+            let made = asl(value);
+            set_shifted(cpu, made);
+            load_a(cpu, cpu.a | made.value);
+        }
+        Op::Rla => {
+            let made = rol(value, cpu.flags.c);
+            set_shifted(cpu, made);
+            load_a(cpu, cpu.a & made.value);
+        }
+        Op::Sre => {
+            let made = lsr(value);
+            set_shifted(cpu, made);
+            load_a(cpu, cpu.a ^ made.value);
+        }
+        Op::Rra => {
+            let made = ror(value, cpu.flags.c);
+            set_shifted(cpu, made);
+            load_sum(cpu, adc(cpu.a, made.value, cpu.flags.c));
+        }
+        Op::Dcp => {
+            count_down(cpu, value);
+            set_comparison(cpu, compare(cpu.a, value.wrapping_sub(1)));
+        }
+        Op::Isc => {
+            count_up(cpu, value);
+            load_sum(cpu, sbc(cpu.a, value.wrapping_add(1), cpu.flags.c));
+        }
+        Op::Lax => {
+            load_a(cpu, value);
+            cpu.x = value;
+        }
+        Op::Anc => {
+            load_a(cpu, cpu.a & value);
+            cpu.flags.c = cpu.a >= 128;
+        }
+        Op::Alr => {
+            load_a(cpu, cpu.a & value);
+            put_in_a(cpu, lsr(cpu.a));
+        }
+        Op::Arr => load_sum(cpu, arr(cpu.a, value, cpu.flags.c)),
+        Op::Sbx => {
+            let both = cpu.a & cpu.x;
+            set_comparison(cpu, compare(both, value));
+            cpu.x = both.wrapping_sub(value);
+        }
+        _ => {}
+    }
+}
+
 /// Does an operation on the byte that its mode gave.
 #[tactic(auto, unfolding(crate::specs::Effects::done))]
 #[inline(always)]
@@ -276,6 +336,7 @@ pub(crate) fn finish(cpu: &mut Cpu, op: Op, mode: Mode, value: u8)
         Op::Clv => cpu.flags.v = false,
         Op::Cld => cpu.flags.d = false,
         Op::Sed => cpu.flags.d = true,
-        _ => {}
+        Op::Nop => {}
+        _ => finish_joined(cpu, op, value),
     }
 }

@@ -9,7 +9,7 @@ ghost use Rattle.nj_cpu.specs.Laws.{Runs, CountsCycles, RemembersStack, IsPulled
 
 use nj_isa::Bus;
 
-/// An official instruction takes its published cycles, with the published penalties for a crossed
+/// An instruction, official or not, takes its published cycles, with the published penalties for a crossed
 /// page and a taken branch, as any count of the bus's cycles tells.
 pub fn cycles_are_published<B: Bus>()
     ensures { (count : B.Held → ℕ) (cpu : Processor) (held : B.Held) (opcode : ℕ) → CountsCycles B.acts count → Runs B.acts cpu held opcode → opcode < 256 → 0 < cycles_of opcode → count (unit_of B.acts cpu held).held ≡ count held + published_cycles B.acts cpu held opcode }
@@ -22,7 +22,7 @@ pub fn instructions_go_on_behind_themselves<B: Bus>()
     ensures { (cpu : Processor) (held : B.Held) (opcode : ℕ) → Runs B.acts cpu held opcode → opcode < 256 → goes_on opcode ≡ true → branches cpu opcode ≡ false → (unit_of B.acts cpu held).cpu.pc ≡ (cpu.pc + bytes_of opcode) % 65536 }
 {}
 
-/// A unit that is an instruction ends as jammed exactly where its opcode is one of the 105 that jam.
+/// A unit that is an instruction ends as jammed exactly where its opcode is one of the 20 that jam.
 pub fn jams_are_those_of_the_table<B: Bus>()
     ensures { (cpu : Processor) (held : B.Held) (opcode : ℕ) → Runs B.acts cpu held opcode → (unit_of B.acts cpu held).end_ ≡ end_of (jams opcode) }
 {}

@@ -1,5 +1,9 @@
 //! The processor of the NES, a 2A03: an NMOS 6502 without decimal mode, over any bus. One call runs
-//! one unit: an instruction, an NMI entry or a sprite copy, cycle by cycle.
+//! one unit: an instruction, an NMI entry or a sprite copy, cycle by cycle. An instruction is the
+//! walk over its list of accesses (nj_isa), and then what its operation computes; the code has a
+//! function for each mode and each class of instructions, which ends as the walk over that list
+//! does. Read `walk` (specs/Walk.antt) and then `unit_of` (specs/Unit.antt) first; `done`
+//! (specs/Effects.antt) is what the operations compute.
 #![tactic(auto)]
 
 mod cycle;

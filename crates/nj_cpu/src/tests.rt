@@ -161,14 +161,60 @@ fn a_copy_takes_513_or_514_cycles(rt: HostRuntime) {
     }
 }
 
+// The opcode that stops an NMOS 6502, and one of the unstable ones.
 #[test]
 fn a_jam_stays_at_its_opcode(rt: HostRuntime) {
-    let mut bus = bus_of([0x02; 16]);
-    let mut cpu = power_on(0x8000);
-    assert_eq!(rt; unit(&mut cpu, &mut bus), UnitEnd::Jammed);
-    assert_eq!(rt; unit(&mut cpu, &mut bus), UnitEnd::Jammed);
-    assert_eq!(rt; cpu.pc, 0x8000);
-    assert_eq!(rt; bus.cycles, 1);
+    for opcode in [0x02, 0x8B] {
+        let mut bus = bus_of([opcode; 16]);
+        let mut cpu = power_on(0x8000);
+        assert_eq!(rt; unit(&mut cpu, &mut bus), UnitEnd::Jammed);
+        assert_eq!(rt; unit(&mut cpu, &mut bus), UnitEnd::Jammed);
+        assert_eq!(rt; cpu.pc, 0x8000);
+        assert_eq!(rt; bus.cycles, 1);
+    }
+}
+
+// LAX $10, ARR #$FF, SBX #$01 and ISC $10.
+#[test]
+fn unofficial_opcodes_do_two_things(rt: HostRuntime) {
+    for (bytes, a, x, cycles, want_a, want_x, negative) in [
+        ([0xA7, 0x10, 0x80], 0, 0, 3, 0x80, 0x80, true),
+        ([0x6B, 0xFF, 0], 0xC0, 3, 2, 0xE0, 3, true),
+        ([0xCB, 0x01, 0], 0x0F, 3, 2, 0x0F, 2, false),
+        ([0xE7, 0x10, 0xFF], 5, 9, 5, 5, 9, false),
+    ] {
+        let mut bus = bus_of([
+            bytes[0], bytes[1], bytes[2], 0, 0, 0, 0, 0, 0, 0, 0, 0, 0, 0, 0, 0,
+        ]);
+        let mut cpu = power_on(0x8000);
+        cpu.a = a;
+        cpu.x = x;
+        cpu.flags.c = true;
+        assert_eq!(rt; unit(&mut cpu, &mut bus), UnitEnd::Done);
+        assert_eq!(rt; bus.cycles, cycles);
+        assert_eq!(rt; cpu.a, want_a);
+        assert_eq!(rt; cpu.x, want_x);
+        assert_eq!(rt; cpu.flags.n, negative);
+        assert!(rt; cpu.flags.c && !cpu.flags.v);
+        // ISC writes the byte back, and then the byte and one.
+        if bytes[0] == 0xE7 {
+            assert_eq!(rt; bus.places[4], 0x10);
+            assert_eq!(rt; bus.written[3], 0xFF);
+            assert_eq!(rt; bus.written[4], 0);
+        }
+    }
+}
+
+// SLO ($10,X) and a NOP at $20FF,X with X 1.
+#[test]
+fn unofficial_opcodes_take_their_cycles(rt: HostRuntime) {
+    for (opcode, low, high, cycles) in [(0x03, 0x10, 0, 8), (0x1C, 0xFF, 0x20, 5)] {
+        let mut bus = bus_of([opcode, low, high, 0, 0, 0, 0, 0, 0, 0, 0, 0, 0, 0, 0, 0]);
+        let mut cpu = power_on(0x8000);
+        cpu.x = 1;
+        assert_eq!(rt; unit(&mut cpu, &mut bus), UnitEnd::Done);
+        assert_eq!(rt; bus.cycles, cycles);
+    }
 }
 
 #[test]

@@ -1,11 +1,11 @@
 -- The lists of accesses are as long as published.
-use Rattle.std.proofs.Common.{◌≡◌, ℕ, ◌+◌, ◌<◌, Bool, true, false, map, get_or, refl, ap, sym, ◌∙◌, ◌==◌, cond, arith}
+use Rattle.std.proofs.Common.{◌≡◌, ℕ, ◌+◌, ◌<◌, Bool, true, false, map, get_or, refl, ap, sym, ◌∙◌, ◌==◌, ◌++◌, ◌&&◌, cond, arith}
 use Rattle.std.specs.Prelude.{count_by}
 use Rattle.std.specs.List.{range_with_len}
 use Rattle.std.proofs.lemmas.List.FromFn.{get_or-map-range_with_len}
-use Rattle.nj_isa.specs.Table.{row_of}
+use Rattle.nj_isa.specs.Table.{row_of, is_official, in_manual}
 use Rattle.nj_isa.specs.Accesses.{class_of}
-use Rattle.nj_isa.specs.Timing.{cycles_of, penalty_of, count_made, accesses_of, jams}
+use Rattle.nj_isa.specs.Timing.{cycles_of, penalty_of, count_made, accesses_of, is_among, jams, stopping_opcodes, unstable_opcodes}
 
 -- functions that list the same 256 values agree below 256
 pub agree : {A : Type 0} (f g : ℕ → A) → map f (range_with_len 0 256) ≡ map g (range_with_len 0 256) → (n : ℕ) → n < 256 → f n ≡ g n
@@ -42,12 +42,36 @@ cycles n crossed taken away h official = open_test (cycles_of n == 0) _ _ (posit
     positive : (k : ℕ) → 0 < k → (k == 0) ≡ false
     positive k p = grind arith
 
--- 105 opcodes jam
-pub jam_count : count_by jams (range_with_len 0 256) ≡ 105
+-- 20 opcodes jam
+pub jam_count : count_by jams (range_with_len 0 256) ≡ 20
 unfolding jams row_of
 jam_count = refl
+
+-- those that stop the processor, and the unstable ones
+pub jam_named : (n : ℕ) → n < 256 → jams n ≡ is_among (stopping_opcodes ++ unstable_opcodes) n
+unfolding jams row_of
+jam_named n h = agree jams (is_among (stopping_opcodes ++ unstable_opcodes)) refl n h
 
 -- those without published cycles
 pub jam_which : (n : ℕ) → n < 256 → jams n ≡ (cycles_of n == 0)
 unfolding jams row_of
 jam_which n h = agree jams (λ k. cycles_of k == 0) refl n h
+
+-- no official opcode jams
+pub jam_unofficial : (n : ℕ) → n < 256 → is_official n ≡ true → jams n ≡ false
+unfolding jams row_of is_official
+jam_unofficial n h official = neither (is_official n) (jams n) (agree (λ k. is_official k && jams k) (λ _. false) refl n h) official
+  where
+    neither : (a b : Bool) → (a && b) ≡ false → a ≡ true → b ≡ false
+    neither true b e t = e
+    neither false b e t = cc
+
+-- the official opcodes are counted
+pub official_count : count_by is_official (range_with_len 0 256) ≡ 151
+unfolding is_official
+official_count = refl
+
+-- an opcode is official where its operation is in the manual and it is the manual's own opcode of it
+pub official_by_row : (n : ℕ) → n < 256 → is_official n ≡ in_manual (row_of n).op n
+unfolding is_official row_of
+official_by_row n h = agree is_official (λ k. in_manual (row_of k).op k) refl n h

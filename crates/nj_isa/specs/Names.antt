@@ -1,11 +1,11 @@
 -- The mnemonics and the lengths of instructions.
 use Rattle.std.specs.Prelude.{ℕ, List, codes}
 use Rattle.nj_isa.specs.declared.operations.Op.{Op}
-use Rattle.nj_isa.specs.declared.operations.Op.TheVariants.{Adc, And, Asl, Bcc, Bcs, Beq, Bit, Bmi, Bne, Bpl, Brk, Bvc, Bvs, Clc, Cld, Cli, Clv, Cmp, Cpx, Cpy, Dec, Dex, Dey, Eor, Inc, Inx, Iny, Jmp, Jsr, Lda, Ldx, Ldy, Lsr, Nop, Ora, Pha, Php, Pla, Plp, Rol, Ror, Rti, Rts, Sbc, Sec, Sed, Sei, Sta, Stx, Sty, Tax, Tay, Tsx, Txa, Txs, Tya, Jam}
+use Rattle.nj_isa.specs.declared.operations.Op.TheVariants.{Adc, And, Asl, Bcc, Bcs, Beq, Bit, Bmi, Bne, Bpl, Brk, Bvc, Bvs, Clc, Cld, Cli, Clv, Cmp, Cpx, Cpy, Dec, Dex, Dey, Eor, Inc, Inx, Iny, Jmp, Jsr, Lda, Ldx, Ldy, Lsr, Nop, Ora, Pha, Php, Pla, Plp, Rol, Ror, Rti, Rts, Sbc, Sec, Sed, Sei, Sta, Stx, Sty, Tax, Tay, Tsx, Txa, Txs, Tya, Slo, Rla, Sre, Rra, Dcp, Isc, Lax, Sax, Anc, Alr, Arr, Sbx, Jam}
 use Rattle.nj_isa.specs.declared.modes.Mode.{Mode}
 use Rattle.nj_isa.specs.declared.modes.Mode.TheVariants.{Implied, Accumulator, Abs, AbsX, AbsY, Indirect}
 
--- the mnemonic of an operation (NMOS 6502 instruction set)
+-- the mnemonic of an operation (NMOS 6502 instruction set; NESdev Wiki, "CPU unofficial opcodes")
 unfoldable pub name_of : Op → List ℕ
 name_of Adc = codes "ADC"
 name_of And = codes "AND"
@@ -63,6 +63,18 @@ name_of Tsx = codes "TSX"
 name_of Txa = codes "TXA"
 name_of Txs = codes "TXS"
 name_of Tya = codes "TYA"
+name_of Slo = codes "SLO"
+name_of Rla = codes "RLA"
+name_of Sre = codes "SRE"
+name_of Rra = codes "RRA"
+name_of Dcp = codes "DCP"
+name_of Isc = codes "ISC"
+name_of Lax = codes "LAX"
+name_of Sax = codes "SAX"
+name_of Anc = codes "ANC"
+name_of Alr = codes "ALR"
+name_of Arr = codes "ARR"
+name_of Sbx = codes "SBX"
 name_of Jam = codes "JAM"
 
 -- bytes of an instruction in a mode, the opcode among them (NMOS 6502 addressing modes)

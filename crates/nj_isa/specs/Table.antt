@@ -1,7 +1,7 @@
 -- The 256 opcodes: operation, mode and kind of access.
-use Rattle.std.specs.Prelude.{ℕ, Bool, true, false, List, [], ◌∷◌, ◌++◌, ◌==◌, map, if◌then◌else◌}
+use Rattle.std.specs.Prelude.{ℕ, Bool, true, false, not, List, [], ◌∷◌, ◌++◌, ◌==◌, map, if◌then◌else◌}
 use Rattle.nj_isa.specs.declared.operations.Op.{Op}
-use Rattle.nj_isa.specs.declared.operations.Op.TheVariants.{Ora, And, Eor, Adc, Sta, Lda, Cmp, Sbc, Ldx, Ldy, Stx, Sty, Cpx, Cpy, Bit, Inc, Dec, Asl, Rol, Lsr, Ror, Jmp, Jsr, Rts, Rti, Brk, Bpl, Bmi, Bvc, Bvs, Bcc, Bcs, Bne, Beq, Php, Plp, Pha, Pla, Clc, Sec, Cli, Sei, Clv, Cld, Sed, Dey, Iny, Inx, Dex, Txa, Tya, Txs, Tay, Tax, Tsx, Nop, Jam}
+use Rattle.nj_isa.specs.declared.operations.Op.TheVariants.{Ora, And, Eor, Adc, Sta, Lda, Cmp, Sbc, Ldx, Ldy, Stx, Sty, Cpx, Cpy, Bit, Inc, Dec, Asl, Rol, Lsr, Ror, Jmp, Jsr, Rts, Rti, Brk, Bpl, Bmi, Bvc, Bvs, Bcc, Bcs, Bne, Beq, Php, Plp, Pha, Pla, Clc, Sec, Cli, Sei, Clv, Cld, Sed, Dey, Iny, Inx, Dex, Txa, Tya, Txs, Tay, Tax, Tsx, Nop, Slo, Rla, Sre, Rra, Dcp, Isc, Lax, Sax, Anc, Alr, Arr, Sbx, Jam}
 use Rattle.nj_isa.specs.declared.modes.Mode.{Mode}
 use Rattle.nj_isa.specs.declared.modes.Mode.TheVariants.{Implied, Accumulator, Immediate, Zp, ZpX, ZpY, Abs, AbsX, AbsY, IndX, IndY, Indirect, Relative}
 use Rattle.nj_isa.specs.declared.modes.Kind.{Kind}
@@ -78,18 +78,49 @@ official_opcodes =
     ++ of Tsx ((Implied, 0xBA) ∷ [])
     ++ of Nop ((Implied, 0xEA) ∷ [])
 
+-- the 85 unofficial opcodes that do the same on every NMOS 6502 (NESdev Wiki, "CPU unofficial opcodes")
+abbrev pub unofficial_opcodes : List Entry
+unofficial_opcodes =
+    of Slo ((Zp, 0x07) ∷ (ZpX, 0x17) ∷ (Abs, 0x0F) ∷ (AbsX, 0x1F) ∷ (AbsY, 0x1B) ∷ (IndX, 0x03) ∷ (IndY, 0x13) ∷ [])
+    ++ of Rla ((Zp, 0x27) ∷ (ZpX, 0x37) ∷ (Abs, 0x2F) ∷ (AbsX, 0x3F) ∷ (AbsY, 0x3B) ∷ (IndX, 0x23) ∷ (IndY, 0x33) ∷ [])
+    ++ of Sre ((Zp, 0x47) ∷ (ZpX, 0x57) ∷ (Abs, 0x4F) ∷ (AbsX, 0x5F) ∷ (AbsY, 0x5B) ∷ (IndX, 0x43) ∷ (IndY, 0x53) ∷ [])
+    ++ of Rra ((Zp, 0x67) ∷ (ZpX, 0x77) ∷ (Abs, 0x6F) ∷ (AbsX, 0x7F) ∷ (AbsY, 0x7B) ∷ (IndX, 0x63) ∷ (IndY, 0x73) ∷ [])
+    ++ of Dcp ((Zp, 0xC7) ∷ (ZpX, 0xD7) ∷ (Abs, 0xCF) ∷ (AbsX, 0xDF) ∷ (AbsY, 0xDB) ∷ (IndX, 0xC3) ∷ (IndY, 0xD3) ∷ [])
+    ++ of Isc ((Zp, 0xE7) ∷ (ZpX, 0xF7) ∷ (Abs, 0xEF) ∷ (AbsX, 0xFF) ∷ (AbsY, 0xFB) ∷ (IndX, 0xE3) ∷ (IndY, 0xF3) ∷ [])
+    ++ of Lax ((Zp, 0xA7) ∷ (ZpY, 0xB7) ∷ (Abs, 0xAF) ∷ (AbsY, 0xBF) ∷ (IndX, 0xA3) ∷ (IndY, 0xB3) ∷ [])
+    ++ of Sax ((Zp, 0x87) ∷ (ZpY, 0x97) ∷ (Abs, 0x8F) ∷ (IndX, 0x83) ∷ [])
+    ++ of Anc ((Immediate, 0x0B) ∷ (Immediate, 0x2B) ∷ [])
+    ++ of Alr ((Immediate, 0x4B) ∷ [])
+    ++ of Arr ((Immediate, 0x6B) ∷ [])
+    ++ of Sbx ((Immediate, 0xCB) ∷ [])
+    ++ of Sbc ((Immediate, 0xEB) ∷ [])
+    ++ of Nop ((Implied, 0x1A) ∷ (Implied, 0x3A) ∷ (Implied, 0x5A) ∷ (Implied, 0x7A) ∷ (Implied, 0xDA) ∷ (Implied, 0xFA) ∷ [])
+    ++ of Nop ((Immediate, 0x80) ∷ (Immediate, 0x82) ∷ (Immediate, 0x89) ∷ (Immediate, 0xC2) ∷ (Immediate, 0xE2) ∷ [])
+    ++ of Nop ((Zp, 0x04) ∷ (Zp, 0x44) ∷ (Zp, 0x64) ∷ [])
+    ++ of Nop ((ZpX, 0x14) ∷ (ZpX, 0x34) ∷ (ZpX, 0x54) ∷ (ZpX, 0x74) ∷ (ZpX, 0xD4) ∷ (ZpX, 0xF4) ∷ [])
+    ++ of Nop ((Abs, 0x0C) ∷ [])
+    ++ of Nop ((AbsX, 0x1C) ∷ (AbsX, 0x3C) ∷ (AbsX, 0x5C) ∷ (AbsX, 0x7C) ∷ (AbsX, 0xDC) ∷ (AbsX, 0xFC) ∷ [])
+
 -- a shift of A reads, one of memory reads and writes
 abbrev pub shift_kind : Mode → Kind
 shift_kind Accumulator = Read
 shift_kind _ = Modify
 
--- what an instruction does with the byte at its address: stores write, shifts and counts on memory read and write, all else reads (NESdev Wiki, "CPU addressing modes")
+-- what an instruction does with the byte at its address: stores write, shifts and counts on memory read and write, also
+-- those that go on with A, and all else reads (NESdev Wiki, "CPU addressing modes" and "CPU unofficial opcodes")
 abbrev pub kind_of : Op → Mode → Kind
 kind_of Sta mode = Write
 kind_of Stx mode = Write
 kind_of Sty mode = Write
+kind_of Sax mode = Write
 kind_of Inc mode = Modify
 kind_of Dec mode = Modify
+kind_of Slo mode = Modify
+kind_of Rla mode = Modify
+kind_of Sre mode = Modify
+kind_of Rra mode = Modify
+kind_of Dcp mode = Modify
+kind_of Isc mode = Modify
 kind_of Asl mode = shift_kind mode
 kind_of Rol mode = shift_kind mode
 kind_of Lsr mode = shift_kind mode
@@ -102,11 +133,34 @@ row_in [] opcode = record { op = Jam; mode = Implied; kind = Read }
 row_in (e ∷ rest) opcode =
     if e.code == opcode then record { op = e.op; mode = e.mode; kind = kind_of e.op e.mode } else row_in rest opcode
 
--- the row of an opcode (NESdev Wiki, "CPU unofficial opcodes"); that each unofficial one jams is this project's own profile
+-- the row of an opcode (NESdev Wiki, "CPU unofficial opcodes"); that the other 20 jam is this project's own profile
 unfoldable pub row_of : ℕ → OpRow
-row_of opcode = row_in official_opcodes opcode
+row_of opcode = row_in (official_opcodes ++ unofficial_opcodes) opcode
 
--- an opcode of the official list
-abbrev pub official_in : List Entry → ℕ → Bool
-official_in [] opcode = false
-official_in (e ∷ rest) opcode = if e.code == opcode then true else official_in rest opcode
+-- whether a list has an opcode
+abbrev pub has_opcode : List Entry → ℕ → Bool
+has_opcode [] opcode = false
+has_opcode (e ∷ rest) opcode = if e.code == opcode then true else has_opcode rest opcode
+
+-- whether an opcode is one of the 151 official ones
+unfoldable pub is_official : ℕ → Bool
+is_official opcode = has_opcode official_opcodes opcode
+
+-- whether an opcode of an operation is official: NOP and SBC have unofficial ones beside $EA and the eight of the manual
+abbrev pub in_manual : Op → ℕ → Bool
+in_manual Nop opcode = opcode == 0xEA
+in_manual Sbc opcode = not (opcode == 0xEB)
+in_manual Slo opcode = false
+in_manual Rla opcode = false
+in_manual Sre opcode = false
+in_manual Rra opcode = false
+in_manual Dcp opcode = false
+in_manual Isc opcode = false
+in_manual Lax opcode = false
+in_manual Sax opcode = false
+in_manual Anc opcode = false
+in_manual Alr opcode = false
+in_manual Arr opcode = false
+in_manual Sbx opcode = false
+in_manual Jam opcode = false
+in_manual _ opcode = true

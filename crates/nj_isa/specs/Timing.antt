@@ -1,4 +1,4 @@
--- The published timing of the official instructions, against which the lists of accesses are held.
+-- The published timing of the instructions, against which the lists of accesses are held, and the opcodes that jam.
 use Rattle.std.specs.Prelude.{ℕ, ◌+◌, Bool, true, false, List, [], ◌∷◌, ◌++◌, ◌==◌, slice_index, if◌then◌else◌}
 use Rattle.nj_isa.specs.declared.operations.Op.{Op}
 use Rattle.nj_isa.specs.declared.operations.Op.TheVariants.{Jam}
@@ -6,26 +6,26 @@ use Rattle.nj_isa.specs.declared.table.OpRow.{OpRow}
 use Rattle.nj_isa.specs.Accesses.{Access, When, Always, Carried, Taken, TakenAway, accesses, class_of}
 use Rattle.nj_isa.specs.Table.{row_of}
 
--- cycles by the opcode's high digit, one line each, and its low digit; 0 stands where no official opcode is
--- (MOS Technology, MCS6500 Family Programming Manual, appendix B; NESdev Wiki, "6502 instructions")
+-- cycles by the opcode's high digit, one line each, and its low digit; 0 stands where this machine jams (MOS Technology,
+-- MCS6500 Family Programming Manual, appendix B; NESdev Wiki, "6502 instructions" and "CPU unofficial opcodes")
 abbrev pub cycle_table : List ℕ
 cycle_table =
-    7 ∷ 6 ∷ 0 ∷ 0 ∷ 0 ∷ 3 ∷ 5 ∷ 0 ∷ 3 ∷ 2 ∷ 2 ∷ 0 ∷ 0 ∷ 4 ∷ 6 ∷ 0 ∷ []
-    ++ 2 ∷ 5 ∷ 0 ∷ 0 ∷ 0 ∷ 4 ∷ 6 ∷ 0 ∷ 2 ∷ 4 ∷ 0 ∷ 0 ∷ 0 ∷ 4 ∷ 7 ∷ 0 ∷ []
-    ++ 6 ∷ 6 ∷ 0 ∷ 0 ∷ 3 ∷ 3 ∷ 5 ∷ 0 ∷ 4 ∷ 2 ∷ 2 ∷ 0 ∷ 4 ∷ 4 ∷ 6 ∷ 0 ∷ []
-    ++ 2 ∷ 5 ∷ 0 ∷ 0 ∷ 0 ∷ 4 ∷ 6 ∷ 0 ∷ 2 ∷ 4 ∷ 0 ∷ 0 ∷ 0 ∷ 4 ∷ 7 ∷ 0 ∷ []
-    ++ 6 ∷ 6 ∷ 0 ∷ 0 ∷ 0 ∷ 3 ∷ 5 ∷ 0 ∷ 3 ∷ 2 ∷ 2 ∷ 0 ∷ 3 ∷ 4 ∷ 6 ∷ 0 ∷ []
-    ++ 2 ∷ 5 ∷ 0 ∷ 0 ∷ 0 ∷ 4 ∷ 6 ∷ 0 ∷ 2 ∷ 4 ∷ 0 ∷ 0 ∷ 0 ∷ 4 ∷ 7 ∷ 0 ∷ []
-    ++ 6 ∷ 6 ∷ 0 ∷ 0 ∷ 0 ∷ 3 ∷ 5 ∷ 0 ∷ 4 ∷ 2 ∷ 2 ∷ 0 ∷ 5 ∷ 4 ∷ 6 ∷ 0 ∷ []
-    ++ 2 ∷ 5 ∷ 0 ∷ 0 ∷ 0 ∷ 4 ∷ 6 ∷ 0 ∷ 2 ∷ 4 ∷ 0 ∷ 0 ∷ 0 ∷ 4 ∷ 7 ∷ 0 ∷ []
-    ++ 0 ∷ 6 ∷ 0 ∷ 0 ∷ 3 ∷ 3 ∷ 3 ∷ 0 ∷ 2 ∷ 0 ∷ 2 ∷ 0 ∷ 4 ∷ 4 ∷ 4 ∷ 0 ∷ []
-    ++ 2 ∷ 6 ∷ 0 ∷ 0 ∷ 4 ∷ 4 ∷ 4 ∷ 0 ∷ 2 ∷ 5 ∷ 2 ∷ 0 ∷ 0 ∷ 5 ∷ 0 ∷ 0 ∷ []
-    ++ 2 ∷ 6 ∷ 2 ∷ 0 ∷ 3 ∷ 3 ∷ 3 ∷ 0 ∷ 2 ∷ 2 ∷ 2 ∷ 0 ∷ 4 ∷ 4 ∷ 4 ∷ 0 ∷ []
-    ++ 2 ∷ 5 ∷ 0 ∷ 0 ∷ 4 ∷ 4 ∷ 4 ∷ 0 ∷ 2 ∷ 4 ∷ 2 ∷ 0 ∷ 4 ∷ 4 ∷ 4 ∷ 0 ∷ []
-    ++ 2 ∷ 6 ∷ 0 ∷ 0 ∷ 3 ∷ 3 ∷ 5 ∷ 0 ∷ 2 ∷ 2 ∷ 2 ∷ 0 ∷ 4 ∷ 4 ∷ 6 ∷ 0 ∷ []
-    ++ 2 ∷ 5 ∷ 0 ∷ 0 ∷ 0 ∷ 4 ∷ 6 ∷ 0 ∷ 2 ∷ 4 ∷ 0 ∷ 0 ∷ 0 ∷ 4 ∷ 7 ∷ 0 ∷ []
-    ++ 2 ∷ 6 ∷ 0 ∷ 0 ∷ 3 ∷ 3 ∷ 5 ∷ 0 ∷ 2 ∷ 2 ∷ 2 ∷ 0 ∷ 4 ∷ 4 ∷ 6 ∷ 0 ∷ []
-    ++ 2 ∷ 5 ∷ 0 ∷ 0 ∷ 0 ∷ 4 ∷ 6 ∷ 0 ∷ 2 ∷ 4 ∷ 0 ∷ 0 ∷ 0 ∷ 4 ∷ 7 ∷ 0 ∷ []
+    7 ∷ 6 ∷ 0 ∷ 8 ∷ 3 ∷ 3 ∷ 5 ∷ 5 ∷ 3 ∷ 2 ∷ 2 ∷ 2 ∷ 4 ∷ 4 ∷ 6 ∷ 6 ∷ []
+    ++ 2 ∷ 5 ∷ 0 ∷ 8 ∷ 4 ∷ 4 ∷ 6 ∷ 6 ∷ 2 ∷ 4 ∷ 2 ∷ 7 ∷ 4 ∷ 4 ∷ 7 ∷ 7 ∷ []
+    ++ 6 ∷ 6 ∷ 0 ∷ 8 ∷ 3 ∷ 3 ∷ 5 ∷ 5 ∷ 4 ∷ 2 ∷ 2 ∷ 2 ∷ 4 ∷ 4 ∷ 6 ∷ 6 ∷ []
+    ++ 2 ∷ 5 ∷ 0 ∷ 8 ∷ 4 ∷ 4 ∷ 6 ∷ 6 ∷ 2 ∷ 4 ∷ 2 ∷ 7 ∷ 4 ∷ 4 ∷ 7 ∷ 7 ∷ []
+    ++ 6 ∷ 6 ∷ 0 ∷ 8 ∷ 3 ∷ 3 ∷ 5 ∷ 5 ∷ 3 ∷ 2 ∷ 2 ∷ 2 ∷ 3 ∷ 4 ∷ 6 ∷ 6 ∷ []
+    ++ 2 ∷ 5 ∷ 0 ∷ 8 ∷ 4 ∷ 4 ∷ 6 ∷ 6 ∷ 2 ∷ 4 ∷ 2 ∷ 7 ∷ 4 ∷ 4 ∷ 7 ∷ 7 ∷ []
+    ++ 6 ∷ 6 ∷ 0 ∷ 8 ∷ 3 ∷ 3 ∷ 5 ∷ 5 ∷ 4 ∷ 2 ∷ 2 ∷ 2 ∷ 5 ∷ 4 ∷ 6 ∷ 6 ∷ []
+    ++ 2 ∷ 5 ∷ 0 ∷ 8 ∷ 4 ∷ 4 ∷ 6 ∷ 6 ∷ 2 ∷ 4 ∷ 2 ∷ 7 ∷ 4 ∷ 4 ∷ 7 ∷ 7 ∷ []
+    ++ 2 ∷ 6 ∷ 2 ∷ 6 ∷ 3 ∷ 3 ∷ 3 ∷ 3 ∷ 2 ∷ 2 ∷ 2 ∷ 0 ∷ 4 ∷ 4 ∷ 4 ∷ 4 ∷ []
+    ++ 2 ∷ 6 ∷ 0 ∷ 0 ∷ 4 ∷ 4 ∷ 4 ∷ 4 ∷ 2 ∷ 5 ∷ 2 ∷ 0 ∷ 0 ∷ 5 ∷ 0 ∷ 0 ∷ []
+    ++ 2 ∷ 6 ∷ 2 ∷ 6 ∷ 3 ∷ 3 ∷ 3 ∷ 3 ∷ 2 ∷ 2 ∷ 2 ∷ 0 ∷ 4 ∷ 4 ∷ 4 ∷ 4 ∷ []
+    ++ 2 ∷ 5 ∷ 0 ∷ 5 ∷ 4 ∷ 4 ∷ 4 ∷ 4 ∷ 2 ∷ 4 ∷ 2 ∷ 0 ∷ 4 ∷ 4 ∷ 4 ∷ 4 ∷ []
+    ++ 2 ∷ 6 ∷ 2 ∷ 8 ∷ 3 ∷ 3 ∷ 5 ∷ 5 ∷ 2 ∷ 2 ∷ 2 ∷ 2 ∷ 4 ∷ 4 ∷ 6 ∷ 6 ∷ []
+    ++ 2 ∷ 5 ∷ 0 ∷ 8 ∷ 4 ∷ 4 ∷ 6 ∷ 6 ∷ 2 ∷ 4 ∷ 2 ∷ 7 ∷ 4 ∷ 4 ∷ 7 ∷ 7 ∷ []
+    ++ 2 ∷ 6 ∷ 2 ∷ 8 ∷ 3 ∷ 3 ∷ 5 ∷ 5 ∷ 2 ∷ 2 ∷ 2 ∷ 2 ∷ 4 ∷ 4 ∷ 6 ∷ 6 ∷ []
+    ++ 2 ∷ 5 ∷ 0 ∷ 8 ∷ 4 ∷ 4 ∷ 6 ∷ 6 ∷ 2 ∷ 4 ∷ 2 ∷ 7 ∷ 4 ∷ 4 ∷ 7 ∷ 7 ∷ []
 
 -- the published cycles of an opcode, without penalties
 abbrev pub cycles_of : ℕ → ℕ
@@ -39,13 +39,13 @@ is_among (x ∷ xs) opcode = if x == opcode then true else is_among xs opcode
 -- "add 1 if a page is crossed": the reads by abs,X, by abs,Y and by (zp),Y
 abbrev pub crossing_opcodes : List ℕ
 crossing_opcodes =
-    0x11 ∷ 0x19 ∷ 0x1D ∷ []
-    ++ 0x31 ∷ 0x39 ∷ 0x3D ∷ []
-    ++ 0x51 ∷ 0x59 ∷ 0x5D ∷ []
-    ++ 0x71 ∷ 0x79 ∷ 0x7D ∷ []
-    ++ 0xB1 ∷ 0xB9 ∷ 0xBC ∷ 0xBD ∷ 0xBE ∷ []
-    ++ 0xD1 ∷ 0xD9 ∷ 0xDD ∷ []
-    ++ 0xF1 ∷ 0xF9 ∷ 0xFD ∷ []
+    0x11 ∷ 0x19 ∷ 0x1C ∷ 0x1D ∷ []
+    ++ 0x31 ∷ 0x39 ∷ 0x3C ∷ 0x3D ∷ []
+    ++ 0x51 ∷ 0x59 ∷ 0x5C ∷ 0x5D ∷ []
+    ++ 0x71 ∷ 0x79 ∷ 0x7C ∷ 0x7D ∷ []
+    ++ 0xB1 ∷ 0xB3 ∷ 0xB9 ∷ 0xBC ∷ 0xBD ∷ 0xBE ∷ 0xBF ∷ []
+    ++ 0xD1 ∷ 0xD9 ∷ 0xDC ∷ 0xDD ∷ []
+    ++ 0xF1 ∷ 0xF9 ∷ 0xFC ∷ 0xFD ∷ []
 
 -- "add 1 if the branch is taken, 1 more if it goes to another page"
 abbrev pub branch_opcodes : List ℕ
@@ -87,3 +87,12 @@ is_jam _ = false
 -- whether an opcode jams
 unfoldable pub jams : ℕ → Bool
 jams opcode = is_jam (row_of opcode).op
+
+-- the twelve opcodes that stop an NMOS 6502 (NESdev Wiki, "CPU unofficial opcodes", STP)
+abbrev pub stopping_opcodes : List ℕ
+stopping_opcodes = 0x02 ∷ 0x12 ∷ 0x22 ∷ 0x32 ∷ 0x42 ∷ 0x52 ∷ 0x62 ∷ 0x72 ∷ 0x92 ∷ 0xB2 ∷ 0xD2 ∷ 0xF2 ∷ []
+
+-- the eight whose effect is not the same on each NMOS 6502 (NESdev Wiki, "CPU unofficial opcodes": ANE, SHA, TAS, SHY, SHX,
+-- LXA, LAS); that they jam is this project's own profile
+abbrev pub unstable_opcodes : List ℕ
+unstable_opcodes = 0x8B ∷ 0x93 ∷ 0x9B ∷ 0x9C ∷ 0x9E ∷ 0x9F ∷ 0xAB ∷ 0xBB ∷ []

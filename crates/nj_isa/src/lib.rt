@@ -1,5 +1,9 @@
 //! The instruction set of the NMOS 6502: the 256 opcodes as operation, mode and kind of access,
-//! the accesses of each instruction as data, and the bus that a processor is wired to.
+//! the accesses of each instruction as data, and the bus that a processor is wired to. Besides the
+//! 151 official opcodes, 85 unofficial ones run that do the same on every NMOS 6502; the other 20
+//! jam. An instruction is a list of accesses, one a cycle, so that its published timing is the
+//! length of its list. Read `row_of` and its two lists of opcodes (specs/Table.antt) first, then
+//! `by_mode` (specs/Accesses.antt).
 #![tactic(auto)]
 
 mod buses;
@@ -11,10 +15,10 @@ mod table;
 
 pub use buses::Bus;
 pub use classes::{Class, op_class};
-pub use laws::{cycles_are_published, unofficial_opcodes_jam};
+pub use laws::{cycles_are_published, official_opcodes_are_151, twenty_opcodes_jam};
 pub use modes::{Index, Kind, Mode, mode_len};
 pub use operations::{Op, op_name};
-pub use table::{OpRow, op_row};
+pub use table::{OpRow, official, op_row};
 
 #[cfg(test)]
 mod tests {
@@ -25,15 +29,19 @@ mod tests {
         for (opcode, name, len) in [
             (0x00, "BRK", 1),
             (0x02, "JAM", 1),
+            (0x03, "SLO", 2),
             (0x0A, "ASL", 1),
             (0x20, "JSR", 3),
             (0x6C, "JMP", 3),
+            (0x7F, "RRA", 3),
             (0x81, "STA", 2),
+            (0x8B, "JAM", 1),
             (0x9D, "STA", 3),
             (0xB6, "LDX", 2),
             (0xEA, "NOP", 1),
+            (0xEB, "SBC", 2),
             (0xF0, "BEQ", 2),
-            (0xFF, "JAM", 1),
+            (0xFC, "NOP", 3),
         ] {
             let row = op_row(opcode);
             assert_eq!(rt; op_name(row.op), name, "at {opcode}");

@@ -3,7 +3,8 @@
 ghost use Rattle.std.specs.Prelude.{◌≡◌};
 ghost use Rattle.nj_isa.specs.Names.{name_of};
 
-/// One variant for each official mnemonic, and `Jam` for an opcode that stops the processor.
+/// One variant for each official mnemonic, for the twelve operations that unofficial opcodes have beside them, and
+/// `Jam` for an opcode that stops the processor.
 #[derive(Clone, Copy, Debug, PartialEq, Eq)]
 pub enum Op {
     Adc,
@@ -62,6 +63,18 @@ pub enum Op {
     Txa,
     Txs,
     Tya,
+    Slo,
+    Rla,
+    Sre,
+    Rra,
+    Dcp,
+    Isc,
+    Lax,
+    Sax,
+    Anc,
+    Alr,
+    Arr,
+    Sbx,
     Jam,
 }
 
@@ -127,6 +140,18 @@ pub fn op_name(op: Op) -> &'static str
         Op::Txa => "TXA",
         Op::Txs => "TXS",
         Op::Tya => "TYA",
+        Op::Slo => "SLO",
+        Op::Rla => "RLA",
+        Op::Sre => "SRE",
+        Op::Rra => "RRA",
+        Op::Dcp => "DCP",
+        Op::Isc => "ISC",
+        Op::Lax => "LAX",
+        Op::Sax => "SAX",
+        Op::Anc => "ANC",
+        Op::Alr => "ALR",
+        Op::Arr => "ARR",
+        Op::Sbx => "SBX",
         Op::Jam => "JAM",
     }
 }
