@@ -1,13 +1,11 @@
 -- What the loops of a deal have done so far.
-use Rattle.std.proofs.Common.{◌≡◌, ◌≢◌, ℕ, ◌+◌, ◌-◌, ◌<◌, ◌≤◌, Bool, false, List, [], ◌∷◌, ◌++◌, length, get_or, set, take, sym, refl, ap, ◌∙◌, subst, arith, ◌%◌, ◌==◌, length-append, length-set, Global, if◌then◌else◌}
+use Rattle.std.proofs.Common.{◌≡◌, ◌≢◌, ℕ, ◌+◌, ◌-◌, ◌<◌, ◌≤◌, Bool, false, List, [], ◌∷◌, ◌++◌, length, get_or, set, take, sym, refl, ap, ◌∙◌, subst, arith, length-append, length-set, Global, if◌then◌else◌}
 use mathlib.Core.Logic.{dite}
 use native.Mathlib.Decide.{ℕ_discrete}
 use Rattle.std.specs.Prelude.{Vec}
-use Rattle.std.specs.List.{All, sum_by, list_all, range_with_len}
+use Rattle.std.specs.List.{All, sum_by, list_all}
 use Rattle.std.proofs.lemmas.List.{get_or-set_same, get_or-set_other, get_or_default}
-use Rattle.std.proofs.lemmas.List.Elements.{All-filter}
 use Rattle.std.proofs.lemmas.List.Folds.{list_all_at}
-use Rattle.std.proofs.lemmas.List.FromFn.{get_or-range_with_len, length-range_with_len}
 use Rattle.std.proofs.lemmas.List.Sums.{sum_by-le}
 use Rattle.std.proofs.Math.ListN.{get_or-append}
 use Rattle.std.proofs.Math.Seq.{get_or-append_seam, take-append_seam}
@@ -165,11 +163,6 @@ pub record AreDealt (pieces : Pieces) (takers : List Taker) (count workers : ℕ
   pub none_taken : All (λ taker. taken_of taker ≡ []) takers
   pub none_done : All (λ taker. is_done taker ≡ false) takers
 
--- the pieces of a worker are below the count
-pub dealt_below : (number workers count : ℕ) → All (λ p. p < count) (dealt_to number workers count)
-dealt_below number workers count = All-filter (λ p. p % workers == number) (λ p. p < count) (range_with_len 0 count)
-    (λ k d within. subst (λ (p : ℕ). p < count) (sym (get_or-range_with_len 0 count k d (let n = length-range_with_len 0 count in omega arith))) (let n = length-range_with_len 0 count in omega arith))
-
 -- a sum of zeros
 pub none_in_all : {X : Type 0} (f : X → ℕ) (xs : List X) → ((k : ℕ) (d : X) → k < length xs → f (get_or xs k d) ≡ 0) → sum_by f xs ≡ 0
 none_in_all f xs each = let none = sum_by-le f 0 xs (λ k d within. let zero_is = each k d within in omega arith) in omega arith
@@ -231,7 +224,8 @@ all_dealt pieces workers first takers filled first_many thieves_many opened many
   taken : (k : ℕ) (d : Taker) (m : ℕ) (a : Access) → k < workers → m < workers → seen (get_or (get_or takers k d).accesses.items m a) ≡ guest (opening (dealt_to m workers pieces.count) workers)
   taken k d m a within m_within = (seats k m d a (omega arith) (omega arith)).seen_is ∙ ap guest (opened m d thief m_within).view_is
 
-  access : (k : ℕ) (d : Taker) → k < workers → (m : ℕ) (s : Thief) (a : Access) → m < workers → IsAccess pieces.count (get_or pieces.thieves.items m s) (get_or (get_or takers k d).accesses.items m a)
+  access : (k : ℕ) (d : Taker) → k < workers → (m : ℕ) (s : Thief) (a : Access) → m < workers
+      → IsAccess pieces.count workers m (get_or pieces.thieves.items m s) (get_or (get_or takers k d).accesses.items m a)
   access k d within m s a m_within =
       let seat = seats k m d a (omega arith) (omega arith) in
       let open_m = opened m d s m_within in
@@ -240,7 +234,7 @@ all_dealt pieces workers first takers filled first_many thieves_many opened many
         deque = (seat.deque.0 ∙ ap (λ x. x.0) (sym open_m.deque), seat.deque.1 ∙ ap (λ x. x.1) (sym open_m.deque), seat.deque.2, seat.deque.3);
         seats = ap (λ v. v.seats) now;
         ends = ap (λ v. v.ends) now ∙ sym (ap (λ (b : Bool). if b then 1 else 0) seat.not_ended);
-        below = subst (All (λ p. p < pieces.count)) (sym (ap (λ v. v.dealt) now)) (dealt_below m workers pieces.count);
+        dealt = ap (λ v. v.dealt) now;
       }
 
   owner : (k : ℕ) (d : Taker) → k < workers → (s : Thief) → IsOwner pieces.count workers k 0 (get_or pieces.thieves.items k s) (get_or takers k d).owner
@@ -266,7 +260,11 @@ all_dealt pieces workers first takers filled first_many thieves_many opened many
             (subst (λ (w : ℕ). IsOwner pieces.count w k 0 (get_or pieces.thieves.items k s) (get_or takers k d).owner) (sym thieves_many) (owner k d within s));
         none_ended = ap (λ v. v.ends) now;
         none_taken = ap (λ v. v.taken) now;
-        accesses = record { many = a_many ∙ sym thieves_many; each = λ m s a m_within. access k d within m s a (omega arith) };
+        accesses = record {
+          many = a_many ∙ sym thieves_many;
+          each = λ m s a m_within. subst (λ (w : ℕ). IsAccess pieces.count w m (get_or pieces.thieves.items m s) (get_or (get_or takers k d).accesses.items m a)) (sym thieves_many)
+              (access k d within m s a (omega arith));
+        };
         noted = λ h. ap (λ v. sum_by h v.log) now ∙ sym (none_in_all (λ a. sum_by h (seen a).taken) (get_or takers k d).accesses.items
             (λ m a m_within. ap (λ v. sum_by h v.taken) (taken k d m a within (omega arith))));
       }

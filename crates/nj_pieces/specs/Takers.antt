@@ -1,7 +1,7 @@
 -- What is known of the takers of a dealing, and what contracts see of them.
-use Rattle.std.specs.Prelude.{◌≡◌, ℕ, Bool, ◌<◌, List, [], length, slice_index_or, if◌then◌else◌}
+use Rattle.std.specs.Prelude.{◌≡◌, ℕ, Bool, true, ◌<◌, List, [], length, slice_index_or, if◌then◌else◌}
 use Rattle.std.specs.Global.{Global}
-use Rattle.std.specs.List.{All, sum_by, list_all}
+use Rattle.std.specs.List.{sum_by, list_all}
 use Rattle.crossbeam_deque.specs.declared.handles.Worker.{Worker}
 use Rattle.crossbeam_deque.specs.declared.handles.Stealer.{Stealer}
 use Rattle.crossbeam_deque.specs.Handles.{view, IsPassOf, worker_deque, stealer_deque, worker_flavor, stealer_flavor, worker_port, worker_view}
@@ -49,13 +49,18 @@ taken_of taker = (worker_view taker.owner).log
 unfoldable pub is_done : Taker → Bool
 is_done taker = list_all (λ a. a.ended) taker.accesses.items
 
--- an access to the deque of this thief. It may take one mark, has taken it where it has met the end, and knows pieces below the count
-pub record IsAccess (count : ℕ) (thief : Thief) (access : Access) : Type 0 where
+-- whether it has found its worker's own deque without a piece
+unfoldable pub HasMetOwnEnd : Taker → Type 0
+HasMetOwnEnd taker = (d : Access) → (slice_index_or taker.accesses.items taker.number d).ended ≡ true
+
+-- an access to the deque of this thief, which is the worker's of this number. It may take one mark, has taken it where it
+-- has met the end, and knows which pieces were dealt to that worker
+pub record IsAccess (count workers number : ℕ) (thief : Thief) (access : Access) : Type 0 where
   pub fifo : stealer_flavor thief ≡ 0
   pub deque : IsPassOf (stealer_deque thief) access.ticket
   pub seats : (seen access).seats ≡ 1
   pub ends : (seen access).ends ≡ (if access.ended then 1 else 0)
-  pub below : All (λ p. p < count) (seen access).dealt
+  pub dealt : (seen access).dealt ≡ dealt_to number workers count
 
 -- the owner's end of the deque of this thief, which is the worker's of this number. Its pass may take so many marks
 pub record IsOwner (count workers number seats : ℕ) (thief : Thief) (owner : Owner) : Type 0 where
@@ -69,7 +74,8 @@ pub record IsOwner (count workers number seats : ℕ) (thief : Thief) (owner : O
 -- accesses to the deques of these thieves, in their order
 pub record AreAccesses (count : ℕ) (thieves : List (Thief)) (accesses : List Access) : Type 0 where
   pub many : length accesses ≡ length thieves
-  pub each : (k : ℕ) (s : Thief) (a : Access) → k < length thieves → IsAccess count (slice_index_or thieves k s) (slice_index_or accesses k a)
+  pub each : (k : ℕ) (s : Thief) (a : Access) → k < length thieves
+      → IsAccess count (length thieves) k (slice_index_or thieves k s) (slice_index_or accesses k a)
 
 -- the weights of the pieces that were taken by these accesses
 abbrev pub weight_of : (ℕ → ℕ) → List Access → ℕ

@@ -1,7 +1,8 @@
-ghost use Rattle.std.specs.Prelude.{◌≡◌, ℕ, ◌<◌, ◌++◌, ◌∷◌, [], length, true, false, slice_index_or, IfSome, IfNone, IfOk};
+ghost use Rattle.std.specs.Prelude.{◌≡◌, ℕ, ◌<◌, ◌++◌, ◌∷◌, [], length, true, false, slice_index_or, Contains, ◌⊎◌, None, IfSome, IfNone, IfOk};
 ghost use Rattle.crossbeam_deque.specs.Handles.{view, IsPassOf, SamePass, stealer_deque, stealer_flavor, worker_port, worker_view, SameWorker};
 ghost use Rattle.nj_pieces.specs.Tallies.{with_piece, with_end, noted, IsOf};
-ghost use Rattle.nj_pieces.specs.Takers.{count_of, number_of, dealt_of, taken_of, is_done, IsTakerOf};
+ghost use Rattle.nj_pieces.specs.Dealing.{dealt_to};
+ghost use Rattle.nj_pieces.specs.Takers.{count_of, number_of, dealt_of, taken_of, is_done, HasMetOwnEnd, IsTakerOf};
 
 use crate::parts::{Access, Pieces, Taker};
 use crate::rule::{Noted, Notes, Owner, Takes, Task, Thief};
@@ -10,14 +11,17 @@ use std::marker::Brand;
 use std::sync::Wait;
 
 impl Pieces {
-    /// Takes a piece: from the worker's own deque, or else from another's. `None` says that each deque was
-    /// found without a piece, in this call or in an earlier one of this taker.
-    #[tactic(auto, unfolding(crate::specs::Takers::count_of, crate::specs::Takers::number_of, crate::specs::Takers::dealt_of, crate::specs::Takers::taken_of, crate::specs::Takers::is_done))]
+    /// Takes a piece: from the worker's own deque, or, once that was found without a piece, from another's.
+    /// `None` says that each deque was found without a piece, in this call or in an earlier one of this taker,
+    /// and every later call with this taker answers it again.
+    #[tactic(auto, unfolding(crate::specs::Takers::count_of, crate::specs::Takers::number_of, crate::specs::Takers::dealt_of, crate::specs::Takers::taken_of, crate::specs::Takers::is_done, crate::specs::Takers::HasMetOwnEnd))]
     pub fn take<R: Wait>(&self, rt: &R, taker: &mut Taker) -> Option<u64>
         requires { IsTakerOf self.now taker.old }
         ensures piece { IfSome result (λ piece. taken_of taker.new ≡ taken_of taker.old ++ piece ∷ []) }
         ensures below { IfSome result (λ piece. piece < count_of self.now) }
+        ensures own_first { IfSome result (λ piece. Contains (dealt_of taker.old) piece ⊎ HasMetOwnEnd taker.new) }
         ensures none { IfNone result (is_done taker.new ≡ true) }
+        ensures again { is_done taker.old ≡ true → result ≡ None }
         ensures none_taken { IfNone result (taken_of taker.new ≡ taken_of taker.old) }
         ensures same { IsTakerOf self.now taker.new }
         ensures number { number_of taker.new ≡ number_of taker.old }
@@ -40,7 +44,8 @@ impl Pieces {
         requires taker { IsTakerOf self.now taker.old }
         requires within { at < length self.now.thieves.items }
         ensures piece { IfSome result (λ piece. (worker_view taker.new.owner).log ≡ (worker_view taker.old.owner).log ++ piece ∷ []) }
-        ensures below { IfSome result (λ piece. piece < self.now.count) }
+        ensures from { IfSome result (λ piece. Contains (dealt_to at (length self.now.thieves.items) self.now.count) piece) }
+        ensures already { ((d : Access) → (slice_index_or taker.old.accesses.items at d).ended ≡ true) → result ≡ None }
         ensures none { IfNone result ((worker_view taker.new.owner).log ≡ (worker_view taker.old.owner).log) }
         ensures ended { IfNone result ((d : Access) → (slice_index_or taker.new.accesses.items at d).ended ≡ true) }
         ensures kept { (k : ℕ) (d : Access) → k < length self.now.thieves.items → (slice_index_or taker.old.accesses.items k d).ended ≡ true → (slice_index_or taker.new.accesses.items k d).ended ≡ true }

@@ -1,4 +1,4 @@
-use Rattle.std.proofs.Common.{◌≡◌, ℕ, ◌<◌, true, slice_index_or}
+use Rattle.std.proofs.Common.{◌≡◌, ℕ, ◌<◌, true, length, slice_index_or}
 use Rattle.crossbeam_deque.specs.Handles.{worker_view}
 use Rattle.nj_pieces.specs.declared.parts.Access.{Access}
 use Rattle.nj_pieces.specs.Takers.{IsTakerOf}
@@ -11,3 +11,6 @@ invariant-loop-at g l =
     × ((worker_view l.taker.owner).log ≡ (worker_view l.fn.taker.owner).log)
     × ((worker_view l.taker.owner).dealt ≡ (worker_view l.fn.taker.owner).dealt)
     × ((k : ℕ) (d : Access) → k < l.at → (slice_index_or l.taker.accesses.items k d).ended ≡ true)
+    × ((k : ℕ) (d : Access) → k < length l.self.thieves.items → (slice_index_or l.fn.taker.accesses.items k d).ended ≡ true
+    → (slice_index_or l.taker.accesses.items k d).ended ≡ true)
+    × ((d : Access) → (slice_index_or l.taker.accesses.items l.fn.taker.number d).ended ≡ true)
