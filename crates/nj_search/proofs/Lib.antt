@@ -4,3 +4,4 @@ pub mod WonWords
 pub mod Longer
 pub mod StepEnds
 pub mod Going
+pub mod Budgets

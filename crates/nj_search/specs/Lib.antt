@@ -2,4 +2,5 @@ pub mod Plans
 pub mod Ends
 pub mod Rests
 pub mod Laws
+pub mod Budget
 pub use Rattle.nj_game.specs.Plan

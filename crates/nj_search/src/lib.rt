@@ -7,7 +7,7 @@ mod searching;
 #[cfg(test)]
 mod tests;
 
-pub use laws::{a_won_word_replays, longer_searches_begin_alike};
+pub use laws::{a_won_word_replays, fronts_are_within_the_budget, longer_searches_begin_alike};
 pub use nj_ines::Cart;
 pub use nj_movie::Movie;
 pub use nj_script::Script;
