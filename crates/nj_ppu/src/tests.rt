@@ -24,6 +24,27 @@ fn has_hit(picture: &mut DotPicture, pattern: &[u8; 8192]) -> bool {
     picture.read(2, pattern) & 0x40 != 0
 }
 
+// A picture with rendering on, eight sprites at Y 20, a ninth at this Y and the others below the picture.
+fn with_ninth(y: u8, pattern: &[u8; 8192]) -> DotPicture {
+    let mut picture = DotPicture::new(false);
+    for sprite in 0..64u8 {
+        let top = match sprite {
+            0..=7 => 20,
+            8 => y,
+            _ => 240,
+        };
+        for byte in [top, 0, 0, 0] {
+            picture.write(4, byte, pattern);
+        }
+    }
+    picture.write(1, 0x18, pattern);
+    picture
+}
+
+fn has_overflow(picture: &mut DotPicture, pattern: &[u8; 8192]) -> bool {
+    picture.read(2, pattern) & 0x20 != 0
+}
+
 // A read just before dot (241,1) holds the flag; a read after it takes it.
 #[test]
 fn status_reads_race_with_vertical_blank(rt: HostRuntime) {
@@ -108,4 +129,24 @@ fn images_give_the_picture_again(rt: HostRuntime) {
     picture.run(70_000, &pattern);
     assert_eq!(rt; picture.position(), after);
     assert_eq!(rt; picture.read(2, &pattern), status);
+}
+
+// A ninth sprite on line 27 raises the overflow flag at dot (27,257), and it falls at (261,1).
+#[test]
+fn a_ninth_sprite_overflows(rt: HostRuntime) {
+    let pattern = [0u8; 8192];
+    let mut picture = with_ninth(27, &pattern);
+    picture.run(27 * 341 + 257, &pattern);
+    assert!(rt; !has_overflow(&mut picture, &pattern));
+    picture.run(1, &pattern);
+    assert!(rt; has_overflow(&mut picture, &pattern));
+    picture.run(234 * 341 - 257, &pattern);
+    assert_eq!(rt; picture.position(), Position { line: 261, dot: 1 });
+    assert!(rt; has_overflow(&mut picture, &pattern));
+    picture.run(1, &pattern);
+    assert!(rt; !has_overflow(&mut picture, &pattern));
+
+    let mut eight = with_ninth(240, &pattern);
+    eight.run(START_OF_BLANK, &pattern);
+    assert!(rt; !has_overflow(&mut eight, &pattern));
 }

@@ -55,4 +55,23 @@ mod tests {
             None
         );
     }
+
+    // Of sprites at Y 0, 4, 8 and so on up to 252 each line from 4 on has two, and four where they are tall.
+    #[test]
+    fn sprites_of_a_line_are_counted(rt: HostRuntime) {
+        let mut oam = [0u8; 256];
+        for sprite in 0..64u8 {
+            oam[usize::from(sprite) * 4] = sprite * 4;
+        }
+        for (line, tall, want) in [
+            (3, false, 1),
+            (4, false, 2),
+            (100, false, 2),
+            (100, true, 4),
+            (259, false, 1),
+            (261, true, 2),
+        ] {
+            assert_eq!(rt; in_range(&oam, line, tall), want, "on {line}");
+        }
+    }
 }
