@@ -9,8 +9,7 @@ use Rattle.nj_lines.specs.Lines.{lines}
 use Rattle.nj_isa.specs.declared.modes.Mode.{Mode}
 use Rattle.nj_isa.specs.declared.modes.Mode.TheVariants.{Implied, Accumulator, Immediate, Zp, ZpX, ZpY, Abs, AbsX, AbsY, IndX, IndY, Indirect, Relative}
 use Rattle.nj_isa.specs.Names.{length_of}
-use Rattle.nj_isa.specs.Table.{row_of}
-use Rattle.nj_isa.specs.Timing.{is_jam}
+use Rattle.nj_isa.specs.Table.{row_of, is_official}
 use Rattle.nj_asm_lines.specs.declared.syntax.Value.TheVariants.{Literal}
 use Rattle.nj_asm_lines.specs.declared.syntax.Cell.{Cell}
 use Rattle.nj_asm_lines.specs.declared.syntax.Cell.TheVariants.{Opcode, Byte, Word, Branch}
@@ -329,7 +328,7 @@ example_bytes n =
     All-take (λ b. b < 256) n (128 ∷ 144 ∷ [])
     (All-cons (λ b. b < 256) 128 (144 ∷ []) (omega arith) (All-cons (λ b. b < 256) 144 [] (omega arith) (All-nil (λ b. b < 256))))
 
-example_is : (k : ℕ) → k < 256 → is_jam (row_of k).op ≡ false → IsInstruction (example k)
+example_is : (k : ℕ) → k < 256 → is_official k ≡ true → IsInstruction (example k)
 example_is k h official = record {
   byte = h;
   official = official;
@@ -363,7 +362,7 @@ one_again ends parts i is =
     ap (λ (text : List ℕ). assembly_of text) (one_listed 32768 i is (omega (arith, is.whole, length_small (row_of i.opcode).mode)))
     ∙ one_line ends parts i is
 
-pub reached : EndsLines → PartsLines → (k : ℕ) → k < 256 → is_jam (row_of k).op ≡ false →
+pub reached : EndsLines → PartsLines → (k : ℕ) → k < 256 → is_official k ≡ true →
     (line : List ℕ) × (operand : List ℕ) × (assembly_of line ≡ Ok (record { origin = 32768; bytes = k ∷ operand })) × (drop 14 (listing_of 32768 (k ∷ operand)) ≡ line)
 reached ends parts k h official =
     let is = example_is k h official in

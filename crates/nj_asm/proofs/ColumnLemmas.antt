@@ -13,6 +13,7 @@ use Rattle.nj_asm.specs.Listing.{hex2, hex4, operand_text, spaced, filling, plac
 use Rattle.nj_asm.specs.Instructions.{Instruction, IsInstruction, encoding, encodings, statements_of}
 use Rattle.nj_asm.proofs.DigitLemmas.{is_plain, hex2_plain, hex4_plain}
 use Rattle.nj_asm.proofs.ReadingLemmas.{plain-append, plain_is}
+use Rattle.nj_asm.proofs.OpcodeLemmas.{runs}
 use Rattle.nj_asm.proofs.InstructionLemmas.{name_plain, operand_plain}
 use Rattle.nj_asm.proofs.ListingLemmas.{listed-instruction}
 
@@ -132,7 +133,7 @@ all_ended ends at (i ∷ is) are =
 listed_first : (at : ℕ) (i : Instruction) (rest : List ℕ) → IsInstruction i → at < 65536 →
     listed at 0 (encoding i ++ rest) ≡ instruction_text at (encoding i) ++ listed ((at + length (encoding i)) % 65536) 0 rest
 listed_first at i rest is within =
-    listed-instruction at (length (encoding i)) (encoding i ++ rest) within (omega arith) is.whole (omega arith) (omega (arith, length-append (encoding i) rest)) is.official
+    listed-instruction at (length (encoding i)) (encoding i ++ rest) within (omega arith) is.whole (omega arith) (omega (arith, length-append (encoding i) rest)) (runs i.opcode is.byte is.official)
     ∙ (λ j. instruction_text at (take_at (encoding i) rest (length (encoding i)) refl j) ++ listed ((at + length (encoding i)) % 65536) 0 (drop_at (encoding i) rest (length (encoding i)) refl j))
 
 listed_all : (here at : ℕ) (all : List Instruction) → at + length (encodings all) ≤ 65536 → (0 < length (encodings all) → here ≡ at) → All IsInstruction all →

@@ -9,8 +9,7 @@ use Rattle.std.proofs.lemmas.List.{reverse-append, length-reverse}
 use Rattle.nj_isa.specs.declared.modes.Mode.{Mode}
 use Rattle.nj_isa.specs.declared.modes.Mode.TheVariants.{Implied, Accumulator, Immediate, Zp, ZpX, ZpY, Abs, AbsX, AbsY, IndX, IndY, Indirect, Relative}
 use Rattle.nj_isa.specs.Names.{name_of}
-use Rattle.nj_isa.specs.Table.{row_of}
-use Rattle.nj_isa.specs.Timing.{is_jam}
+use Rattle.nj_isa.specs.Table.{row_of, is_official}
 use Rattle.nj_asm_lines.specs.declared.syntax.Value.TheVariants.{Literal}
 use Rattle.nj_asm_lines.specs.declared.syntax.Form.{Form}
 use Rattle.nj_asm_lines.specs.declared.syntax.Form.TheVariants.{Plain, CommaX, CommaY}
@@ -87,7 +86,7 @@ instruction_is a b c k o m p q r mnemonic code =
 -- what is told of the instruction that a line lists
 pub record IsListed (k : ℕ) (mode : Mode) (low high : ℕ) : Type 0 where
   pub byte : k < 256
-  pub official : is_jam (row_of k).op ≡ false
+  pub official : is_official k ≡ true
   pub moded : (row_of k).mode ≡ mode
   pub low_byte : low < 256
   pub high_byte : high < 256

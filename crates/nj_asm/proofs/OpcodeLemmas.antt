@@ -1,6 +1,5 @@
 -- Lemmas on the opcodes of the official mnemonics.
-use Rattle.std.proofs.Common.{ℕ, zero, suc, ◌≡◌, ◌≤◌, ◌<◌, ◌+◌, ◌*◌, ◌==◌, Bool, true, false, cond, ◌&&◌, not, ltb, inl, inr, ◌≢◌, List, [], ◌∷◌, length, map, get_or, refl, sym, ap, ◌∙◌, arith, Option, Some, None}
-use Rattle.std.specs.Prelude.{codes}
+use Rattle.std.proofs.Common.{ℕ, zero, suc, ◌≡◌, ◌≤◌, ◌<◌, ◌+◌, ◌*◌, ◌==◌, Bool, true, false, cond, ◌&&◌, ltb, inl, inr, ◌≢◌, List, [], ◌∷◌, length, map, get_or, refl, sym, ap, ◌∙◌, arith, Option, Some, None}
 use Rattle.std.specs.Char.{to_ascii_lowercase}
 use Rattle.std.specs.List.{range_with_len, position_or_len, list_all}
 use Rattle.std.specs.Option.{is_some}
@@ -11,11 +10,10 @@ use Rattle.std.proofs.lemmas.Slice.Eq.{bytes_eq-Decides}
 use Rattle.nj_isa.specs.declared.operations.Op.{Op}
 use Rattle.nj_isa.specs.declared.modes.Mode.{Mode}
 use Rattle.nj_isa.specs.declared.modes.Mode.TheVariants.{Implied, Accumulator, Immediate, Zp, ZpX, ZpY, Abs, AbsX, AbsY, IndX, IndY, Indirect, Relative}
-use Rattle.nj_isa.specs.declared.table.OpRow.{OpRow}
 use Rattle.nj_isa.specs.Names.{name_of}
-use Rattle.nj_isa.specs.Table.{row_of}
+use Rattle.nj_isa.specs.Table.{row_of, is_official}
 use Rattle.nj_isa.specs.Timing.{is_jam}
-use Rattle.nj_asm_lines.specs.Grammar.{number_of, is_spelled, is_row, first_code, opcode_of, is_mnemonic}
+use Rattle.nj_asm_lines.specs.Grammar.{number_of, is_spelled, is_row, is_code, first_code, opcode_of, is_mnemonic}
 
 -- functions that list the same 256 values agree below 256
 agree : {A : Type 0} (f g : ℕ → A) → map f (range_with_len 0 256) ≡ map g (range_with_len 0 256) → (n : ℕ) → n < 256 → f n ≡ g n
@@ -49,9 +47,10 @@ name_keys : List ℕ
 unfolding row_of name_of
 name_keys = map name_key (range_with_len 0 256)
 
+-- the keys of the rows that official opcodes have
 row_keys : List ℕ
-unfolding row_of name_of
-row_keys = map row_key (range_with_len 0 256)
+unfolding row_of name_of is_official
+row_keys = map (λ n. cond (is_official n) (row_key n) 0) (range_with_len 0 256)
 
 -- opcodes of one mnemonic have one operation
 abbrev ops : List ℕ → List Op
@@ -71,32 +70,28 @@ same_op j k hj hk e =
     ∙ ap (λ (x : List ℕ). (row_of (place name_keys (mixed x))).op) e
     ∙ op_by_name name_keys all_ops k hk
 
--- opcodes of one mnemonic and one mode are the same, but the jams
-abbrev wanted : ℕ → ℕ
-wanted n = cond (is_jam (row_of n).op) 2 n
+-- official opcodes of one mnemonic and one mode are the same
+abbrev place_in : List ℕ → ℕ → ℕ
+place_in keys n = cond (is_official n) (place keys (row_key n)) n
 
-abbrev places : List ℕ → List ℕ
-places keys = map (λ n. place keys (row_key n)) (range_with_len 0 256)
-
-all_places : places row_keys ≡ map wanted (range_with_len 0 256)
-unfolding row_of name_of row_keys
+all_places : map (place_in row_keys) (range_with_len 0 256) ≡ map (λ n. n) (range_with_len 0 256)
+unfolding row_of name_of is_official row_keys
 all_places = refl
 
-place_by_row : (keys : List ℕ) → places keys ≡ map wanted (range_with_len 0 256) → (n : ℕ) → n < 256 → place keys (row_key n) ≡ wanted n
-place_by_row keys e n h = agree (λ k. place keys (row_key k)) wanted e n h
+chosen : (b : Bool) (m n : ℕ) → b ≡ true → cond b m n ≡ n → m ≡ n
+chosen b m n h e = ap (λ (t : Bool). cond t m n) (sym h) ∙ e
 
-wanted_is : (jam : Bool) (n : ℕ) → jam ≡ false → cond jam 2 n ≡ n
-wanted_is jam n h = rw h
+place_by_row : (keys : List ℕ) → map (place_in keys) (range_with_len 0 256) ≡ map (λ n. n) (range_with_len 0 256) →
+    (n : ℕ) → n < 256 → is_official n ≡ true → place keys (row_key n) ≡ n
+place_by_row keys e n h official = chosen (is_official n) (place keys (row_key n)) n official (agree (place_in keys) (λ k. k) e n h)
 
-pub same_code : (j k : ℕ) → j < 256 → k < 256 → is_jam (row_of k).op ≡ false →
+pub same_code : (j k : ℕ) → j < 256 → k < 256 → is_official j ≡ true → is_official k ≡ true →
     lowered (name_at j) ≡ lowered (name_at k) → number_of (row_of j).mode ≡ number_of (row_of k).mode → j ≡ k
-same_code j k hj hk official names modes =
+same_code j k hj hk first official names modes =
     let key : row_key j ≡ row_key k = λ i. modes i + 16 * mixed (names i) in
-    sym (wanted_is _ j (ap is_jam (same_op j k hj hk names) ∙ official))
-    ∙ sym (place_by_row row_keys all_places j hj)
+    sym (place_by_row row_keys all_places j hj first)
     ∙ ap (place row_keys) key
-    ∙ place_by_row row_keys all_places k hk
-    ∙ wanted_is _ k official
+    ∙ place_by_row row_keys all_places k hk official
 
 -- a mnemonic with the mode of branches has no other
 abbrev branches : List ℕ → List Bool
@@ -131,12 +126,15 @@ all_words = refl
 pub word_at : (n : ℕ) → n < 256 → is_word (name_at n) ≡ true
 word_at n h = agree (λ k. is_word (name_at k)) (λ k. true) all_words n h
 
-all_jams : map (λ n. is_spelled (name_at n) (codes "JAM")) (range_with_len 0 256) ≡ map (λ n. is_jam (row_of n).op) (range_with_len 0 256)
-unfolding row_of name_of
-all_jams = refl
+-- no official opcode jams
+all_run : map (λ n. cond (is_official n) (is_jam (row_of n).op) false) (range_with_len 0 256) ≡ map (λ n. false) (range_with_len 0 256)
+unfolding row_of is_official
+all_run = refl
 
-jam_at : (n : ℕ) → n < 256 → is_spelled (name_at n) (codes "JAM") ≡ is_jam (row_of n).op
-jam_at n h = agree (λ k. is_spelled (name_at k) (codes "JAM")) (λ k. is_jam (row_of k).op) all_jams n h
+pub runs : (n : ℕ) → n < 256 → is_official n ≡ true → is_jam (row_of n).op ≡ false
+runs n h official =
+    ap (λ (t : Bool). cond t (is_jam (row_of n).op) false) (sym official)
+    ∙ agree (λ k. cond (is_official k) (is_jam (row_of k).op) false) (λ k. false) all_run n h
 
 -- a code that fails is not the one that passes
 later : (test : ℕ → Bool) (at k : ℕ) → at ≤ k → test at ≡ false → test k ≡ true → at + 1 ≤ k
@@ -190,31 +188,44 @@ first_code_some test at (suc left) k low high passes =
 spelled_itself : (word : List ℕ) → is_spelled word word ≡ true
 spelled_itself word = (bytes_eq-Decides (lowered word) (lowered word)).1 refl
 
-row_itself : (k : ℕ) → is_row (name_at k) (Some (row_of k).mode) (row_of k) ≡ true
-row_itself k = and_from _ _ (spelled_itself (name_at k)) ((Decides-eqb (number_of (row_of k).mode) (number_of (row_of k).mode)).1 refl)
+code_itself : (k : ℕ) → is_official k ≡ true → is_code (name_at k) (Some (row_of k).mode) k ≡ true
+code_itself k official =
+    and_from (is_official k) _ official
+    (and_from _ _ (spelled_itself (name_at k)) ((Decides-eqb (number_of (row_of k).mode) (number_of (row_of k).mode)).1 refl))
 
--- a row with the mnemonic and the mode
-row_names : (word : List ℕ) (m : Mode) (row : OpRow) → is_row word (Some m) row ≡ true →
-    (lowered word ≡ lowered (name_of row.op)) × (number_of m ≡ number_of row.mode)
-row_names word m row h =
-    let parts = and_parts (is_spelled word (name_of row.op)) (number_of m == number_of row.mode) h in
-    ((bytes_eq-Decides (lowered word) (lowered (name_of row.op))).0 parts.0, (Decides-eqb (number_of m) (number_of row.mode)).0 parts.1)
+-- an official opcode with the mnemonic and the mode
+record IsNamed (word : List ℕ) (m : Mode) (j : ℕ) : Type 0 where
+  pub official : is_official j ≡ true
+  pub name : lowered word ≡ lowered (name_at j)
+  pub mode : number_of m ≡ number_of (row_of j).mode
+
+code_names : (word : List ℕ) (m : Mode) (j : ℕ) → is_code word (Some m) j ≡ true → IsNamed word m j
+code_names word m j h =
+    let whole = and_parts (is_official j) (is_row word (Some m) (row_of j)) h in
+    let parts = and_parts (is_spelled word (name_at j)) (number_of m == number_of (row_of j).mode) whole.1 in
+    record {
+      official = whole.0;
+      name = (bytes_eq-Decides (lowered word) (lowered (name_at j))).0 parts.0;
+      mode = (Decides-eqb (number_of m) (number_of (row_of j).mode)).0 parts.1;
+    }
 
 -- the opcode of an official mnemonic in its mode
-pub opcode_found : (k : ℕ) → k < 256 → is_jam (row_of k).op ≡ false → opcode_of (name_at k) (Some (row_of k).mode) ≡ Some k
+pub opcode_found : (k : ℕ) → k < 256 → is_official k ≡ true → opcode_of (name_at k) (Some (row_of k).mode) ≡ Some k
 unfolding opcode_of
 opcode_found k h official =
-    first_code_is (λ c. is_row (name_at k) (Some (row_of k).mode) (row_of c)) 0 256 k (omega arith) h (row_itself k)
-    (λ j within passes. let names = row_names (name_at k) (row_of k).mode (row_of j) passes in same_code j k within h official (sym names.0) (sym names.1))
+    first_code_is (is_code (name_at k) (Some (row_of k).mode)) 0 256 k (omega arith) h (code_itself k official)
+    (λ j within passes.
+    let named = code_names (name_at k) (row_of k).mode j passes in
+    same_code j k within h named.official official (sym named.name) (sym named.mode))
 
 -- another opcode of the mnemonic
 pub opcode_other : (k c : ℕ) (m : Mode) → opcode_of (name_at k) (Some m) ≡ Some c →
     (c < 256) × (lowered (name_at k) ≡ lowered (name_at c)) × (number_of m ≡ number_of (row_of c).mode)
 unfolding opcode_of
 opcode_other k c m found =
-    let p = first_code_passes (λ j. is_row (name_at k) (Some m) (row_of j)) 0 256 c found in
-    let names = row_names (name_at k) m (row_of c) p.1 in
-    (p.0, names.0, names.1)
+    let p = first_code_passes (is_code (name_at k) (Some m)) 0 256 c found in
+    let named = code_names (name_at k) m c p.1 in
+    (p.0, named.name, named.mode)
 
 none_by : {A : Type 0} (o : Option A) → ((a : A) → o ≡ Some a → ⊥) → o ≡ None
 none_by None h = refl
@@ -259,9 +270,8 @@ no_mode k m h none =
     none c o.0 (same_op c k o.0 h (sym o.1)) (sym (back_is m) ∙ ap back o.2 ∙ back_is (row_of c).mode))
 
 -- official mnemonics are known
-pub known : (k : ℕ) → k < 256 → is_jam (row_of k).op ≡ false → is_mnemonic (name_at k) ≡ true
+pub known : (k : ℕ) → k < 256 → is_official k ≡ true → is_mnemonic (name_at k) ≡ true
 unfolding is_mnemonic opcode_of
 known k h official =
-    and_from _ _
-    (first_code_some (λ c. is_row (name_at k) None (row_of c)) 0 256 k (omega arith) h (and_from _ true (spelled_itself (name_at k)) refl))
-    (ap not (jam_at k h ∙ official))
+    first_code_some (is_code (name_at k) None) 0 256 k (omega arith) h
+    (and_from (is_official k) _ official (and_from _ true (spelled_itself (name_at k)) refl))

@@ -1,9 +1,8 @@
 //! Laws of refusals and of listings, as the contracts of functions that do nothing.
 
-ghost use Rattle.std.specs.Prelude.{◌≡◌, ◌+◌, ◌<◌, ◌≤◌, ◌∷◌, ℕ, false, List, length, drop, Ok, Err};
+ghost use Rattle.std.specs.Prelude.{◌≡◌, ◌+◌, ◌<◌, ◌≤◌, ◌∷◌, ℕ, true, List, length, drop, Ok, Err};
 ghost use Rattle.std.specs.List.{All};
-ghost use Rattle.nj_isa.specs.Table.{row_of};
-ghost use Rattle.nj_isa.specs.Timing.{is_jam};
+ghost use Rattle.nj_isa.specs.Table.{is_official};
 ghost use Rattle.nj_asm_lines.specs.declared.syntax.Fault.{Fault};
 ghost use Rattle.nj_asm_lines.specs.Grammar.{read_lines};
 ghost use Rattle.nj_asm.specs.declared.refusals.AsmRefused.{AsmRefused};
@@ -34,7 +33,7 @@ pub fn listed_instructions_assemble_again()
 /// each official opcode is reached so: some line assembles to an instruction with it, and is what the listing gives back.
 pub fn every_official_opcode_is_reached()
     ensures each { (i : Instruction) → IsInstruction i → assembly_of (drop 14 (listing_of 32768 (encoding i))) ≡ Ok (record { origin = 32768; bytes = encoding i }) }
-    ensures reached { (opcode : ℕ) → opcode < 256 → is_jam (row_of opcode).op ≡ false → (line : List ℕ) × (operand : List ℕ) × (assembly_of line ≡ Ok (record { origin = 32768; bytes = opcode ∷ operand })) × (drop 14 (listing_of 32768 (opcode ∷ operand)) ≡ line) }
+    ensures reached { (opcode : ℕ) → opcode < 256 → is_official opcode ≡ true → (line : List ℕ) × (operand : List ℕ) × (assembly_of line ≡ Ok (record { origin = 32768; bytes = opcode ∷ operand })) × (drop 14 (listing_of 32768 (opcode ∷ operand)) ≡ line) }
 {
     lines_are_the_bytes();
     printed_numbers_have_no_line_feed();

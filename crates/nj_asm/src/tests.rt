@@ -15,6 +15,18 @@ fn a_source_is_listed(rt: HostRuntime) -> Result<(), Fail> {
     Ok(())
 }
 
+// An unofficial opcode has a line in the listing, and no statement.
+#[test]
+fn unofficial_opcodes_are_listed_alone(rt: HostRuntime) -> Result<(), Fail> {
+    let text = list(rt.alloc(), &[0xA7, 0x10], 0x8000)?;
+    assert_eq!(rt; text.as_slice(), b"8000 A7 10    LAX $10\n");
+    assert_eq!(rt;
+        assemble(rt.alloc(), b"LAX $10").err(),
+        Some(AsmRefused::UnknownOp { line: 1 })
+    );
+    Ok(())
+}
+
 #[test]
 fn sources_are_refused(rt: HostRuntime) -> Result<(), Fail> {
     for (source, refused) in [

@@ -1,5 +1,5 @@
--- The grammar of a source, line by line. Mnemonics, modes and opcodes are those of the NMOS 6502 (MOS Technology, MCS6500
--- Family Programming Manual); the spelling of the rest is our own, after the usual assemblers.
+-- The grammar of a source, line by line. Mnemonics, modes and opcodes are the official ones of the NMOS 6502 (MOS
+-- Technology, MCS6500 Family Programming Manual); the spelling of the rest is our own, after the usual assemblers.
 use Rattle.std.specs.Prelude.{ℕ, zero, suc, ◌+◌, ◌==◌, Bool, true, false, ◌&&◌, not, nat_lt, List, [], ◌∷◌, length, take, drop, map, codes, min, if◌then◌else◌, Option, Some, None, is_some}
 use Rattle.std.specs.Char.{is_digit, to_ascii_lowercase}
 use Rattle.std.specs.List.{list_all, position_or_len, slice_split}
@@ -12,7 +12,7 @@ use Rattle.nj_isa.specs.declared.table.OpRow.{OpRow}
 use Rattle.nj_isa.specs.declared.modes.Mode.{Mode}
 use Rattle.nj_isa.specs.declared.modes.Mode.TheVariants.{Implied, Accumulator, Immediate, Zp, ZpX, ZpY, Abs, AbsX, AbsY, IndX, IndY, Indirect, Relative}
 use Rattle.nj_isa.specs.Names.{name_of}
-use Rattle.nj_isa.specs.Table.{row_of}
+use Rattle.nj_isa.specs.Table.{row_of, is_official}
 use Rattle.nj_asm_lines.specs.declared.syntax.Value.{Value}
 use Rattle.nj_asm_lines.specs.declared.syntax.Value.TheVariants.{Literal, Label, Low, High}
 use Rattle.nj_asm_lines.specs.declared.syntax.Form.{Form}
@@ -121,22 +121,26 @@ is_mode (Some wanted) mode = number_of wanted == number_of mode
 abbrev pub is_spelled : List ℕ → List ℕ → Bool
 is_spelled word mnemonic = bytes_eq (map to_ascii_lowercase word) (map to_ascii_lowercase mnemonic)
 
--- an opcode of the mnemonic in the mode
+-- a row of the mnemonic and the mode
 abbrev pub is_row : List ℕ → Option Mode → OpRow → Bool
 is_row word wanted row = is_spelled word (name_of row.op) && is_mode wanted row.mode
+
+-- an official opcode of the mnemonic in the mode
+abbrev pub is_code : List ℕ → Option Mode → ℕ → Bool
+is_code word wanted code = is_official code && is_row word wanted (row_of code)
 
 -- the first of so many numbers from here on that passes
 unfoldable pub first_code : (ℕ → Bool) → ℕ → ℕ → Option ℕ
 first_code test at zero = None
 first_code test at (suc left) = if test at then Some at else first_code test (at + 1) left
 
--- the opcode of a mnemonic in a mode (NESdev Wiki, "CPU unofficial opcodes", the table of all opcodes)
+-- the official opcode of a mnemonic in a mode (NESdev Wiki, "6502 instructions")
 unfoldable pub opcode_of : List ℕ → Option Mode → Option ℕ
-opcode_of word wanted = first_code (λ code. is_row word wanted (row_of code)) 0 256
+opcode_of word wanted = first_code (is_code word wanted) 0 256
 
--- an official mnemonic: one that the table has, but the mark of the jams
+-- an official mnemonic: one that an official opcode has
 unfoldable pub is_mnemonic : List ℕ → Bool
-is_mnemonic word = is_some (opcode_of word None) && not (is_spelled word (codes "JAM"))
+is_mnemonic word = is_some (opcode_of word None)
 
 -- an opcode in its mode, or the next
 abbrev pub coded_or : Mode → Option ℕ → Option (ℕ × Mode) → Option (ℕ × Mode)

@@ -1,11 +1,11 @@
-//! The opcode of a mnemonic in a mode.
+//! The official opcode of a mnemonic in a mode.
 
 ghost use Rattle.std.specs.Prelude.{◌≡◌, ◌-◌, ◌<◌, ◌≤◌, ◌==◌, map, Some, option_copied, IfSome};
 ghost use Rattle.nj_isa.specs.Names.{name_of};
-ghost use Rattle.nj_isa.specs.Table.{row_of};
-ghost use Rattle.nj_asm_lines.specs.Grammar.{number_of, is_mode, is_spelled, is_row, opcode_of, is_mnemonic, coded};
+ghost use Rattle.nj_isa.specs.Table.{row_of, is_official};
+ghost use Rattle.nj_asm_lines.specs.Grammar.{number_of, is_mode, is_spelled, is_row, is_code, opcode_of, is_mnemonic, coded};
 
-use nj_isa::{Mode, OpRow, op_name, op_row};
+use nj_isa::{Mode, OpRow, official, op_name, op_row};
 
 fn number_of(mode: Mode) -> u8
     ensures { result ≡ number_of mode }
@@ -48,12 +48,18 @@ fn is_row(word: &[u8], wanted: Option<Mode>, row: OpRow) -> bool
     is_spelled(word, op_name(row.op).as_bytes()) && is_mode(wanted, row.mode)
 }
 
+fn is_code(word: &[u8], wanted: Option<Mode>, code: u8) -> bool
+    ensures { result ≡ is_code word.now wanted code }
+{
+    official(code) && is_row(word, wanted, op_row(code))
+}
+
 #[tactic(auto, unfolding(crate::specs::Grammar::opcode_of))]
 fn opcode_of(word: &[u8], wanted: Option<Mode>) -> Option<u8>
     ensures { result ≡ opcode_of word.now wanted }
 {
     for code in 0..256u16 {
-        if is_row(word, wanted, op_row(code as u8)) {
+        if is_code(word, wanted, code as u8) {
             return Some(code as u8);
         }
     }
@@ -65,7 +71,7 @@ fn opcode_of(word: &[u8], wanted: Option<Mode>) -> Option<u8>
 pub fn is_mnemonic(word: &[u8]) -> bool
     ensures { result ≡ is_mnemonic word.now }
 {
-    opcode_of(word, None).is_some() && !is_spelled(word, b"JAM")
+    opcode_of(word, None).is_some()
 }
 
 /// The opcode in the first of the modes that the mnemonic has.

@@ -194,7 +194,7 @@ static ROWS: [(Op, Mode, Kind); 256] = [
     (Op::Dey, Mode::Implied, Kind::Read),
     (Op::Nop, Mode::Immediate, Kind::Read),
     (Op::Txa, Mode::Implied, Kind::Read),
-    (Op::Jam, Mode::Implied, Kind::Read),
+    (Op::Jam, Mode::Implied, Kind::Read), // $8B, ANE: unstable
     (Op::Sty, Mode::Abs, Kind::Write),
     (Op::Sta, Mode::Abs, Kind::Write),
     (Op::Stx, Mode::Abs, Kind::Write),
@@ -202,7 +202,7 @@ static ROWS: [(Op, Mode, Kind); 256] = [
     (Op::Bcc, Mode::Relative, Kind::Read),
     (Op::Sta, Mode::IndY, Kind::Write),
     (Op::Jam, Mode::Implied, Kind::Read),
-    (Op::Jam, Mode::Implied, Kind::Read),
+    (Op::Jam, Mode::Implied, Kind::Read), // $93, SHA: unstable
     (Op::Sty, Mode::ZpX, Kind::Write),
     (Op::Sta, Mode::ZpX, Kind::Write),
     (Op::Stx, Mode::ZpY, Kind::Write),
@@ -210,11 +210,11 @@ static ROWS: [(Op, Mode, Kind); 256] = [
     (Op::Tya, Mode::Implied, Kind::Read),
     (Op::Sta, Mode::AbsY, Kind::Write),
     (Op::Txs, Mode::Implied, Kind::Read),
-    (Op::Jam, Mode::Implied, Kind::Read),
-    (Op::Jam, Mode::Implied, Kind::Read),
+    (Op::Jam, Mode::Implied, Kind::Read), // $9B, TAS: unstable
+    (Op::Jam, Mode::Implied, Kind::Read), // $9C, SHY: unstable
     (Op::Sta, Mode::AbsX, Kind::Write),
-    (Op::Jam, Mode::Implied, Kind::Read),
-    (Op::Jam, Mode::Implied, Kind::Read),
+    (Op::Jam, Mode::Implied, Kind::Read), // $9E, SHX: unstable
+    (Op::Jam, Mode::Implied, Kind::Read), // $9F, SHA: unstable
     (Op::Ldy, Mode::Immediate, Kind::Read),
     (Op::Lda, Mode::IndX, Kind::Read),
     (Op::Ldx, Mode::Immediate, Kind::Read),
@@ -226,7 +226,7 @@ static ROWS: [(Op, Mode, Kind); 256] = [
     (Op::Tay, Mode::Implied, Kind::Read),
     (Op::Lda, Mode::Immediate, Kind::Read),
     (Op::Tax, Mode::Implied, Kind::Read),
-    (Op::Jam, Mode::Implied, Kind::Read),
+    (Op::Jam, Mode::Implied, Kind::Read), // $AB, LXA: unstable
     (Op::Ldy, Mode::Abs, Kind::Read),
     (Op::Lda, Mode::Abs, Kind::Read),
     (Op::Ldx, Mode::Abs, Kind::Read),
@@ -242,7 +242,7 @@ static ROWS: [(Op, Mode, Kind); 256] = [
     (Op::Clv, Mode::Implied, Kind::Read),
     (Op::Lda, Mode::AbsY, Kind::Read),
     (Op::Tsx, Mode::Implied, Kind::Read),
-    (Op::Jam, Mode::Implied, Kind::Read),
+    (Op::Jam, Mode::Implied, Kind::Read), // $BB, LAS: unstable
     (Op::Ldy, Mode::AbsX, Kind::Read),
     (Op::Lda, Mode::AbsX, Kind::Read),
     (Op::Ldx, Mode::AbsY, Kind::Read),

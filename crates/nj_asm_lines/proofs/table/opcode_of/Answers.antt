@@ -1,26 +1,22 @@
--- The first code whose row has the mnemonic and the mode.
-use Rattle.std.proofs.Common.{sym, ap, ◌∙◌, arith}
-use Rattle.nj_isa.specs.declared.table.OpRow.{OpRow}
-use Rattle.nj_isa.specs.Table.{row_of}
-use Rattle.nj_asm_lines.specs.Grammar.{is_row, opcode_of}
+-- The first official code whose row has the mnemonic and the mode.
+use Rattle.std.proofs.Common.{sym, ◌∙◌, arith}
+use Rattle.nj_asm_lines.specs.Grammar.{is_code, opcode_of}
 use Rattle.nj_asm_lines.proofs.TableLemmas.{first_code_found, first_code_next, first_code_none}
 use Rattle.nj_asm_lines.proofs.table.opcode_of.Goals as goal
 
-pub returns-then-is_row : goal.returns-then-is_row
+pub returns-then-is_code : goal.returns-then-is_code
 unfolding opcode_of
-returns-then-is_row c =
+returns-then-is_code c =
     sym (c.loop-code.invariant
-    ∙ first_code_found (λ code. is_row c.args.word.now c.args.wanted (row_of code)) c.loop-code.code (omega arith)
-    (sym (ap (λ (row : OpRow). is_row c.args.word.now c.args.wanted row) c.op_row.ensures) ∙ sym c.is_row.ensures ∙ c.if-is_row.true))
+    ∙ first_code_found (is_code c.args.word.now c.args.wanted) c.loop-code.code (omega arith) (sym c.is_code.ensures ∙ c.if-is_code.true))
 
 pub loop-code-preserved : goal.loop-code-preserved
 loop-code-preserved c =
     c.loop-code.invariant
-    ∙ first_code_next (λ code. is_row c.args.word.now c.args.wanted (row_of code)) c.loop-code.code (omega arith)
-    (sym (ap (λ (row : OpRow). is_row c.args.word.now c.args.wanted row) c.op_row.ensures) ∙ sym c.is_row.ensures ∙ c.if-is_row.false)
+    ∙ first_code_next (is_code c.args.word.now c.args.wanted) c.loop-code.code (omega arith) (sym c.is_code.ensures ∙ c.if-is_code.false)
 
 pub returns : goal.returns
 unfolding opcode_of
 returns c =
     sym (c.loop-code.invariant
-    ∙ first_code_none (λ code. is_row c.args.word.now c.args.wanted (row_of code)) c.loop-code.code (omega arith))
+    ∙ first_code_none (is_code c.args.word.now c.args.wanted) c.loop-code.code (omega arith))
