@@ -201,19 +201,39 @@ mod tests {
     use std::alloc::{AllocError, Global};
     use std::test::Fail;
 
-    // A memory of this many zeros with these bytes at their places.
-    fn memory(alloc: Global, size: usize, bytes: &[(usize, u8)]) -> Result<Vec<u8>, AllocError> {
-        let mut memory = vec![in alloc; 0; size]?;
-        for (place, byte) in bytes {
-            if let Some(cell) = memory.get_mut(*place) {
-                *cell = *byte;
-            }
-        }
-        Ok(memory)
+    // UxROM with two banks and this byte at $FFF0.
+    fn uxrom(alloc: Global, under: u8) -> Result<Banked, AllocError> {
+        let mut prg = vec![in alloc; 0; 0x8000]?;
+        prg[0] = 0x11;
+        prg[0x4000] = 0xA9;
+        prg[0x7FF0] = under;
+        let chr = vec![in alloc; 0; 0x2000]?;
+        Ok(Banked::new(prg, chr, true, 2))
     }
 
-    // What a board shows at $8000, at $C000 and at the first byte of the picture's memory, after $FF is written at $FFF0.
-    fn shown_after_write<B: Board>(board: &mut B) -> (Option<u8>, Option<u8>, u8, u8) {
+    // CNROM with two banks and this byte at $FFF0.
+    fn cnrom(alloc: Global, under: u8) -> Result<Banked, AllocError> {
+        let mut prg = vec![in alloc; 0; 0x4000]?;
+        prg[0] = 0xA9;
+        prg[0x3FF0] = under;
+        let mut chr = vec![in alloc; 0; 0x4000]?;
+        chr[0] = 0x21;
+        chr[0x2000] = 0x42;
+        Ok(Banked::new(prg, chr, false, 3))
+    }
+
+    // NROM with 16 KiB of program memory and the byte $FF at $FFF0.
+    fn nrom(alloc: Global) -> Result<Banked, AllocError> {
+        let mut prg = vec![in alloc; 0; 0x4000]?;
+        prg[0] = 0x11;
+        prg[0x3FF0] = 0xFF;
+        let mut chr = vec![in alloc; 0; 0x2000]?;
+        chr[0] = 0x21;
+        Ok(Banked::fixed(prg, chr, false))
+    }
+
+    // The bytes at $8000 and $C000, the picture's first and the bank, after $FF is written at $FFF0.
+    fn after_write<B: Board>(board: &mut B) -> (Option<u8>, Option<u8>, u8, u8) {
         board.cpu_write(0xFFF0, 0xFF);
         board.put_pattern(1, 0x17);
         let first = board.pattern()[0];
@@ -229,12 +249,8 @@ mod tests {
     #[test]
     fn uxrom_has_two_windows(rt: HostRuntime) -> Result<(), Fail> {
         for (under, low, bank) in [(0x01, 0xA9, 1), (0x00, 0x11, 0), (0xFE, 0x11, 0)] {
-            let bytes = [(0, 0x11), (0x4000, 0xA9), (0x7FF0, under)];
-            let prg = memory(rt.alloc(), 0x8000, bytes.as_slice())?;
-            let chr = memory(rt.alloc(), 0x2000, [].as_slice())?;
-            let mut board = Banked::new(prg, chr, true, 2);
-            let want = (Some(low), Some(0xA9), 0, bank);
-            assert_eq!(rt; shown_after_write(&mut board), want);
+            let mut board = uxrom(rt.alloc(), under)?;
+            assert_eq!(rt; after_write(&mut board), (Some(low), Some(0xA9), 0, bank));
             assert_eq!(rt; board.pattern()[1], 0x17);
         }
         Ok(())
@@ -243,24 +259,20 @@ mod tests {
     #[test]
     fn cnrom_has_one_window(rt: HostRuntime) -> Result<(), Fail> {
         for (under, first, bank) in [(0x01, 0x42, 1), (0x00, 0x21, 0)] {
-            let prg = memory(rt.alloc(), 0x4000, [(0, 0xA9), (0x3FF0, under)].as_slice())?;
-            let chr = memory(rt.alloc(), 0x4000, [(0, 0x21), (0x2000, 0x42)].as_slice())?;
-            let mut board = Banked::new(prg, chr, false, 3);
-            let want = (Some(0xA9), Some(0xA9), first, bank);
-            assert_eq!(rt; shown_after_write(&mut board), want);
-            board.set_bank(0);
-            assert_eq!(rt; board.pattern()[0], 0x21);
+            let mut board = cnrom(rt.alloc(), under)?;
+            assert_eq!(rt;
+                after_write(&mut board),
+                (Some(0xA9), Some(0xA9), first, bank)
+            );
+            assert_eq!(rt; board.pattern()[1], 0);
         }
         Ok(())
     }
 
     #[test]
     fn nrom_has_one_bank(rt: HostRuntime) -> Result<(), Fail> {
-        let prg = memory(rt.alloc(), 0x4000, [(0, 0x11), (0x3FF0, 0xFF)].as_slice())?;
-        let chr = memory(rt.alloc(), 0x2000, [(0, 0x21)].as_slice())?;
-        let mut board = Banked::fixed(prg, chr, false);
-        let want = (Some(0x11), Some(0x11), 0x21, 0);
-        assert_eq!(rt; shown_after_write(&mut board), want);
+        let mut board = nrom(rt.alloc())?;
+        assert_eq!(rt; after_write(&mut board), (Some(0x11), Some(0x11), 0x21, 0));
         assert_eq!(rt; board.cpu_read(0x7FFF), None);
         Ok(())
     }
