@@ -1,9 +1,9 @@
 -- Lemmas on the cartridge that a file holds.
-use Rattle.std.proofs.Common.{ℕ, ◌≡◌, ◌⊎◌, inl, inr, ◌≤◌, ◌<◌, ◌+◌, ◌*◌, ◌==◌, ◌||◌, Bool, true, false, cond, List, length, refl, sym, ap, ◌∙◌, subst, arith, length-drop, length-take}
+use Rattle.std.proofs.Common.{ℕ, ◌≡◌, ◌⊎◌, inl, inr, ◌≤◌, ◌+◌, ◌*◌, ◌==◌, ◌||◌, Bool, true, false, cond, List, length, refl, sym, ap, ◌∙◌, subst, arith, length-drop, length-take}
 use Rattle.std.specs.Prelude.{replicate, slice_range, slice_index}
 use Rattle.std.specs.Int.{bit_at}
-use Rattle.std.proofs.lemmas.Bool.{eqb-true, eqb-false, cond-true}
-use Rattle.nj_ines.specs.Cartridge.{Cartridge, IsNrom, IsUxrom, IsCnrom, IsCartridge}
+use Rattle.std.proofs.lemmas.Bool.{eqb-true, cond-true}
+use Rattle.nj_ines.specs.Cartridge.{IsNrom, IsUxrom, IsCnrom, IsCartridge}
 use Rattle.nj_ines.specs.Header.{mapper_of, chr_units_of, prg_units_of, prg_end}
 use Rattle.nj_ines.specs.Reading.{is_board, has_prg, has_chr, contents_of, IsReadable}
 
