@@ -22,5 +22,3 @@ pub use nj_asm_lines::{Fault, Line};
 pub use nj_seq::Seq;
 pub use refusals::AsmRefused;
 
-#[cfg(test)]
-mod tests;

@@ -15,5 +15,3 @@ mod words;
 pub use source::read_lines;
 pub use syntax::{Cell, Fault, Form, Line, Operand, Statement, Value};
 
-#[cfg(test)]
-mod tests;

@@ -23,5 +23,3 @@ pub use nj_isa::Bus;
 pub use state::{Cpu, Note, UnitEnd};
 pub use units::{power_on, unit};
 
-#[cfg(test)]
-mod tests;

@@ -1,4 +1,4 @@
-use super::*;
+use nj_asm_lines::{Fault, Statement, read_lines};
 use std::test::Fail;
 
 #[test]

@@ -2,7 +2,10 @@
 
 ghost use Rattle.std.specs.Prelude.{◌≡◌, ◌+◌, ◌==◌, ℕ, List, Bool, Option, None, slice_index, min};
 
-use super::*;
+use nj_cpu::{
+    Bus, Cpu, Flags, Note, UnitEnd, cycles_are_published, instructions_go_on_behind_themselves,
+    jams_are_those_of_the_table, power_on, pulled_a_is_pushed_a, returns_come_back_behind_calls, unit,
+};
 
 /// Answers the n-th access, if it is a read, by the n-th byte of `answers`.
 #[derive(Drop)]
