@@ -15,6 +15,7 @@ with_calm s e = record s {
   position = e.position;
   odd_frame = e.odd_frame;
   sprite_zero_hit = e.sprite_zero_hit;
+  sprite_overflow = e.sprite_overflow;
   near = e.near;
   scroll = (let c = s.scroll in record c { v = e.scroll.v });
   oam_address = e.oam_address;

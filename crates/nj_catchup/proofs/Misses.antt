@@ -195,7 +195,7 @@ row-dot p s apart aside =
     ap (λ e. e.sprite_row) (dot-apart p s apart ∙ moves.same) ∙ here.row ∙ raised-row s
 
 -- dots before an event
-no-event : (k : ℕ) (p : List ℕ) (s : Screen) → IsScreen s → suc k < to_event s → IsEvent (after_dots k p s) → ⊥
+pub no-event : (k : ℕ) (p : List ℕ) (s : Screen) → IsScreen s → suc k < to_event s → IsEvent (after_dots k p s) → ⊥
 no-event k p s fits below at =
     let left : to_event (after_dots k p s) + k ≡ to_event s = to_event-after k p s fits (omega (arith, below)) in
     let one : to_event (after_dots k p s) ≡ 1 = event-one (after_dots k p s) at in absurd (omega (arith, one, left, below))
@@ -258,7 +258,7 @@ along-dot p s from n within h = elim (cases_Bool (is_last_dot s)) [
       ])
 ]
 
-along : (n : ℕ) (p : List ℕ) (s : Screen) → IsScreen s → IsAlong s.position.dot n (after_dots n p s).position.dot
+pub along : (n : ℕ) (p : List ℕ) (s : Screen) → IsScreen s → IsAlong s.position.dot n (after_dots n p s).position.dot
 unfolding after_dots
 along zero p s fits = inl (omega arith)
 along (suc n) p s fits =

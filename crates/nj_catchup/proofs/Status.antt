@@ -1,4 +1,4 @@
--- A read of $2002 and dots before an event may change places, where no dot raises the hit flag.
+-- A read of $2002 and dots before an event may change places, where no dot raises the hit flag or the overflow flag.
 use Rattle.std.proofs.Common.{◌≡◌, ℕ, zero, suc, ◌+◌, ◌<◌, Bool, true, false, ◌&&◌, ◌||◌, ◌%◌, ◌==◌, if◌then◌else◌, nat_le, List, refl, ap, sym, ◌∙◌, subst, arith, inl, inr}
 use Rattle.std.proofs.lemmas.Bool.{eq-eqb}
 use Rattle.nj_dots.specs.declared.scroll.Scroll.{Scroll}
@@ -131,23 +131,27 @@ status-taken s apart =
     ap (λ b. record s { latch = status_byte s; vertical_blank = false; scroll = (let c = s.scroll in record c { w = false }); hold = s.hold || b }) apart
     ∙ ap (λ b. record s { latch = status_byte s; vertical_blank = false; scroll = (let c = s.scroll in record c { w = false }); hold = b }) (or-false s.hold)
 
--- the byte stands where the hit flag does
-pub status_byte-after : (k : ℕ) (p : List ℕ) (s : Screen) → IsScreen s → k < to_event s → (after_dots k p s).sprite_zero_hit ≡ s.sprite_zero_hit → status_byte (after_dots k p s) ≡ status_byte s
+-- the byte stands where the two flags do
+pub status_byte-after : (k : ℕ) (p : List ℕ) (s : Screen) → IsScreen s → IsSteady k p s → status_byte (after_dots k p s) ≡ status_byte s
 unfolding status_byte
-status_byte-after k p s fits below steady =
-    let h : Calm s (after_dots k p s) = calm-after k p s fits below in
-    ap status_byte h.same ∙ ap (λ b. status_byte (record s { sprite_zero_hit = b })) steady
-
--- a read with dots pending, none of which raises the hit flag nor stands before (241,1), is a read before them
-pub status-after : (k : ℕ) (p : List ℕ) (s : Screen) → IsScreen s → k + 1 < to_event s → (after_dots k p s).sprite_zero_hit ≡ s.sprite_zero_hit → after_dots k p (after_status s) ≡ after_status (after_dots k p s)
-status-after k p s fits below steady =
+status_byte-after k p s fits steady =
     let e : Screen = after_dots k p s in
+    let h : Calm s e = calm-after k p s fits (omega (arith, steady.apart)) in
+    ap status_byte h.same
+    ∙ ap (λ b. status_byte (record s { sprite_zero_hit = b; sprite_overflow = e.sprite_overflow })) steady.hit
+    ∙ ap (λ b. status_byte (record s { sprite_overflow = b })) steady.overflow
+
+-- a read with dots pending, none of which raises either flag nor stands before (241,1), is a read before them
+pub status-after : (k : ℕ) (p : List ℕ) (s : Screen) → IsScreen s → IsSteady k p s → after_dots k p (after_status s) ≡ after_status (after_dots k p s)
+status-after k p s fits steady =
+    let e : Screen = after_dots k p s in
+    let below : k + 1 < to_event s = steady.apart in
     let left : to_event e + k ≡ to_event s = to_event-after k p s fits (omega (arith, below)) in
     let here : is_next 241 1 s ≡ false = not-next 241 1 s (λ at. (let one : to_event s ≡ 1 = event-one s (inl at) in absurd (omega (arith, one, below)))) in
     let there : is_next 241 1 e ≡ false = not-next 241 1 e (λ at. (let one : to_event e ≡ 1 = event-one e (inl at) in absurd (omega (arith, one, left, below)))) in
     ap (after_dots k p) (status-taken s here)
     ∙ taken-after (status_byte s) k p s fits (omega (arith, below))
-    ∙ ap (λ n. status_taken n e) (sym (status_byte-after k p s fits (omega (arith, below)) steady))
+    ∙ ap (λ n. status_taken n e) (sym (status_byte-after k p s fits steady))
     ∙ sym (status-taken e there)
 
 -- the hit flag after a dot that is no event
@@ -194,8 +198,8 @@ read-untimed reg p s e two is = subst (Untimed s) (sym (is ∙ read-two reg p s 
 -- a read that the pending dots do not change
 pub steady-byte : (reg k : ℕ) (p : List ℕ) (s : Screen) → IsScreen s → reg ≡ 2 → IsSteady k p s → read_byte reg s ≡ read_byte reg (after_dots k p s)
 steady-byte reg k p s fits two h =
-    byte-two reg s two ∙ sym (status_byte-after k p s fits (omega (arith, h.apart)) h.hit) ∙ sym (byte-two reg (after_dots k p s) two)
+    byte-two reg s two ∙ sym (status_byte-after k p s fits h) ∙ sym (byte-two reg (after_dots k p s) two)
 
 pub steady-read : (reg k : ℕ) (p q : List ℕ) (s : Screen) → IsScreen s → reg ≡ 2 → IsSteady k p s → after_dots k p (after_read reg q s) ≡ after_read reg q (after_dots k p s)
 steady-read reg k p q s fits two h =
-    ap (after_dots k p) (read-two reg q s two) ∙ status-after k p s fits h.apart h.hit ∙ sym (read-two reg q (after_dots k p s) two)
+    ap (after_dots k p) (read-two reg q s two) ∙ status-after k p s fits h ∙ sym (read-two reg q (after_dots k p s) two)

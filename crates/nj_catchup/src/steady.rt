@@ -3,9 +3,11 @@
 ghost use Rattle.std.specs.Prelude.{◌≡◌, ◌≤◌, ◌<◌, ◌+◌, ◌*◌, ℕ, List, true, false, Some, None};
 ghost use Rattle.nj_dots.specs.Screen.{IsScreen};
 ghost use Rattle.nj_dots.specs.Dots.{after_dots, is_hit_pixel, to_event};
+ghost use Rattle.nj_dots.specs.Laws.{IsOverflow};
 ghost use Rattle.nj_catchup.specs.Steady.{IsAlong, IsAside, IsSteady};
 
 use crate::visible::shows_both_layers;
+use nj_dots::laws::sprite_overflow_is_timed;
 use nj_dots::{Position, Screen};
 use nj_sprite0::SpriteRow;
 
@@ -16,7 +18,40 @@ pub fn is_steady(screen: &Screen, dots: u32) -> bool
     ensures { (p : List ℕ) → result ≡ true → IsSteady dots p screen.now }
 {
     dots + 1 < screen.dots_to_event()
-        && (screen.sprite_zero_hit || (!screen.near && has_no_hit(screen, dots)))
+        && keeps_hit(screen, dots)
+        && keeps_overflow(screen, dots)
+}
+
+// None of the next dots raises the hit flag.
+fn keeps_hit(screen: &Screen, dots: u32) -> bool
+    requires fits { IsScreen screen.now }
+    requires before_event { dots < to_event screen.now }
+    ensures { (p : List ℕ) → result ≡ true
+        → (after_dots dots p screen.now).sprite_zero_hit ≡ screen.now.sprite_zero_hit }
+{
+    screen.sprite_zero_hit || (!screen.near && has_no_hit(screen, dots))
+}
+
+// None of the next dots raises the overflow flag.
+fn keeps_overflow(screen: &Screen, dots: u32) -> bool
+    requires fits { IsScreen screen.now }
+    requires before_event { dots < to_event screen.now }
+    ensures { (p : List ℕ) → result ≡ true
+        → (after_dots dots p screen.now).sprite_overflow ≡ screen.now.sprite_overflow }
+{
+    sprite_overflow_is_timed();
+    screen.sprite_overflow || counts_no_sprites(screen, dots)
+}
+
+// None of the next dots counts the sprites of a line.
+fn counts_no_sprites(screen: &Screen, dots: u32) -> bool
+    requires fits { IsScreen screen.now }
+    requires before_event { dots < to_event screen.now }
+    ensures { (p : List ℕ) (n : ℕ) → result ≡ true → n < dots → IsOverflow (after_dots n p screen.now) → ⊥ }
+{
+    !screen.is_rendering()
+        || stays_below(screen.position, dots)
+        || dots <= dots_to_latch(screen.position.dot)
 }
 
 // The pixel of none of the next dots is a hit.
@@ -51,7 +86,7 @@ fn dots_to_hit(screen: &Screen) -> u32
     }
 }
 
-// The same where no row is latched.
+// How many dots there are up to the one that latches a row and counts sprites.
 fn dots_to_latch(dot: u16) -> u32
     requires { dot < 341 }
     ensures { (n d : ℕ) → n < result → IsAlong dot n d → IsAside None d }

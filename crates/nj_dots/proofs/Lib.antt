@@ -6,10 +6,10 @@ pub mod Parts
 pub mod Stored
 pub mod Timing
 pub mod Moving
-pub mod Left
 pub mod Frames
 pub mod Events
 pub mod Flags
+pub mod Overflow
 pub mod Steps
 pub mod Images
 pub mod Address

@@ -1,5 +1,5 @@
--- What the work of a dot on its line leaves as it is: all but `near`, v, the OAM address, the shift register and the
--- sprite row.
+-- What the work of a dot on its line leaves as it is: all but `near`, v, the OAM address, the shift register, the
+-- overflow flag and the sprite row.
 use Rattle.std.proofs.Common.{◌≡◌, ℕ, Bool, true, false, if◌then◌else◌, List, refl, ap, ◌∙◌, ◌==◌, ◌&&◌, nat_le}
 use Rattle.nj_dots.specs.declared.scroll.Scroll.{Scroll}
 use Rattle.nj_dots.specs.declared.screen.Screen.{Screen}
@@ -9,6 +9,7 @@ use Rattle.nj_dots.specs.Dots.{pixel, tile_fetched, line_ended, tile_ended, latc
 -- the first picture with what a line's work may change, taken from the second
 abbrev pub with_drawn : Screen → Screen → Screen
 with_drawn s e = record s {
+  sprite_overflow = e.sprite_overflow;
   near = e.near;
   scroll = (let c = s.scroll in record c { v = e.scroll.v });
   oam_address = e.oam_address;

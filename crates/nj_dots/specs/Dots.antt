@@ -1,9 +1,9 @@
 -- What each dot does (NESdev Wiki, "PPU rendering", "PPU scrolling" and "NMI"). The dots at which `near` changes and
--- the hit flag rises, the hold, the one act that latches sprite zero at dot 257 and the fetch of a tile's row as one
--- act are this project's own.
+-- the hit flag rises, the hold, the one act that latches sprite zero and counts sprites at dot 257 and the fetch of a
+-- tile's row as one act are this project's own.
 use Rattle.std.specs.Prelude.{ℕ, zero, suc, ◌+◌, ◌-◌, ◌*◌, ◌/◌, ◌%◌, ◌^◌, Bool, true, false, not, ◌&&◌, ◌||◌, ◌==◌, nat_lt, nat_le, if◌then◌else◌, List, None}
 use Rattle.nj_vram.specs.Home.{got}
-use Rattle.nj_sprite0.specs.Sprite.{has_bit, opaque_row, sprite_row_of, shows_at}
+use Rattle.nj_sprite0.specs.Sprite.{has_bit, opaque_row, in_range_of, sprite_row_of, shows_at}
 use Rattle.nj_dots.specs.declared.position.Position.{Position}
 use Rattle.nj_dots.specs.declared.scroll.Scroll.{Scroll}
 use Rattle.nj_dots.specs.declared.screen.Screen.{Screen}
@@ -77,12 +77,19 @@ tile_ended pattern s =
     if s.position.dot == 256 then line_ended pattern s
     else (if s.position.dot % 8 == 0 then tile_fetched pattern s else s)
 
--- dot 257: the horizontal bits are copied, the OAM address becomes 0, the row of sprite zero is latched
+-- a visible line has more sprites than the eight that it can show (NESdev Wiki, "PPU sprite evaluation", "Sprite
+-- overflow"; all 64 are counted, which is this project's own)
+unfoldable pub overflows : List ℕ → ℕ → ℕ → Bool
+overflows oam control line = nat_lt line 240 && nat_le 9 (in_range_of oam line (has_bit control 5))
+
+-- dot 257: the horizontal bits are copied, the OAM address becomes 0, the row of sprite zero is latched, the overflow
+-- flag rises where the line has too many sprites
 unfoldable pub latched : List ℕ → Screen → Screen
 latched pattern s =
     record s {
       scroll = (let c = s.scroll in record c { v = with_horizontal c.t c.v });
       oam_address = 0;
+      sprite_overflow = s.sprite_overflow || overflows s.oam s.control s.position.line;
       sprite_row = sprite_row_of (first_sprite s.oam) s.position.line (has_bit s.control 5) (has_bit s.control 3) pattern;
     }
 

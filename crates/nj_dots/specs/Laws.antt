@@ -1,5 +1,6 @@
 -- What the definitions of dots and accesses mean, in the words of the NESdev Wiki.
-use Rattle.std.specs.Prelude.{◌≡◌, ℕ, zero, suc, ◌+◌, ◌-◌, ◌*◌, ◌/◌, ◌%◌, ◌<◌, ◌≤◌, false, ◌&&◌, ◌⊎◌, if◌then◌else◌}
+use Rattle.std.specs.Prelude.{◌≡◌, ℕ, zero, suc, ◌+◌, ◌-◌, ◌*◌, ◌/◌, ◌%◌, ◌<◌, ◌≤◌, true, false, ◌&&◌, ◌⊎◌, if◌then◌else◌}
+use Rattle.nj_sprite0.specs.Sprite.{has_bit, in_range_of}
 use Rattle.nj_dots.specs.declared.screen.Screen.{Screen}
 use Rattle.nj_dots.specs.Screen.{is_rendering, shows_left_columns}
 
@@ -58,3 +59,11 @@ other_across v = v / 2048 * 2048 + (1 - v / 1024 % 2) * 1024 + v % 1024
 -- the same place of the other nametable down, with bit 11 turned
 unfoldable pub other_down : ℕ → ℕ
 other_down v = v / 4096 * 4096 + (1 - v / 2048 % 2) * 2048 + v % 2048
+
+-- dot 257 of a visible line is next, with rendering on, and the line is one of at least nine sprites (bit 5 of $2000
+-- makes them tall)
+pub record IsOverflow (s : Screen) : Type 0 where
+  pub line : s.position.line < 240
+  pub dot : s.position.dot ≡ 257
+  pub renders : is_rendering s.mask ≡ true
+  pub sprites : 9 ≤ in_range_of s.oam s.position.line (has_bit s.control 5)

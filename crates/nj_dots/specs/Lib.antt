@@ -5,5 +5,4 @@ pub mod Screen
 pub mod Dots
 pub mod Registers
 pub mod Image
-pub mod Frame
 pub mod Laws

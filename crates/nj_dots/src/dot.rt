@@ -3,11 +3,11 @@
 ghost use Rattle.std.specs.Prelude.{◌≡◌, ◌+◌, ◌≤◌, ◌<◌, length};
 ghost use Rattle.nj_dots.specs.Screen.{IsPlaced, IsScreen, first_sprite};
 ghost use Rattle.nj_sprite0.specs.Sprite.{shows_at};
-ghost use Rattle.nj_dots.specs.Dots.{background_bit, dot_of, drawn, fetch_place, fetched_row, flagged, hidden, is_hit_pixel, is_drawn_line, is_last_dot, is_shown_column, latched, moved, pixel, prefetched, raised, shown, sprites_fetched, tile_ended, tile_fetched};
+ghost use Rattle.nj_dots.specs.Dots.{background_bit, dot_of, drawn, fetch_place, fetched_row, flagged, hidden, is_hit_pixel, is_drawn_line, is_last_dot, is_shown_column, latched, moved, overflows, pixel, prefetched, raised, shown, sprites_fetched, tile_ended, tile_fetched};
 
 use crate::position::Position;
 use crate::screen::{Screen, shows_both_layers, shows_left_columns};
-use nj_sprite0::{has_bit, opaque_row, sprite_row};
+use nj_sprite0::{has_bit, in_range, opaque_row, sprite_row};
 
 impl Screen {
     /// Runs the next dot.
@@ -177,7 +177,7 @@ impl Screen {
         opaque_row(pattern, fetch_place(self.control, tile, self.scroll.v))
     }
 
-    // Dot 257: horizontal bits, OAM address, the row of sprite zero.
+    // Dot 257: horizontal bits, OAM address, overflow, the row of sprite zero.
     #[tactic(auto, unfolding(crate::specs::Dots::latched, crate::specs::Screen::first_sprite))]
     fn latch_sprite(&mut self, pattern: &[u8])
         requires { length pattern.now ≡ 8192 }
@@ -185,9 +185,19 @@ impl Screen {
     {
         self.scroll.copy_x();
         self.oam_address = 0;
+        self.sprite_overflow = self.sprite_overflow || self.overflows();
         let first = [self.oam[0], self.oam[1], self.oam[2], self.oam[3]];
         let (tall, high_table) = (has_bit(self.control, 5), has_bit(self.control, 3));
         self.sprite_row = sprite_row(&first, self.position.line, tall, high_table, pattern);
+    }
+
+    // The line is visible and has more sprites than it can show.
+    #[tactic(auto, unfolding(crate::specs::Dots::overflows))]
+    fn overflows(&self) -> bool
+        ensures { result ≡ overflows self.now.oam self.now.control self.now.position.line }
+    {
+        let line = self.position.line;
+        line < 240 && in_range(&self.oam, line, has_bit(self.control, 5)) >= 9
     }
 
     // Dots 258 to 320: OAM address, and on the pre-render line the vertical bits.

@@ -7,7 +7,7 @@ ghost use Rattle.nj_dots.specs.Screen.{IsScreen, is_rendering};
 ghost use Rattle.nj_dots.specs.Dots.{after_dots, dot_of, to_event};
 ghost use Rattle.nj_dots.specs.Registers.{after_read, after_write};
 ghost use Rattle.nj_dots.specs.Image.{Holds, picture_bytes, with_picture};
-ghost use Rattle.nj_dots.specs.Laws.{ChangesTimingAlone, IsEvent, IsHitPlace, IsNext, IsStart, frame_length, other_across, other_down, repeated};
+ghost use Rattle.nj_dots.specs.Laws.{ChangesTimingAlone, IsEvent, IsHitPlace, IsNext, IsOverflow, IsStart, frame_length, other_across, other_down, repeated};
 
 /// From (0,0) to the next (0,0), with no access between, there are 89,342 dots, and 89,341 in an odd frame with
 /// rendering on; the parity changes there (NESdev Wiki, "PPU frame timing").
@@ -74,6 +74,17 @@ pub fn mirroring_stays()
 pub fn sprite_zero_hits_are_timed()
     ensures risen { (p : List ℕ) (s : Screen) → s.sprite_zero_hit ≡ false → (dot_of p s).sprite_zero_hit ≡ true → s.near ≡ true }
     ensures near { (p : List ℕ) (s : Screen) → (dot_of p s).near ≡ true → IsHitPlace s }
+{}
+
+/// Of all dots and accesses only dot 257 of a visible line with rendering on raises the overflow flag, where at least
+/// nine sprites have the line as one of theirs, and only dot (261,1) lowers it.
+pub fn sprite_overflow_is_timed()
+    ensures risen { (p : List ℕ) (s : Screen) → s.sprite_overflow ≡ false → (dot_of p s).sprite_overflow ≡ true → IsOverflow s }
+    ensures rises { (p : List ℕ) (s : Screen) → IsOverflow s → (dot_of p s).sprite_overflow ≡ true }
+    ensures fallen { (p : List ℕ) (s : Screen) → s.sprite_overflow ≡ true → (dot_of p s).sprite_overflow ≡ false → IsNext 261 1 s }
+    ensures falls { (p : List ℕ) (s : Screen) → IsNext 261 1 s → (dot_of p s).sprite_overflow ≡ false }
+    ensures read { (reg : ℕ) (p : List ℕ) (s : Screen) → (after_read reg p s).sprite_overflow ≡ s.sprite_overflow }
+    ensures write { (reg value : ℕ) (s : Screen) → (after_write reg value s).sprite_overflow ≡ s.sprite_overflow }
 {}
 
 /// `to_event` counts the dots up to the next one at which the vertical blank flag changes.

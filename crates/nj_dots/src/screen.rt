@@ -22,7 +22,7 @@ pub struct Screen {
     pub mask: u8,
     pub vertical_blank: bool,
     pub sprite_zero_hit: bool,
-    /// Nothing raises it.
+    /// A visible line had at least nine sprites; of all 64 those are counted that have the line as one of theirs.
     pub sprite_overflow: bool,
     /// A read of $2002 just before dot (241,1) keeps the vertical blank flag down at that dot.
     pub hold: bool,

@@ -1,5 +1,6 @@
 -- The row of sprite zero that a line latches (NESdev Wiki, "PPU OAM" and "PPU pattern tables").
-use Rattle.std.specs.Prelude.{ℕ, ◌+◌, ◌-◌, ◌*◌, ◌/◌, ◌%◌, ◌^◌, Bool, true, false, nat_lt, nat_le, ◌==◌, ◌&&◌, if◌then◌else◌, List, slice_index, bit_or, Option, Some, None}
+use Rattle.std.specs.Prelude.{ℕ, ◌+◌, ◌-◌, ◌*◌, ◌/◌, ◌%◌, ◌^◌, Bool, true, false, nat_lt, nat_le, ◌==◌, ◌&&◌, if◌then◌else◌, List, map, count_by, slice_index, bit_or, Option, Some, None}
+use Rattle.std.specs.List.{range_with_len}
 use Rattle.nj_sprite0.specs.declared.row.SpriteRow.{SpriteRow}
 
 -- how many rows a sprite has (NESdev Wiki, "PPU registers", bit 5 of $2000)
@@ -10,6 +11,15 @@ height_of false = 8
 -- a line is one of the sprite's, whose byte 0 is its first line (NESdev Wiki, "PPU sprite evaluation")
 unfoldable pub is_in_range : ℕ → ℕ → Bool → Bool
 is_in_range top line tall = nat_le top line && nat_lt line (top + height_of tall)
+
+-- the first lines of the 64 sprites, byte 0 of each four of OAM (NESdev Wiki, "PPU OAM")
+unfoldable pub tops_of : List ℕ → List ℕ
+tops_of oam = map (λ sprite. slice_index oam (sprite * 4)) (range_with_len 0 64)
+
+-- how many of the 64 sprites have this line as one of theirs (NESdev Wiki, "PPU sprite evaluation"; that all 64 are
+-- counted is this project's own and no statement about the real evaluation)
+unfoldable pub in_range_of : List ℕ → ℕ → Bool → ℕ
+in_range_of oam line tall = count_by (λ top. is_in_range top line tall) (tops_of oam)
 
 -- a bit of a byte is set
 unfoldable pub has_bit : ℕ → ℕ → Bool

@@ -6,7 +6,7 @@ pub mod laws;
 mod row;
 
 pub use hit::meeting;
-pub use row::{SpriteRow, has_bit, opaque_row, sprite_row};
+pub use row::{SpriteRow, has_bit, in_range, opaque_row, sprite_row};
 
 #[cfg(test)]
 mod tests {

@@ -1,7 +1,7 @@
 //! The row of sprite zero that a line latches.
 
 ghost use Rattle.std.specs.Prelude.{◌≡◌, ◌≤◌, ◌<◌, ◌+◌, length, true};
-ghost use Rattle.nj_sprite0.specs.Sprite.{has_bit, height_of, is_in_range, is_opaque_at, opaque_row, reversed, row_number, row_place, shown_bits, sprite_row_of};
+ghost use Rattle.nj_sprite0.specs.Sprite.{has_bit, height_of, in_range_of, is_in_range, is_opaque_at, opaque_row, reversed, row_number, row_place, shown_bits, sprite_row_of};
 
 /// The part of sprite zero that one line shows: its left edge and its eight pixels, bit 7 leftmost.
 #[derive(Clone, Copy, Debug, PartialEq, Eq)]
@@ -75,6 +75,20 @@ fn is_in_range(top: u8, line: u16, tall: bool) -> bool
 {
     let top = u16::from(top);
     top <= line && line < top + height(tall)
+}
+
+/// The number of the 64 sprites of OAM that have `line` as one of theirs, tall ones with 16 lines, the others with 8.
+pub fn in_range(oam: &[u8; 256], line: u16, tall: bool) -> u32
+    ensures count { result ≡ in_range_of oam.now line tall }
+    ensures most { result ≤ 64 }
+{
+    let mut count = 0;
+    for sprite in 0..64 {
+        if is_in_range(oam[sprite * 4], line, tall) {
+            count += 1;
+        }
+    }
+    count
 }
 
 /// The bit of a byte is set.

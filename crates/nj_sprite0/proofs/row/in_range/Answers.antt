@@ -1,0 +1,32 @@
+-- Sprite by sprite.
+use Rattle.std.proofs.Common.{◌≡◌, ℕ, ◌+◌, ap, sym, ◌∙◌, arith}
+use Rattle.nj_sprite0.proofs.Counts.{counted, counted-none, counted-in, counted-out, counted-le, counted-all}
+use Rattle.nj_sprite0.proofs.row.in_range.Goals as goal
+use Rattle.nj_sprite0.proofs.row.in_range.Goals.{then-is_in_range, else-is_in_range}
+
+pub loop-sprite-init : goal.loop-sprite-init
+loop-sprite-init c = sym (counted-none c.args.oam.now c.args.line c.args.tall)
+
+pub overflow_add-count : goal.overflow_add-count
+overflow_add-count c =
+    omega (arith, c.loop-sprite.invariant, counted-le c.args.oam.now c.args.line c.args.tall c.loop-sprite.sprite, c.loop-sprite-test.true)
+
+pub loop-sprite-preserved : goal.loop-sprite-preserved
+loop-sprite-preserved c = elim c.if-is_in_range.branch [
+  | then-is_in_range w ↦
+      w.count-is ∙ ap (λ n. n + 1) c.loop-sprite.invariant
+      ∙ sym (counted-in c.args.oam.now c.args.line c.args.tall c.loop-sprite.sprite (sym c.is_in_range.ensures ∙ w.if-is_in_range.true))
+  | else-is_in_range w ↦
+      w.count-is ∙ c.loop-sprite.invariant
+      ∙ sym (counted-out c.args.oam.now c.args.line c.args.tall c.loop-sprite.sprite (sym c.is_in_range.ensures ∙ w.if-is_in_range.false))
+]
+
+pub returns-clause-count : goal.returns-clause-count
+returns-clause-count c =
+    let end : c.loop-sprite.sprite ≡ 64 = omega (arith, c.loop-sprite-test.false, c.loop-sprite.auto.sprite-end) in
+    c.loop-sprite.invariant ∙ ap (counted c.args.oam.now c.args.line c.args.tall) end
+    ∙ counted-all c.args.oam.now c.args.line c.args.tall
+
+pub returns-clause-most : goal.returns-clause-most
+returns-clause-most c =
+    omega (arith, c.loop-sprite.invariant, counted-le c.args.oam.now c.args.line c.args.tall c.loop-sprite.sprite, c.loop-sprite.auto.sprite-end)
