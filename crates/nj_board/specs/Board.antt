@@ -13,3 +13,5 @@ pub record BoardActs (Held : Type 0) : Type 0 where
   -- the bank that is chosen, and what the board holds once another is
   pub bank : Held → ℕ
   pub after_bank : Held → ℕ → Held
+  -- how many banks there are to choose from
+  pub banks : Held → ℕ

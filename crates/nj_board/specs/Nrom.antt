@@ -40,4 +40,5 @@ nrom = record {
   after_put = put_at;
   bank = λ _. 0;
   after_bank = λ m _. m;
+  banks = λ _. 1;
 }

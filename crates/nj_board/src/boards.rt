@@ -35,9 +35,11 @@ pub trait Board {
 
     /// The chosen bank.
     fn bank(&self) -> u8
-        ensures { result ≡ acts.bank (held self.now) };
+        ensures chosen { result ≡ acts.bank (held self.now) }
+        ensures below { result < acts.banks (held self.now) };
 
     /// Chooses a bank.
     fn set_bank(&mut self, bank: u8)
+        requires { bank < acts.banks (held self.old) }
         ensures { held self.new ≡ acts.after_bank (held self.old) bank };
 }

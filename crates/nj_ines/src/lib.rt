@@ -1,11 +1,14 @@
-//! The reader of cartridge files of the board NROM, in the formats iNES and NES 2.0. Source: NESdev Wiki, "iNES",
-//! "NES 2.0" and "NROM".
+//! The reader of cartridge files of the boards NROM, UxROM and CNROM, in the formats iNES and NES 2.0. What is refused is
+//! one table of conditions in their order, `refusals` of specs/Reading, which is the definition to read first; a file of
+//! which nothing is refused holds the cartridge `contents_of` it. Source: NESdev Wiki, "iNES", "NES 2.0", "NROM",
+//! "UxROM" and "CNROM".
 #![tactic(auto)]
 
 ghost use Rattle.std.specs.Prelude.{◌≡◌, ◌+◌, ◌*◌, ◌/◌, ◌%◌, ◌<◌, ◌≤◌, ◌⊎◌, ◌==◌, ℕ, length, replicate, slice_index, slice_range, IsTrue, IfOk, MatchResult, None, Ok, Err, if◌then◌else◌};
 ghost use Rattle.std.specs.Int.{bit_at};
 ghost use Rattle.nj_ines.specs.Header.{is_named, is_nes_2, is_clean, mapper_of, prg_units_of, chr_units_of, timing_of};
-ghost use Rattle.nj_ines.specs.Reading.{refusals, first_refusal, IsReadable, contents_of, cartridge_of};
+ghost use Rattle.nj_ines.specs.Cartridge.{IsCartridge};
+ghost use Rattle.nj_ines.specs.Reading.{is_board, has_prg, has_chr, refusals, first_refusal, IsReadable, contents_of, cartridge_of};
 
 use std::alloc::{AllocError, Global};
 use std::marker::Model;
@@ -14,7 +17,7 @@ const HEADER_BYTES: usize = 16;
 
 const PRG_UNIT: usize = 16_384;
 
-const CHR_BYTES: usize = 8_192;
+const CHR_UNIT: usize = 8_192;
 
 /// Why a file is no cartridge that this machine takes. The variants stand in the order in which they are told.
 #[derive(Clone, Copy, Debug, PartialEq, Eq)]
@@ -25,11 +28,11 @@ pub enum CartRefused {
     Trainer,
     /// The header asks for four-screen mirroring.
     FourScreen,
-    /// The board is not NROM.
+    /// The board is not NROM (mapper 0), UxROM (2) or CNROM (3).
     Mapper { number: u64 },
-    /// Not 1 or 2 units of 16 KiB of program memory.
+    /// Not 2, 4, 8 or 16 units of 16 KiB of program memory with UxROM, not 1 or 2 with another board.
     PrgUnits { n: u64 },
-    /// Not 0 or 1 unit of 8 KiB of pattern memory.
+    /// Not 1, 2 or 4 units of 8 KiB of pattern memory with CNROM, not 0 or 1 with another board.
     ChrUnits { n: u64 },
     /// The timing of PAL (1) or Dendy (3).
     Timing { n: u64 },
@@ -87,7 +90,8 @@ fn has_clean_tail(file: &[u8]) -> bool
 #[tactic(auto, unfolding(crate::specs::Header::mapper_of))]
 fn mapper(file: &[u8]) -> u64
     requires { 16 ≤ length file.now }
-    ensures { result ≡ mapper_of file.now }
+    ensures number { result ≡ mapper_of file.now }
+    ensures bound { result < 4096 }
 {
     let high = if has_nes_2(file) || has_clean_tail(file) {
         16 * u64::from(file[7] / 16)
@@ -145,6 +149,38 @@ fn timing(file: &[u8]) -> u64
     }
 }
 
+// Whether a board is taken.
+#[tactic(auto, unfolding(crate::specs::Reading::is_board))]
+fn is_board(mapper: u64) -> bool
+    ensures { result ≡ is_board mapper }
+{
+    mapper == 0 || mapper == 2 || mapper == 3
+}
+
+// Whether a board has this count of units of program memory.
+#[tactic(auto, unfolding(crate::specs::Reading::has_prg))]
+fn has_prg(mapper: u64, units: u64) -> bool
+    ensures { result ≡ has_prg mapper units }
+{
+    if mapper == 2 {
+        units == 2 || units == 4 || units == 8 || units == 16
+    } else {
+        units == 1 || units == 2
+    }
+}
+
+// Whether a board has this count of units of pattern memory.
+#[tactic(auto, unfolding(crate::specs::Reading::has_chr))]
+fn has_chr(mapper: u64, units: u64) -> bool
+    ensures { result ≡ has_chr mapper units }
+{
+    if mapper == 3 {
+        units == 1 || units == 2 || units == 4
+    } else {
+        units == 0 || units == 1
+    }
+}
+
 // The first refusal of a file, if there is one.
 #[tactic(auto, unfolding(crate::specs::Reading::refusals))]
 fn refusal(file: &[u8]) -> Option<CartRefused>
@@ -165,15 +201,15 @@ fn refusal(file: &[u8]) -> Option<CartRefused>
         return Some(CartRefused::FourScreen);
     }
     let number = mapper(file);
-    if number != 0 {
+    if !is_board(number) {
         return Some(CartRefused::Mapper { number });
     }
     let prg = prg_units(file);
-    if prg != 1 && prg != 2 {
+    if !has_prg(number, prg) {
         return Some(CartRefused::PrgUnits { n: prg });
     }
     let chr = chr_units(file);
-    if chr != 0 && chr != 1 {
+    if !has_chr(number, chr) {
         return Some(CartRefused::ChrUnits { n: chr });
     }
     let timing = timing(file);
@@ -191,7 +227,7 @@ fn refusal(file: &[u8]) -> Option<CartRefused>
 fn zeros(alloc: Global) -> Result<Vec<u8>, AllocError>
     ensures { IfOk result (λ chr. chr.items ≡ replicate 8192 0) }
 {
-    vec![in alloc; 0; CHR_BYTES]
+    vec![in alloc; 0; CHR_UNIT]
 }
 
 // The pattern memory of a file that is not refused: zeros where it is RAM.
@@ -199,19 +235,20 @@ fn pattern_memory(
     alloc: Global,
     file: &[u8],
     prg_end: usize,
-    ram: bool,
+    units: u64,
 ) -> Result<Vec<u8>, AllocError>
-    requires { prg_end + 8192 ≤ length file.now ⊎ IsTrue ram }
-    ensures rom { IfOk result (λ chr. chr.items ≡ (if ram then replicate 8192 0 else slice_range file.now prg_end (prg_end + 8192))) }
+    requires few { units < 4096 }
+    requires whole { prg_end + 8192 * units ≤ length file.now }
+    ensures { IfOk result (λ chr. chr.items ≡ (if units == 0 then replicate 8192 0 else slice_range file.now prg_end (prg_end + 8192 * units))) }
 {
-    if ram {
+    if units == 0 {
         zeros(alloc)
     } else {
-        Vec::from_slice(alloc, &file[prg_end..prg_end + CHR_BYTES])
+        Vec::from_slice(alloc, &file[prg_end..prg_end + CHR_UNIT * units as usize])
     }
 }
 
-/// A cartridge of the board NROM.
+/// A cartridge of one of the boards NROM, UxROM and CNROM.
 #[derive(Drop)]
 pub struct Cart {
     prg: Vec<u8>,
@@ -222,13 +259,13 @@ pub struct Cart {
 }
 
 impl Model for Cart {
-    ghost use Rattle.nj_ines.specs.Cartridge.{Cartridge, IsNrom};
+    ghost use Rattle.nj_ines.specs.Cartridge.{Cartridge, IsCartridge};
 
     ghost Value = { Cartridge };
 
     ghost view = { λ c. record { prg = c.prg.items; chr = c.chr.items; chr_ram = c.chr_ram; vertical = c.vertical; mapper = c.mapper } };
 
-    ghost invariant = { λ c. IsNrom (record { prg = c.prg.items; chr = c.chr.items; chr_ram = c.chr_ram; vertical = c.vertical; mapper = c.mapper }) };
+    ghost invariant = { λ c. IsCartridge (record { prg = c.prg.items; chr = c.chr.items; chr_ram = c.chr_ram; vertical = c.vertical; mapper = c.mapper }) };
 }
 
 impl Cart {
@@ -249,30 +286,28 @@ impl Cart {
         ensures { IfOk result (λ cart. cart ≡ contents_of file.now) }
     {
         let prg_end = HEADER_BYTES + PRG_UNIT * prg_units(file) as usize;
-        let chr_ram = chr_units(file) == 0;
+        let chr_units = chr_units(file);
         let prg = Vec::from_slice(alloc, &file[HEADER_BYTES..prg_end])?;
-        let chr = pattern_memory(alloc, file, prg_end, chr_ram)?;
+        let chr = pattern_memory(alloc, file, prg_end, chr_units)?;
         Ok(Cart {
             prg,
             chr,
-            chr_ram,
+            chr_ram: chr_units == 0,
             vertical: has_bit(file[6], 0),
-            mapper: 0,
+            mapper: mapper(file) as u16,
         })
     }
 
-    /// The program memory, seen by the processor from $8000 on, repeated where it is 16 KiB.
+    /// The program memory: 16 or 32 KiB with NROM and CNROM, 32, 64, 128 or 256 KiB with UxROM.
     pub fn prg(&self) -> &[u8]
-        ensures bytes { result.now ≡ self.now.prg }
-        ensures size { (length result.now ≡ 16384) ⊎ (length result.now ≡ 32768) }
+        ensures { result.now ≡ self.now.prg }
     {
         self.prg.as_slice()
     }
 
-    /// The pattern memory, seen by the picture from $0000 on.
+    /// The pattern memory: 8 KiB with NROM and UxROM, 8, 16 or 32 KiB with CNROM.
     pub fn chr(&self) -> &[u8]
         ensures bytes { result.now ≡ self.now.chr }
-        ensures size { length result.now ≡ 8192 }
         ensures ram_zeros { IsTrue self.now.chr_ram → result.now ≡ replicate 8192 0 }
     {
         self.chr.as_slice()
@@ -292,10 +327,10 @@ impl Cart {
         self.vertical
     }
 
-    /// The number of the board.
+    /// The number of the board: 0 for NROM, 2 for UxROM, 3 for CNROM.
     pub fn mapper(&self) -> u16
         ensures number { result ≡ self.now.mapper }
-        ensures nrom { result ≡ 0 }
+        ensures fits { IsCartridge self.now }
     {
         self.mapper
     }
@@ -339,6 +374,11 @@ mod tests {
             (header_of(1, 1, [0, 8, 0, 0xB9], 0), PrgUnits { n: 2305 }),
             (header_of(1, 1, [0, 8, 0, 0xF0], 0), ChrUnits { n: 3841 }),
             (header_of(2, 2, [0; 4], 0), ChrUnits { n: 2 }),
+            (header_of(3, 0, [32, 0, 0, 0], 0), PrgUnits { n: 3 }),
+            (header_of(1, 0, [32, 0, 0, 0], 0), PrgUnits { n: 1 }),
+            (header_of(2, 2, [32, 0, 0, 0], 0), ChrUnits { n: 2 }),
+            (header_of(4, 1, [48, 0, 0, 0], 0), PrgUnits { n: 4 }),
+            (header_of(1, 0, [48, 0, 0, 0], 0), ChrUnits { n: 0 }),
             (header_of(1, 1, [0, 8, 0, 0], 1), Timing { n: 1 }),
             (header_of(1, 1, [0, 8, 0, 0], 7), Timing { n: 3 }),
         ] {
@@ -351,13 +391,15 @@ mod tests {
     // Files that end too early.
     #[test]
     fn refuses_short_files(rt: HostRuntime) -> Result<(), Fail> {
-        for (prg, chr, length, need) in [
-            (1, 1, 15, 16),
-            (1, 1, 24_591, 24_592),
-            (2, 0, 32_783, 32_784),
-            (2, 1, 16, 40_976),
+        for (prg, chr, six, length, need) in [
+            (1, 1, 0, 15, 16),
+            (1, 1, 0, 24_591, 24_592),
+            (2, 0, 0, 32_783, 32_784),
+            (2, 1, 0, 16, 40_976),
+            (16, 1, 32, 16, 270_352),
+            (1, 4, 48, 49_167, 49_168),
         ] {
-            let file = file_of(rt.alloc(), header_of(prg, chr, [0; 4], 0), length)?;
+            let file = file_of(rt.alloc(), header_of(prg, chr, [six, 0, 0, 0], 0), length)?;
             let have = file.len() as u64;
             let want = Short { need, have };
             assert_eq!(rt; Cart::read(rt.alloc(), file.as_slice()).err(), Some(want));
@@ -379,19 +421,15 @@ mod tests {
         assert_eq!(rt; empty, Some(Short { need: 16, have: 0 }));
     }
 
-    // Headers that are taken: a text from byte 7 on, either timing, and bytes behind the memories.
+    // Headers that are taken: a text from byte 7 on, either timing, bytes behind the memories, and the other boards.
     #[test]
     fn accepts_headers(rt: HostRuntime) -> Result<(), Fail> {
-        for (header, length, prg, ram, vertical) in [
-            (*b"NES\x1A\x01\x01\0DiskDude!", 24_592, 16_384, false, false),
-            (
-                header_of(1, 1, [3, 8, 0, 0], 2),
-                24_720,
-                16_384,
-                false,
-                true,
-            ),
-            (header_of(2, 0, [0; 4], 0), 32_784, 32_768, true, false),
+        for (header, length, prg, chr, mapper) in [
+            (*b"NES\x1A\x01\x01\0DiskDude!", 24_592, 16_384, 8_192, 0),
+            (header_of(1, 1, [3, 8, 0, 0], 2), 24_720, 16_384, 8_192, 0),
+            (header_of(2, 0, [0; 4], 0), 32_784, 32_768, 8_192, 0),
+            (header_of(4, 0, [33, 0, 0, 0], 0), 65_552, 65_536, 8_192, 2),
+            (header_of(1, 4, [48, 0, 0, 0], 0), 49_168, 16_384, 32_768, 3),
         ] {
             let mut file = file_of(rt.alloc(), header, length)?;
             if let Some(first) = file.get_mut(16) {
@@ -400,10 +438,10 @@ mod tests {
             let cart = Cart::read(rt.alloc(), file.as_slice())?;
             assert_eq!(rt; cart.prg().len(), prg);
             assert_eq!(rt; cart.prg()[0], 0xA9);
-            assert_eq!(rt; cart.chr().len(), 8_192);
-            assert_eq!(rt; cart.chr_ram(), ram);
-            assert_eq!(rt; cart.vertical(), vertical);
-            assert_eq!(rt; cart.mapper(), 0);
+            assert_eq!(rt; cart.chr().len(), chr);
+            assert_eq!(rt; cart.chr_ram(), header[5] == 0);
+            assert_eq!(rt; cart.vertical(), header[6] % 2 == 1);
+            assert_eq!(rt; cart.mapper(), mapper);
         }
         Ok(())
     }

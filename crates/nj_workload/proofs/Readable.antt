@@ -4,7 +4,7 @@ use Rattle.std.specs.Prelude.{slice_index, slice_range, None, Ok}
 use Rattle.std.specs.Int.{bit_at}
 use Rattle.std.proofs.Math.Seq.{take-append_seam, drop-append_seam}
 use Rattle.nj_ines.specs.Header.{is_named, is_nes_2, is_clean, mapper_of, prg_units_of, chr_units_of, timing_of}
-use Rattle.nj_ines.specs.Reading.{refusals, first_refusal, accepted_unless, contents_of, cartridge_of}
+use Rattle.nj_ines.specs.Reading.{is_board, has_prg, has_chr, refusals, first_refusal, accepted_unless, contents_of, cartridge_of}
 use Rattle.nj_workload.specs.Game.{zeros, header, program_memory, file_with, tables_of, game_file}
 use Rattle.nj_workload.proofs.Sizes.{file_length, program_length, tables_length, zeros_length}
 
@@ -29,7 +29,7 @@ timing_is rest = refl
 none_refused : (file : List ℕ) → is_named file ≡ true → length file ≡ 24592 → bit_at (slice_index file 6) 2 ≡ 0 →
     bit_at (slice_index file 6) 3 ≡ 0 → mapper_of file ≡ 0 → prg_units_of file ≡ 1 → chr_units_of file ≡ 1 →
     timing_of file ≡ 0 → first_refusal (refusals file) ≡ None
-unfolding refusals
+unfolding refusals is_board has_prg has_chr
 none_refused file named whole trainer four mapper prg chr timing =
     rw (named, whole, trainer, four, mapper, prg, chr, timing) refl
 

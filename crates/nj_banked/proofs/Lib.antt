@@ -1,0 +1,4 @@
+mod Fits
+mod Kept
+mod AfterCalls
+mod Shown

@@ -1,0 +1,4 @@
+pub mod Banks
+pub mod Banked
+pub mod Windows
+pub mod Calls

@@ -1,0 +1,279 @@
+//! A board with banks.
+
+ghost use Rattle.std.specs.Prelude.{◌≡◌, ◌⊎◌, ◌<◌, ◌≤◌, ◌+◌, ◌-◌, ◌*◌, ◌/◌, true, length, get_or, slice_index};
+ghost use Rattle.nj_banked.specs.Banks.{Banks, begun, bank_count, IsNrom, IsUxrom, IsCnrom, IsBanks};
+ghost use Rattle.nj_banked.specs.Banked.{banked, prg_byte, chosen_by, with_bank};
+
+use nj_board::Board;
+use std::marker::Model;
+
+// UxROM's mapper.
+const UXROM: u16 = 2;
+
+// CNROM's mapper.
+const CNROM: u16 = 3;
+
+// A bank of program memory.
+const PRG_BANK: usize = 0x4000;
+
+// A bank of pattern memory.
+const CHR_BANK: usize = 0x2000;
+
+/// A cartridge's memories behind NROM, UxROM or CNROM, with the chosen bank. Program memory is read through two windows
+/// of 16 KiB, whose places in it are kept, so that a read takes a comparison and a sum.
+#[derive(Drop)]
+pub struct Banked {
+    prg: Vec<u8>,
+    chr: Vec<u8>,
+    chr_ram: bool,
+    mapper: u16,
+    bank: u8,
+    // Where in program memory the window at $8000 begins, and where that at $C000 begins.
+    low: usize,
+    high: usize,
+    // Where in pattern memory the picture's window begins.
+    pattern: usize,
+}
+
+impl Model for Banked {
+    ghost use Rattle.nj_banked.specs.Banks.{Banks};
+    ghost use Rattle.nj_banked.specs.Windows.{IsWindowed};
+
+    ghost Value = { Banks };
+
+    ghost view = { λ b. record { prg = b.prg.items; chr = b.chr.items; chr_ram = b.chr_ram; mapper = b.mapper; bank = b.bank } };
+
+    ghost invariant = { λ b. IsWindowed (record { prg = b.prg.items; chr = b.chr.items; chr_ram = b.chr_ram; mapper = b.mapper; bank = b.bank }) b.low b.high b.pattern };
+}
+
+impl Banked {
+    /// The board of a cartridge of UxROM (mapper 2) or CNROM (mapper 3). Bank 0 is chosen.
+    pub fn new(prg: Vec<u8>, chr: Vec<u8>, chr_ram: bool, mapper: u16) -> Banked
+        requires { IsUxrom (begun prg.items chr.items chr_ram mapper) ⊎ IsCnrom (begun prg.items chr.items chr_ram mapper) }
+        ensures { result ≡ begun prg.items chr.items chr_ram mapper }
+    {
+        let high = prg.len() - PRG_BANK;
+        Banked {
+            prg,
+            chr,
+            chr_ram,
+            mapper,
+            bank: 0,
+            low: 0,
+            high,
+            pattern: 0,
+        }
+    }
+
+    /// The board of a cartridge of NROM, which has one bank.
+    pub fn fixed(prg: Vec<u8>, chr: Vec<u8>, chr_ram: bool) -> Banked
+        requires { IsNrom (begun prg.items chr.items chr_ram 0) }
+        ensures { result ≡ begun prg.items chr.items chr_ram 0 }
+    {
+        let high = prg.len() - PRG_BANK;
+        Banked {
+            prg,
+            chr,
+            chr_ram,
+            mapper: 0,
+            bank: 0,
+            low: 0,
+            high,
+            pattern: 0,
+        }
+    }
+
+    /// Tells what holds of every board.
+    pub fn fits(&self)
+        ensures { IsBanks self.now }
+    {
+        let _bank = self.bank;
+    }
+
+    /// Whether pattern memory is RAM.
+    #[inline]
+    pub fn has_chr_ram(&self) -> bool
+        ensures { result ≡ self.now.chr_ram }
+    {
+        self.chr_ram
+    }
+
+    /// Replaces all of pattern memory, which is RAM, of 8,192 bytes.
+    pub fn load_pattern(&mut self, bytes: &[u8])
+        requires ram { self.old.chr_ram ≡ true }
+        requires len { length bytes.now ≡ 8192 }
+        ensures { self.new ≡ record self.old { chr = bytes.now } }
+    {
+        self.chr.as_mut_slice().copy_from_slice(bytes);
+    }
+
+    // How many banks there are to choose from.
+    #[tactic(auto, unfolding(crate::specs::Banks::bank_count))]
+    fn banks(&self) -> usize
+        ensures count { result ≡ bank_count self.now }
+        ensures fits { IsBanks self.now }
+    {
+        match self.mapper {
+            UXROM => self.prg.len() / PRG_BANK,
+            CNROM => self.chr.len() / CHR_BANK,
+            _ => 1,
+        }
+    }
+
+    // The byte of program memory at an address.
+    #[inline(always)]
+    fn prg_byte(&self, at: u16) -> u8
+        requires { 0x8000 ≤ at }
+        ensures { result ≡ prg_byte self.now at }
+    {
+        if at < 0xC000 {
+            self.prg[self.low + at as usize - 0x8000]
+        } else {
+            self.prg[self.high + at as usize - 0xC000]
+        }
+    }
+
+    // Moves the windows to a bank.
+    fn choose(&mut self, bank: u8)
+        requires { bank < bank_count self.old }
+        ensures { self.new ≡ with_bank self.old bank }
+    {
+        self.bank = bank;
+        if self.mapper == UXROM {
+            self.low = PRG_BANK * bank as usize;
+        } else if self.mapper == CNROM {
+            self.pattern = CHR_BANK * bank as usize;
+        }
+    }
+}
+
+impl Board for Banked {
+    ghost Held = { Banks };
+
+    ghost held = { λ b. b };
+
+    ghost acts = { banked };
+
+    #[inline(always)]
+    #[tactic(auto, unfolding(crate::specs::Banked::byte_at))]
+    fn cpu_read(&self, at: u16) -> Option<u8> {
+        if at >= 0x8000 {
+            Some(self.prg_byte(at))
+        } else {
+            None
+        }
+    }
+
+    #[tactic(auto, unfolding(crate::specs::Banked::written, crate::specs::Banked::chosen_by))]
+    fn cpu_write(&mut self, at: u16, value: u8) {
+        if at >= 0x8000 {
+            let chosen = value & self.prg_byte(at);
+            let bank = chosen as usize % self.banks();
+            self.choose(bank as u8);
+        }
+    }
+
+    #[inline(always)]
+    fn pattern(&self) -> &[u8] {
+        &self.chr[self.pattern..self.pattern + CHR_BANK]
+    }
+
+    #[tactic(auto, unfolding(crate::specs::Banked::put_at))]
+    fn put_pattern(&mut self, at: u16, value: u8) {
+        if self.chr_ram {
+            self.chr[at as usize] = value;
+        }
+    }
+
+    #[inline]
+    fn bank(&self) -> u8 {
+        self.bank
+    }
+
+    fn set_bank(&mut self, bank: u8) {
+        self.choose(bank);
+    }
+}
+
+#[cfg(test)]
+mod tests {
+    use super::*;
+    use std::alloc::{AllocError, Global};
+    use std::test::Fail;
+
+    // UxROM with two banks and this byte at $FFF0.
+    fn uxrom(alloc: Global, under: u8) -> Result<Banked, AllocError> {
+        let mut prg = vec![in alloc; 0; 0x8000]?;
+        prg[0] = 0x11;
+        prg[0x4000] = 0xA9;
+        prg[0x7FF0] = under;
+        let chr = vec![in alloc; 0; 0x2000]?;
+        Ok(Banked::new(prg, chr, true, 2))
+    }
+
+    // CNROM with two banks and this byte at $FFF0.
+    fn cnrom(alloc: Global, under: u8) -> Result<Banked, AllocError> {
+        let mut prg = vec![in alloc; 0; 0x4000]?;
+        prg[0] = 0xA9;
+        prg[0x3FF0] = under;
+        let mut chr = vec![in alloc; 0; 0x4000]?;
+        chr[0] = 0x21;
+        chr[0x2000] = 0x42;
+        Ok(Banked::new(prg, chr, false, 3))
+    }
+
+    // NROM with 16 KiB of program memory and the byte $FF at $FFF0.
+    fn nrom(alloc: Global) -> Result<Banked, AllocError> {
+        let mut prg = vec![in alloc; 0; 0x4000]?;
+        prg[0] = 0x11;
+        prg[0x3FF0] = 0xFF;
+        let mut chr = vec![in alloc; 0; 0x2000]?;
+        chr[0] = 0x21;
+        Ok(Banked::fixed(prg, chr, false))
+    }
+
+    // The bytes at $8000 and $C000, the picture's first and the bank, after $FF is written at $FFF0.
+    fn after_write<B: Board>(board: &mut B) -> (Option<u8>, Option<u8>, u8, u8) {
+        board.cpu_write(0xFFF0, 0xFF);
+        board.put_pattern(1, 0x17);
+        let first = board.pattern()[0];
+        (
+            board.cpu_read(0x8000),
+            board.cpu_read(0xC000),
+            first,
+            board.bank(),
+        )
+    }
+
+    // The byte at $FFF0 decides which bits of the written $FF choose a bank.
+    #[test]
+    fn uxrom_has_two_windows(rt: HostRuntime) -> Result<(), Fail> {
+        for (under, low, bank) in [(0x01, 0xA9, 1), (0x00, 0x11, 0), (0xFE, 0x11, 0)] {
+            let mut board = uxrom(rt.alloc(), under)?;
+            assert_eq!(rt; after_write(&mut board), (Some(low), Some(0xA9), 0, bank));
+            assert_eq!(rt; board.pattern()[1], 0x17);
+        }
+        Ok(())
+    }
+
+    #[test]
+    fn cnrom_has_one_window(rt: HostRuntime) -> Result<(), Fail> {
+        for (under, first, bank) in [(0x01, 0x42, 1), (0x00, 0x21, 0)] {
+            let mut board = cnrom(rt.alloc(), under)?;
+            assert_eq!(rt;
+                after_write(&mut board),
+                (Some(0xA9), Some(0xA9), first, bank)
+            );
+            assert_eq!(rt; board.pattern()[1], 0);
+        }
+        Ok(())
+    }
+
+    #[test]
+    fn nrom_has_one_bank(rt: HostRuntime) -> Result<(), Fail> {
+        let mut board = nrom(rt.alloc())?;
+        assert_eq!(rt; after_write(&mut board), (Some(0x11), Some(0x11), 0x21, 0));
+        assert_eq!(rt; board.cpu_read(0x7FFF), None);
+        Ok(())
+    }
+}
