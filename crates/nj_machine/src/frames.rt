@@ -3,7 +3,7 @@
 ghost use Rattle.std.specs.Prelude.{◌≡◌, ◌+◌, ◌-◌, ◌^◌, ◌≤◌, ◌↔◌, ℕ, true, min, length, replicate, IfOk};
 ghost use Rattle.nj_banked.specs.Banks.{IsBanks};
 ghost use Rattle.nj_machine.specs.State.{State, power_on, ram_of, rom_of, is_jammed, memory_of, reset_vector};
-ghost use Rattle.nj_machine.specs.Frame.{unit_step, frame, IsReady, IsFirstEnd};
+ghost use Rattle.nj_machine.specs.Frame.{unit_step, frame, frames, IsReady, IsFirstEnd};
 ghost use Rattle.nj_machine.specs.Seen.{end_told, counted, seen_of};
 
 use crate::FrameEnd;
@@ -121,6 +121,18 @@ impl<P: Picture + Drop> Console<P> {
             if let Some(end) = self.run_unit(pad) {
                 return end;
             }
+        }
+    }
+
+    /// One frame for each pad, each of which counts as one step.
+    pub fn play<L: Ledger>(&mut self, pads: &[Pad], steps: &mut Steps<L>)
+        ensures played { self.new ≡ frames self.old pads.now }
+        ensures cartridge { rom_of self.new ≡ rom_of self.old }
+        ensures counted { steps.new ≤ steps.old + length pads.now }
+        ensures never_falls { steps.old ≤ steps.new }
+    {
+        for pad in pads {
+            let _ = self.frame(*pad, steps);
         }
     }
 
