@@ -1,16 +1,18 @@
 -- What one access of the machine's bus keeps, and that it lowers the number of dots left by three.
-use Rattle.std.proofs.Common.{◌≡◌, ℕ, ◌-◌, ◌%◌, ◌≤◌, Bool, true, false, if◌then◌else◌, List, Option, Some, None, refl, ap, ◌∙◌, arith, slice_set}
+use Rattle.std.proofs.Common.{◌≡◌, ℕ, ◌-◌, ◌%◌, ◌≤◌, Bool, true, false, if◌then◌else◌, List, refl, ap, ◌∙◌, arith}
 use Rattle.std.proofs.Math.ListN.{length-set}
 use Rattle.nj_vram.specs.declared.Vram.{Vram}
 use Rattle.nj_vram.specs.Home.{Home, Cell, Colour, home, written as vram_written, written_at}
-use Rattle.nj_board.specs.Nrom.{Memory, IsMemory, put_at}
+use Rattle.nj_banked.specs.Banks.{Banks, IsBanks}
+use Rattle.nj_banked.specs.Banked.{pattern_of, put_at, written as board_written}
+use Rattle.nj_machine.proofs.Boards.{KeepsBoard, keeps-put, keeps-written}
 use Rattle.nj_dots.specs.declared.screen.Screen.{Screen}
 use Rattle.nj_dots.specs.Screen.{IsScreen}
 use Rattle.nj_dots.specs.Dots.{after_dots}
 use Rattle.nj_dots.specs.Registers.{after_status, after_oam_read, data_address, after_data_read, after_read as screen_after_read, put_control, put_mask, put_nothing, put_oam_address, put_oam, put_scroll, put_address, put_data, after_write as screen_after_write, to_pattern}
 use Rattle.nj_dots.proofs.Accesses.{after_read-fits, after_write-fits}
 use Rattle.nj_machine.specs.State.{Rom, rom_in}
-use Rattle.nj_machine.specs.Wires.{Wired, dots_run, register_read, port_one_read, port_two_read, answered, pattern_put, ram_put, register_put, copy_asked, ports_strobed, written, over, byte_read, after_read, after_write, page_taken, wires}
+use Rattle.nj_machine.specs.Wires.{Wired, dots_run, register_read, port_one_read, port_two_read, answered, pattern_put, ram_put, register_put, copy_asked, ports_strobed, board_put, written, over, byte_read, after_read, after_write, page_taken, wires}
 use Rattle.nj_machine.specs.Frame.{IsSized}
 use Rattle.nj_cpu.proofs.Lower.{Lower, Lowers, lower-same, lower-and}
 use Rattle.nj_machine.proofs.Dots.{still_left, dots-fall}
@@ -130,8 +132,8 @@ with_screen rom n w e h fits fewer vertical =
 dots_run-lowers : (rom : Rom) (w : Wired) → Keeps rom w → Lower (Keeps rom) left_of 3 w (dots_run w)
 unfolding dots_run
 dots_run-lowers rom w h =
-    let fall = dots-fall 3 w.cells.board.chr w.cells.screen h.sized.screen in
-    with_screen rom 3 w (after_dots 3 w.cells.board.chr w.cells.screen) h fall.0 fall.1.fewer fall.1.vertical
+    let fall = dots-fall 3 (pattern_of w.cells.board) w.cells.screen h.sized.screen in
+    with_screen rom 3 w (after_dots 3 (pattern_of w.cells.board) w.cells.screen) h fall.0 fall.1.fewer fall.1.vertical
 
 -- an access of a register
 accessed : (rom : Rom) (w : Wired) (e : Screen) → Keeps rom w → IsScreen e → Same w.cells.screen e →
@@ -146,8 +148,8 @@ lower-if rom false w x y h k = k
 register_read-stays : (rom : Rom) (reg : ℕ) (w : Wired) → Keeps rom w → Stays rom w (register_read reg w)
 unfolding register_read
 register_read-stays rom reg w h =
-    accessed rom w (screen_after_read reg w.cells.board.chr w.cells.screen) h
-    (after_read-fits reg w.cells.board.chr w.cells.screen h.sized.screen) (same-read reg w.cells.board.chr w.cells.screen)
+    accessed rom w (screen_after_read reg (pattern_of w.cells.board) w.cells.screen) h
+    (after_read-fits reg (pattern_of w.cells.board) w.cells.screen h.sized.screen) (same-read reg (pattern_of w.cells.board) w.cells.screen)
 
 port_one_read-stays : (rom : Rom) (w : Wired) → Keeps rom w → Stays rom w (port_one_read w)
 unfolding port_one_read
@@ -167,23 +169,6 @@ answered-stays rom w at h =
     (lower-if rom _ w _ _ (register_read-stays rom (at % 8) w h)
     (lower-if rom _ w _ _ (port_one_read-stays rom w h)
     (lower-if rom _ w _ _ (port_two_read-stays rom w h) (lower-same (Keeps rom) left_of w h))))
-
--- a write to pattern memory keeps its size, and what is ROM
-record KeepsBoard (m e : Memory) : Type 0 where
-  sized : IsMemory e
-  rom : (vertical : Bool) → rom_in e vertical ≡ rom_in m vertical
-
-put-if : (b : Bool) (m : Memory) (at value : ℕ) → m.chr_ram ≡ b → IsMemory m → KeepsBoard m (if b then record m { chr = slice_set m.chr at value } else m)
-put-if true m at value e h = record {
-  sized = record { prg = h.prg; chr = length-set m.chr at value ∙ h.chr };
-  rom = λ vertical. rw e refl;
-}
-put-if false m at value e h = record { sized = h; rom = λ vertical. refl }
-
-keeps-put : (m : Memory) (put : Option (ℕ × ℕ)) → IsMemory m → KeepsBoard m (pattern_put put m)
-unfolding put_at
-keeps-put m None h = record { sized = h; rom = λ vertical. refl }
-keeps-put m (Some put) h = put-if m.chr_ram m put.0 put.1 refl h
 
 -- a write of working memory, of a register, of $4014 and of $4016
 ram_put-stays : (rom : Rom) (place value : ℕ) (w : Wired) → Keeps rom w → Stays rom w (ram_put place value w)
@@ -221,6 +206,19 @@ unfolding ports_strobed
 ports_strobed-stays rom value w h =
     record { stays = record { sized = record { screen = h.sized.screen; ram = h.sized.ram; board = h.sized.board }; of_rom = h.of_rom }; fewer = omega arith }
 
+-- a write to the board
+board_put-stays : (rom : Rom) (at value : ℕ) (w : Wired) → Keeps rom w → Stays rom w (board_put at value w)
+unfolding board_put
+board_put-stays rom at value w h =
+    let board = keeps-written w.cells.board at value h.sized.board in
+    record {
+      stays = record {
+        sized = record { screen = h.sized.screen; ram = h.sized.ram; board = board.sized };
+        of_rom = board.rom w.cells.screen.vram.vertical ∙ h.of_rom;
+      };
+      fewer = omega arith;
+    }
+
 -- what a write changes
 written-stays : (rom : Rom) (w : Wired) (at value : ℕ) → Keeps rom w → Stays rom w (written w at value)
 unfolding written
@@ -228,7 +226,8 @@ written-stays rom w at value h =
     lower-if rom _ w _ _ (ram_put-stays rom (at % 2048) value w h)
     (lower-if rom _ w _ _ (register_put-stays rom (at % 8) value w h)
     (lower-if rom _ w _ _ (copy_asked-stays rom value w h)
-    (lower-if rom _ w _ _ (ports_strobed-stays rom value w h) (lower-same (Keeps rom) left_of w h))))
+    (lower-if rom _ w _ _ (ports_strobed-stays rom value w h)
+    (lower-if rom _ w _ _ (board_put-stays rom at value w h) (lower-same (Keeps rom) left_of w h)))))
 
 -- the end of a cycle
 over-stays : (rom : Rom) (w : Wired) (byte : ℕ) → Keeps rom w → Stays rom w (over byte w)

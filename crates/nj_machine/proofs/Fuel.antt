@@ -39,7 +39,7 @@ frame_ends s t end pad h e =
     frame_unfolds s pad h ∙ ap (λ step. or_on step.0 step.1 (units_until pad (dots_left s))) e
 
 -- what follows a unit that does not end the frame
-next_of : (pad : ℕ) (s t : State) → IsReady s → unit_step pad s ≡ (t, None) → GoesOn s t
+pub next_of : (pad : ℕ) (s t : State) → IsReady s → unit_step pad s ≡ (t, None) → GoesOn s t
 next_of pad s t h e = subst (λ u. GoesOn s u) (ap (λ step. step.0) e) (goes_on pad s h (ap (λ step. step.1) e))
 
 pub frame_goes_on : (s t : State) (pad : ℕ) → IsReady s → unit_step pad s ≡ (t, None) → frame t pad ≡ frame s pad

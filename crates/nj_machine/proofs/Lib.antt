@@ -1,8 +1,12 @@
 pub mod Begins
 pub mod Writes
 pub mod Dots
+pub mod Boards
 pub mod Accesses
 pub mod Units
+pub mod Recording
+pub mod Fetches
+pub mod Tellings
 pub mod Fuel
 pub mod First
 pub mod ReadBack

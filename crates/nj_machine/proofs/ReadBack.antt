@@ -2,7 +2,7 @@
 use Rattle.std.proofs.Common.{◌≡◌, ℕ, ◌+◌, ◌*◌, ◌/◌, ◌%◌, ◌≤◌, ◌==◌, Bool, true, false, not, List, ◌++◌, length, take, drop, replicate, refl, ap, sym, ◌∙◌, arith, subst, if◌then◌else◌, Option, Some, None, length-append, lit≤}
 use Rattle.std.proofs.Math.ListN.{length-replicate}
 use Rattle.std.proofs.lemmas.List.{take_at, drop_at, drop-drop}
-use Rattle.nj_board.specs.Nrom.{Memory}
+use Rattle.nj_banked.specs.Banks.{Banks, IsBanks}
 use Rattle.nj_vram.specs.Home.{blank}
 use Rattle.nj_cpu.specs.declared.state.Note.{Note}
 use Rattle.nj_cpu.specs.declared.state.Note.TheVariants.{None as NoNote, Late, Due}
@@ -12,6 +12,7 @@ use Rattle.nj_dots.specs.Image.{flag_byte, picture_bytes, picture_part}
 use Rattle.nj_dots.proofs.Stored.{length-register_bytes, get_is}
 use Rattle.nj_machine.specs.State.{State, Rom, cells_of, pattern_rom, rom_in, rom_of}
 use Rattle.nj_machine.specs.Frame.{IsReady, frames}
+use Rattle.nj_machine.proofs.Boards.{ram_whole}
 use Rattle.nj_machine.specs.Image.{note_byte, page_flag, page_byte, rest_bytes, pattern_ram, image_len, image_of, cpu_at, screen_at, board_at, cells_at, of_image, IsImage}
 
 -- where each part of an image stands
@@ -47,15 +48,15 @@ length-picture_bytes s h =
     simp length-append (omega arith)
 
 -- the rest has 32
-pub length-rest : (s : State) → length (rest_bytes s ++ replicate 7 0) ≡ 32
+pub length-rest : (s : State) → length (rest_bytes s ++ replicate 6 0) ≡ 32
 unfolding rest_bytes
-length-rest s = length-append (rest_bytes s) (replicate 7 0) ∙ ap (λ n. 25 + n) (length-replicate {A = ℕ} 7 0)
+length-rest s = length-append (rest_bytes s) (replicate 6 0) ∙ ap (λ n. 26 + n) (length-replicate {A = ℕ} 6 0)
 
 pub image_parts : (s : State) → IsReady s →
-    Parts (image_of s) s.cells.ram (picture_bytes s.cells.screen) (rest_bytes s ++ replicate 7 0) (pattern_ram s.cells.board.chr_ram s.cells.board.chr)
+    Parts (image_of s) s.cells.ram (picture_bytes s.cells.screen) (rest_bytes s ++ replicate 6 0) (pattern_ram s.cells.board.chr_ram s.cells.board.chr)
 unfolding image_of
 image_parts s h =
-    parts_of s.cells.ram (picture_bytes s.cells.screen) (rest_bytes s ++ replicate 7 0) (pattern_ram s.cells.board.chr_ram s.cells.board.chr)
+    parts_of s.cells.ram (picture_bytes s.cells.screen) (rest_bytes s ++ replicate 6 0) (pattern_ram s.cells.board.chr_ram s.cells.board.chr)
     h.sized.ram (length-picture_bytes s.cells.screen h.sized.screen) (length-rest s)
 
 -- bytes, flags, notes and pages are read again as they were written
@@ -75,7 +76,7 @@ page-back : (p : Option ℕ) → (if not (page_flag p == 0) then Some (page_byte
 page-back None = refl
 page-back (Some page) = refl
 
-cpu-back : (s : State) → cpu_at (rest_bytes s ++ replicate 7 0) ≡ s.cpu
+cpu-back : (s : State) → cpu_at (rest_bytes s ++ replicate 6 0) ≡ s.cpu
 unfolding cpu_at rest_bytes
 cpu-back s = simp (word-back, flag-back, note-back)
 
@@ -91,34 +92,34 @@ board-by : (b : Bool) (prg chr : List ℕ) (ram : List ℕ) → ram ≡ pattern_
 board-by true prg chr ram e = e
 board-by false prg chr ram e = refl
 
-board-back : (m : Memory) (vertical : Bool) (image : List ℕ) → drop 4480 image ≡ pattern_ram m.chr_ram m.chr → board_at (rom_in m vertical) image ≡ m
+board-back : (m : Banks) (vertical : Bool) (image : List ℕ) → drop 4480 image ≡ pattern_ram m.chr_ram m.chr → board_at (rom_in m vertical) image m.bank ≡ m
 unfolding board_at
 board-back m vertical image e = ap (λ chr. record m { chr = chr }) (board-by m.chr_ram m.prg m.chr (drop 4480 image) e)
 
 -- the cells are read again
-cells-back : (s : State) → cells_at (rom_of s) (image_of s) (rest_bytes s ++ replicate 7 0) ≡ cells_of (screen_at s.cells.screen.vram.vertical (image_of s)) (take 2048 (image_of s)) (board_at (rom_of s) (image_of s)) s.cells.bus_byte s.cells.page s.cells.odd s.cells.port_one s.cells.port_two
+cells-back : (s : State) → cells_at (rom_of s) (image_of s) (rest_bytes s ++ replicate 6 0) ≡ cells_of (screen_at s.cells.screen.vram.vertical (image_of s)) (take 2048 (image_of s)) (board_at (rom_of s) (image_of s) s.cells.board.bank) s.cells.bus_byte s.cells.page s.cells.odd s.cells.port_one s.cells.port_two
 unfolding cells_at rest_bytes rom_of
 cells-back s = simp (flag-back, page-back)
 
--- an image has its length
-pattern-length : (b : Bool) (chr : List ℕ) → length chr ≡ 8192 → 4480 + length (pattern_ram b chr) ≡ (if b then 12672 else 4480)
-pattern-length true chr e = omega arith
+-- an image has its length, since pattern memory that is RAM has 8 KiB
+pattern-length : (b : Bool) (chr : List ℕ) → (b ≡ true → length chr ≡ 8192) → 4480 + length (pattern_ram b chr) ≡ (if b then 12672 else 4480)
+pattern-length true chr e = omega (arith, e refl)
 pattern-length false chr e = refl
 
 pub image-length : (s : State) → IsReady s → length (image_of s) ≡ image_len (rom_of s)
 unfolding image_of image_len rom_of
 image-length s h =
     let pattern = pattern_ram s.cells.board.chr_ram s.cells.board.chr in
-    let whole = pattern-length s.cells.board.chr_ram s.cells.board.chr h.sized.board.chr in
-    length-append s.cells.ram (picture_bytes s.cells.screen ++ ((rest_bytes s ++ replicate 7 0) ++ pattern))
+    let whole = pattern-length s.cells.board.chr_ram s.cells.board.chr (ram_whole s.cells.board h.sized.board) in
+    length-append s.cells.ram (picture_bytes s.cells.screen ++ ((rest_bytes s ++ replicate 6 0) ++ pattern))
     ∙ omega (
       arith,
       whole,
       h.sized.ram,
       length-picture_bytes s.cells.screen h.sized.screen,
       length-rest s,
-      length-append (picture_bytes s.cells.screen) ((rest_bytes s ++ replicate 7 0) ++ pattern),
-      length-append (rest_bytes s ++ replicate 7 0) pattern,
+      length-append (picture_bytes s.cells.screen) ((rest_bytes s ++ replicate 6 0) ++ pattern),
+      length-append (rest_bytes s ++ replicate 6 0) pattern,
     )
 
 long_enough : (b : Bool) → 4480 ≤ (if b then 12672 else 4480)
@@ -140,11 +141,11 @@ again s h =
     let board = board-back s.cells.board s.cells.screen.vram.vertical image parts.last in
     let cells =
     cells-back s
-    ∙ ap (λ x. cells_of x (take 2048 image) (board_at (rom_of s) image) s.cells.bus_byte s.cells.page s.cells.odd s.cells.port_one s.cells.port_two) screen
-    ∙ ap (λ x. cells_of s.cells.screen x (board_at (rom_of s) image) s.cells.bus_byte s.cells.page s.cells.odd s.cells.port_one s.cells.port_two) parts.first
+    ∙ ap (λ x. cells_of x (take 2048 image) (board_at (rom_of s) image s.cells.board.bank) s.cells.bus_byte s.cells.page s.cells.odd s.cells.port_one s.cells.port_two) screen
+    ∙ ap (λ x. cells_of s.cells.screen x (board_at (rom_of s) image s.cells.board.bank) s.cells.bus_byte s.cells.page s.cells.odd s.cells.port_one s.cells.port_two) parts.first
     ∙ ap (λ x. cells_of s.cells.screen s.cells.ram x s.cells.bus_byte s.cells.page s.cells.odd s.cells.port_one s.cells.port_two) board in
     ap (λ bytes. record { cpu = cpu_at bytes; cells = cells_at (rom_of s) image bytes }) parts.third
-    ∙ ap (λ x. record { cpu = x; cells = cells_at (rom_of s) image (rest_bytes s ++ replicate 7 0) }) (cpu-back s)
+    ∙ ap (λ x. record { cpu = x; cells = cells_at (rom_of s) image (rest_bytes s ++ replicate 6 0) }) (cpu-back s)
     ∙ ap (λ x. record { cpu = s.cpu; cells = x }) cells
 
 -- two states of one cartridge with one image are one

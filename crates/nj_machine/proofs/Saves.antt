@@ -3,10 +3,11 @@ use Rattle.std.proofs.Common.{◌≡◌, ℕ, ◌+◌, ◌≤◌, Bool, true, fa
 use Rattle.std.proofs.lemmas.List.{take_at, drop_at, drop-drop, drop_all, length-drop, length-take, take-append-drop}
 use Rattle.nj_dots.specs.declared.screen.Screen.{Screen}
 use Rattle.nj_dots.specs.Image.{overwritten, with_picture, picture_bytes}
-use Rattle.nj_board.specs.Nrom.{Memory}
+use Rattle.nj_banked.specs.Banks.{Banks}
 use Rattle.nj_machine.specs.State.{State, Rom, rom_of}
 use Rattle.nj_machine.specs.Frame.{IsReady}
 use Rattle.nj_machine.specs.Image.{rest_bytes, pattern_ram, image_len, image_of}
+use Rattle.nj_machine.proofs.Boards.{ram_whole}
 use Rattle.nj_machine.proofs.ReadBack.{length-picture_bytes, length-rest}
 
 -- a part of a list is replaced by one of its length
@@ -49,9 +50,9 @@ picture_over s a p c at same =
     ap (λ l. l ++ (picture_bytes s ++ drop 4448 (a ++ (p ++ c)))) front ∙ ap (λ l. a ++ (picture_bytes s ++ l)) back
 
 -- working memory, the picture and the rest over any list
-three_over : (s : State) (i i1 i2 i3 : List ℕ) (rest : List ℕ) → IsReady s → 4480 ≤ length i → rest ≡ rest_bytes s ++ replicate 7 0 →
+three_over : (s : State) (i i1 i2 i3 : List ℕ) (rest : List ℕ) → IsReady s → 4480 ≤ length i → rest ≡ rest_bytes s ++ replicate 6 0 →
     i1 ≡ overwritten 0 s.cells.ram i → i2 ≡ with_picture s.cells.screen i1 → i3 ≡ overwritten 4448 rest i2 →
-    i3 ≡ s.cells.ram ++ (picture_bytes s.cells.screen ++ ((rest_bytes s ++ replicate 7 0) ++ drop 4480 i))
+    i3 ≡ s.cells.ram ++ (picture_bytes s.cells.screen ++ ((rest_bytes s ++ replicate 6 0) ++ drop 4480 i))
 three_over s i i1 i2 i3 rest h long is_rest e1 e2 e3 =
     let parts = split_of i long in
     let r = take 2048 i in
@@ -60,7 +61,7 @@ three_over s i i1 i2 i3 rest h long is_rest e1 e2 e3 =
     let c = drop 4480 i in
     let ram = s.cells.ram in
     let pic = picture_bytes s.cells.screen in
-    let new = rest_bytes s ++ replicate 7 0 in
+    let new = rest_bytes s ++ replicate 6 0 in
     let one : i1 ≡ ram ++ (p ++ (m ++ c)) =
     e1 ∙ ap (overwritten 0 ram) parts.whole ∙ over_part 0 [] r (p ++ (m ++ c)) ram refl (h.sized.ram ∙ sym parts.first) in
     let two : i2 ≡ ram ++ (pic ++ (m ++ c)) =
@@ -71,7 +72,7 @@ three_over s i i1 i2 i3 rest h long is_rest e1 e2 e3 =
     ∙ append_assoc ram pic (new ++ c)
 
 -- what is written where pattern memory is no RAM
-pub rom_chain : (s : State) (i i1 i2 i3 rest : List ℕ) → IsReady s → length i ≡ image_len (rom_of s) → s.cells.board.chr_ram ≡ false → rest ≡ rest_bytes s ++ replicate 7 0 →
+pub rom_chain : (s : State) (i i1 i2 i3 rest : List ℕ) → IsReady s → length i ≡ image_len (rom_of s) → s.cells.board.chr_ram ≡ false → rest ≡ rest_bytes s ++ replicate 6 0 →
     i1 ≡ overwritten 0 s.cells.ram i → i2 ≡ with_picture s.cells.screen i1 → i3 ≡ overwritten 4448 rest i2 → i3 ≡ image_of s
 unfolding image_of image_len rom_of
 rom_chain s i i1 i2 i3 rest h sized no_ram is_rest e1 e2 e3 =
@@ -79,17 +80,17 @@ rom_chain s i i1 i2 i3 rest h sized no_ram is_rest e1 e2 e3 =
     let none : drop 4480 i ≡ pattern_ram s.cells.board.chr_ram s.cells.board.chr =
     drop_all 4480 i (omega arith) ∙ ap (λ b. pattern_ram b s.cells.board.chr) (sym no_ram) in
     three_over s i i1 i2 i3 rest h (omega arith) is_rest e1 e2 e3
-    ∙ ap (λ l. s.cells.ram ++ (picture_bytes s.cells.screen ++ ((rest_bytes s ++ replicate 7 0) ++ l))) none
+    ∙ ap (λ l. s.cells.ram ++ (picture_bytes s.cells.screen ++ ((rest_bytes s ++ replicate 6 0) ++ l))) none
 
 -- and where it is
-pub ram_chain : (s : State) (i i1 i2 i3 i4 rest : List ℕ) → IsReady s → length i ≡ image_len (rom_of s) → s.cells.board.chr_ram ≡ true → rest ≡ rest_bytes s ++ replicate 7 0 →
+pub ram_chain : (s : State) (i i1 i2 i3 i4 rest : List ℕ) → IsReady s → length i ≡ image_len (rom_of s) → s.cells.board.chr_ram ≡ true → rest ≡ rest_bytes s ++ replicate 6 0 →
     i1 ≡ overwritten 0 s.cells.ram i → i2 ≡ with_picture s.cells.screen i1 → i3 ≡ overwritten 4448 rest i2 → i4 ≡ overwritten 4480 s.cells.board.chr i3 → i4 ≡ image_of s
 unfolding image_of image_len rom_of
 ram_chain s i i1 i2 i3 i4 rest h sized is_ram is_rest e1 e2 e3 e4 =
     let known : length i ≡ 12672 = sized ∙ ap (λ b. if b then 12672 else 4480) is_ram in
     let ram = s.cells.ram in
     let pic = picture_bytes s.cells.screen in
-    let new = rest_bytes s ++ replicate 7 0 in
+    let new = rest_bytes s ++ replicate 6 0 in
     let chr = s.cells.board.chr in
     let c = drop 4480 i in
     let front = ram ++ (pic ++ new) in
@@ -99,7 +100,7 @@ ram_chain s i i1 i2 i3 i4 rest h sized is_ram is_rest e1 e2 e3 e4 =
     let size : length front ≡ 4480 =
     length-append ram (pic ++ new)
     ∙ omega (arith, h.sized.ram, length-append pic new, length-picture_bytes s.cells.screen h.sized.screen, length-rest s) in
-    let same : length chr ≡ length c = h.sized.board.chr ∙ omega (arith, length-drop 4480 i) in
+    let same : length chr ≡ length c = ram_whole s.cells.board h.sized.board is_ram ∙ omega (arith, length-drop 4480 i) in
     let whole : pattern_ram s.cells.board.chr_ram chr ≡ chr = ap (λ b. pattern_ram b chr) is_ram in
     e4 ∙ ap (overwritten 4480 chr) three ∙ over_part 4480 front c [] chr size same
     ∙ ap (λ l. front ++ l) (append-nil chr ∙ sym whole)
@@ -107,8 +108,8 @@ ram_chain s i i1 i2 i3 i4 rest h sized is_ram is_rest e1 e2 e3 e4 =
     ∙ ap (λ l. ram ++ l) (append_assoc pic new (pattern_ram s.cells.board.chr_ram chr))
 
 -- what is written by a machine with these parts is its image
-pub save_chain : (s : State) (ram : List ℕ) (screen : Screen) (board : Memory) (i i1 i2 i3 i4 rest : List ℕ) → IsReady s →
-    ram ≡ s.cells.ram → screen ≡ s.cells.screen → board ≡ s.cells.board → length i ≡ image_len (rom_of s) → rest ≡ rest_bytes s ++ replicate 7 0 →
+pub save_chain : (s : State) (ram : List ℕ) (screen : Screen) (board : Banks) (i i1 i2 i3 i4 rest : List ℕ) → IsReady s →
+    ram ≡ s.cells.ram → screen ≡ s.cells.screen → board ≡ s.cells.board → length i ≡ image_len (rom_of s) → rest ≡ rest_bytes s ++ replicate 6 0 →
     i1 ≡ overwritten 0 ram i → i2 ≡ with_picture screen i1 → i3 ≡ overwritten 4448 rest i2 →
     i4 ≡ (if board.chr_ram then overwritten 4480 board.chr i3 else i3) → i4 ≡ image_of s
 save_chain s ram screen board i i1 i2 i3 i4 rest h is_ram is_screen is_board sized is_rest e1 e2 e3 e4 =

@@ -10,6 +10,9 @@ use Rattle.nj_dots.specs.declared.screen.Screen.{Screen}
 use Rattle.nj_machine.specs.State.{State, rom_of, is_jammed}
 use Rattle.nj_machine.specs.Wires.{Wired, wires}
 use Rattle.nj_machine.specs.Frame.{left_at, dots_left, end_by, unmarked, unit_step, IsReady}
+use Rattle.nj_machine.specs.Seen.{end_told}
+use Rattle.nj_machine.specs.declared.seeing.UnitStep.{UnitStep}
+use Rattle.nj_machine.specs.declared.seeing.UnitStep.TheVariants.{More, Picture as AtPicture, Jammed as StepJammed}
 use Rattle.nj_machine.specs.declared.FrameEnd.{FrameEnd}
 use Rattle.nj_machine.specs.declared.FrameEnd.TheVariants.{Jammed}
 use Rattle.nj_cpu.proofs.Lower.{unit-lower}
@@ -156,3 +159,22 @@ pub leaves_by : (pad : ℕ) (s : State) (cpu : Cpu) (w : Wired) (screen : Screen
     screen ≡ (let p = w.cells.screen in record p { ended = false }) → Leaves s (record { cpu = cpu; cells = record w.cells { screen = screen } })
 unfolding unit_step
 leaves_by pad s cpu w screen h registers held taken = rw (taken, registers, held) (unit_leaves pad s h)
+
+-- a step that answers a jam leaves a jammed processor, and no other does
+tells-by : (step : UnitStep) (jammed ended : Bool) → end_by (end_of jammed) ended ≡ end_told step → (step ≡ StepJammed) ↔ (jammed ≡ true)
+tells-by More true ended e = cc
+tells-by More false ended e = (λ h. cc, λ h. cc)
+tells-by AtPicture true ended e = cc
+tells-by AtPicture false ended e = (λ h. cc, λ h. cc)
+tells-by StepJammed true ended e = (λ h. refl, λ h. refl)
+tells-by StepJammed false true e = cc
+tells-by StepJammed false false e = cc
+
+pub step_tells : (pad : ℕ) (s t : State) (step : UnitStep) → unit_step pad s ≡ (t, end_told step) → (step ≡ StepJammed) ↔ (is_jammed t ≡ true)
+unfolding unit_step is_jammed
+step_tells pad s t step e =
+    let u = unit_now pad s in
+    let jammed : u.cpu.jammed ≡ t.cpu.jammed = ap (λ x. x.0.cpu.jammed) e in
+    let told : end_by (end_of u.cpu.jammed) u.held.cells.screen.ended ≡ end_told step =
+    ap (λ x. end_by x u.held.cells.screen.ended) (sym (unit-end wires s.cpu (wired pad s))) ∙ ap (λ x. x.1) e in
+    rw (← jammed) (tells-by step u.cpu.jammed u.held.cells.screen.ended told)

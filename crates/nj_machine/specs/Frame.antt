@@ -1,7 +1,7 @@
 -- One frame, and the play of a movie.
 use Rattle.std.specs.Prelude.{◌≡◌, ℕ, zero, suc, ◌+◌, ◌-◌, ◌*◌, ◌<◌, nat_le, Bool, false, if◌then◌else◌, List, fold, length, Option, Some, None}
 use Rattle.nj_ines.specs.Cartridge.{Cartridge}
-use Rattle.nj_board.specs.Nrom.{IsMemory}
+use Rattle.nj_banked.specs.Banks.{IsBanks}
 use Rattle.nj_cpu.specs.declared.state.UnitEnd.{UnitEnd}
 use Rattle.nj_cpu.specs.declared.state.UnitEnd.TheVariants.{Done, Jammed as JammedUnit}
 use Rattle.nj_cpu.specs.Unit.{unit_of}
@@ -63,7 +63,7 @@ play cart movie = frames (power_on cart) movie
 pub record IsSized (c : Cells) : Type 0 where
   pub screen : IsScreen c.screen
   pub ram : length c.ram ≡ 2048
-  pub board : IsMemory c.board
+  pub board : IsBanks c.board
 
 -- what a state between two units keeps: its memories have their sizes, its next dot is in the picture, and its mark is clear
 pub record IsReady (s : State) : Type 0 where

@@ -2,7 +2,7 @@
 -- 2,048 (nametables, OAM, palette and 64 bytes of registers), 32 bytes of the rest from byte 4,448, and pattern memory
 -- from byte 4,480 where it is RAM. What the cartridge fixes is no part of it.
 use Rattle.std.specs.Prelude.{◌≡◌, ℕ, ◌+◌, ◌*◌, ◌/◌, ◌%◌, ◌==◌, Bool, true, false, List, [], ◌∷◌, ◌++◌, length, take, drop, replicate, slice_index, Option, Some, None, if◌then◌else◌}
-use Rattle.nj_board.specs.Nrom.{Memory}
+use Rattle.nj_banked.specs.Banks.{Banks}
 use Rattle.nj_cpu.specs.declared.state.Cpu.{Cpu}
 use Rattle.nj_cpu.specs.declared.state.Note.{Note}
 use Rattle.nj_cpu.specs.declared.state.Note.TheVariants.{None as NoNote, Late, Due}
@@ -29,7 +29,7 @@ abbrev pub page_byte : Option ℕ → ℕ
 page_byte None = 0
 page_byte (Some page) = page
 
--- the processor, the ports and the data bus as 25 bytes, words low byte first
+-- the processor, the ports, the data bus and the board's bank as 26 bytes, words low byte first
 unfoldable pub rest_bytes : State → List ℕ
 rest_bytes s =
     s.cpu.a ∷ s.cpu.x ∷ s.cpu.y ∷ s.cpu.s ∷ s.cpu.pc % 256 ∷ s.cpu.pc / 256
@@ -38,7 +38,8 @@ rest_bytes s =
     ∷ note_byte s.cpu.note ∷ flag_byte s.cpu.line ∷ flag_byte s.cpu.jammed
     ∷ flag_byte s.cells.port_one.strobe ∷ s.cells.port_one.latch ∷ s.cells.port_one.count
     ∷ flag_byte s.cells.port_two.strobe ∷ s.cells.port_two.latch ∷ s.cells.port_two.count
-    ∷ s.cells.bus_byte ∷ page_flag s.cells.page ∷ page_byte s.cells.page ∷ flag_byte s.cells.odd ∷ []
+    ∷ s.cells.bus_byte ∷ page_flag s.cells.page ∷ page_byte s.cells.page ∷ flag_byte s.cells.odd
+    ∷ s.cells.board.bank ∷ []
 
 -- pattern memory is a part of the state where it is RAM
 abbrev pub pattern_ram : Bool → List ℕ → List ℕ
@@ -49,11 +50,11 @@ pattern_ram false chr = []
 unfoldable pub image_len : Rom → ℕ
 image_len rom = if rom.chr_ram then 12672 else 4480
 
--- the image of a state; seven bytes before pattern memory are 0
+-- the image of a state; six bytes before pattern memory are 0
 unfoldable pub image_of : State → List ℕ
 image_of s =
     s.cells.ram ++ (picture_bytes s.cells.screen
-    ++ ((rest_bytes s ++ replicate 7 0) ++ pattern_ram s.cells.board.chr_ram s.cells.board.chr))
+    ++ ((rest_bytes s ++ replicate 6 0) ++ pattern_ram s.cells.board.chr_ram s.cells.board.chr))
 
 -- a note from its byte
 abbrev pub note_at : List ℕ → ℕ → Note
@@ -97,16 +98,21 @@ screen_at vertical image =
       vram = record { vertical = vertical; cells = take 2048 (drop 2048 image); palette = take 32 (drop 4352 image) };
     })
 
--- the board of this cartridge, with pattern memory from an image where it is RAM
-unfoldable pub board_at : Rom → List ℕ → Memory
-board_at rom image =
-    record { prg = rom.prg; chr = (if rom.chr_ram then drop 4480 image else rom.chr); chr_ram = rom.chr_ram }
+-- the board of this cartridge with this bank chosen, with pattern memory from an image where it is RAM
+unfoldable pub board_at : Rom → List ℕ → ℕ → Banks
+board_at rom image bank = record {
+  prg = rom.prg;
+  chr = (if rom.chr_ram then drop 4480 image else rom.chr);
+  chr_ram = rom.chr_ram;
+  mapper = rom.mapper;
+  bank = bank;
+}
 
 -- the cells from an image and its 32 bytes
 unfoldable pub cells_at : Rom → List ℕ → List ℕ → Cells
 cells_at rom image bytes =
-    cells_of (screen_at rom.vertical image) (take 2048 image) (board_at rom image) (slice_index bytes 21) (page_at bytes 22)
-    (flag_at bytes 24) (port_at bytes 15) (port_at bytes 18)
+    cells_of (screen_at rom.vertical image) (take 2048 image) (board_at rom image (slice_index bytes 25))
+    (slice_index bytes 21) (page_at bytes 22) (flag_at bytes 24) (port_at bytes 15) (port_at bytes 18)
 
 -- the state of this cartridge that has this image
 unfoldable pub of_image : Rom → List ℕ → State

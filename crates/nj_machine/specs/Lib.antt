@@ -1,4 +1,6 @@
 pub mod State
 pub mod Wires
 pub mod Frame
+pub mod Seen
+pub mod Recorder
 pub mod Image

@@ -1,6 +1,7 @@
 -- What the processor is wired to: the memory map, and one cycle (NESdev Wiki, "CPU memory map").
-use Rattle.std.specs.Prelude.{ℕ, ◌+◌, ◌*◌, ◌/◌, ◌%◌, ◌==◌, nat_lt, not, if◌then◌else◌, slice_index, slice_set, Option, Some, None, unwrap_or}
-use Rattle.nj_board.specs.Nrom.{Memory, byte_at, put_at}
+use Rattle.std.specs.Prelude.{ℕ, ◌+◌, ◌*◌, ◌/◌, ◌%◌, ◌==◌, nat_lt, not, if◌then◌else◌, slice_index, slice_set, nat_le, Option, Some, None, unwrap_or}
+use Rattle.nj_banked.specs.Banks.{Banks}
+use Rattle.nj_banked.specs.Banked.{byte_at, put_at, pattern_of, written as board_written}
 use Rattle.nj_isa.specs.Bus.{Acts}
 use Rattle.nj_dots.specs.Screen.{nmi_line_of}
 use Rattle.nj_dots.specs.Dots.{after_dots}
@@ -15,7 +16,7 @@ pub record Wired : Type 0 where
 
 -- the picture runs three dots in each cycle (NESdev Wiki, "Cycle reference chart")
 unfoldable pub dots_run : Wired → Wired
-dots_run w = record w { cells = (let c = w.cells in record c { screen = after_dots 3 c.board.chr c.screen }) }
+dots_run w = record w { cells = (let c = w.cells in record c { screen = after_dots 3 (pattern_of c.board) c.screen }) }
 
 -- a port gives bit 0, and bits 5 to 7 stay as they are on the data bus; the bits between are 0 (NESdev Wiki, "Controller
 -- reading" and "Open bus behavior")
@@ -36,7 +37,7 @@ answer w at =
 
 -- a read of a picture's register
 unfoldable pub register_read : ℕ → Wired → Wired
-register_read reg w = record w { cells = (let c = w.cells in record c { screen = screen_after_read reg c.board.chr c.screen }) }
+register_read reg w = record w { cells = (let c = w.cells in record c { screen = screen_after_read reg (pattern_of c.board) c.screen }) }
 
 -- a read of port 1
 unfoldable pub port_one_read : Wired → Wired
@@ -60,7 +61,7 @@ unfoldable pub ram_put : ℕ → ℕ → Wired → Wired
 ram_put place value w = record w { cells = (let c = w.cells in record c { ram = slice_set c.ram place value }) }
 
 -- the board after a write of $2007 that goes to pattern memory, if it is one
-abbrev pub pattern_put : Option (ℕ × ℕ) → Memory → Memory
+abbrev pub pattern_put : Option (ℕ × ℕ) → Banks → Banks
 pattern_put None board = board
 pattern_put (Some put) board = put_at board put.0 put.1
 
@@ -86,14 +87,20 @@ ports_strobed value w = record w {
   });
 }
 
--- what a write changes: working memory, a register of the picture, the page of a sprite copy at $4014, the ports at $4016
+-- the board takes a byte, by which it may choose another bank
+unfoldable pub board_put : ℕ → ℕ → Wired → Wired
+board_put at value w = record w { cells = (let c = w.cells in record c { board = board_written c.board at value }) }
+
+-- what a write changes: working memory, a register of the picture, the page of a sprite copy at $4014, the ports at
+-- $4016, and the board from $8000 on
 unfoldable pub written : Wired → ℕ → ℕ → Wired
 written w at value =
     if nat_lt at 0x2000 then ram_put (at % 2048) value w
     else (if nat_lt at 0x4000 then register_put (at % 8) value w
     else (if at == 0x4014 then copy_asked value w
     else (if at == 0x4016 then ports_strobed value w
-    else w)))
+    else (if nat_le 0x8000 at then board_put at value w
+    else w))))
 
 -- the end of a cycle: the byte stays on the data bus, and the parity turns
 unfoldable pub over : ℕ → Wired → Wired

@@ -1,10 +1,12 @@
 //! What the processor is wired to.
 
 ghost use Rattle.std.specs.Prelude.{◌≡◌, ◌<◌, ◌≤◌, ◌*◌, ◌/◌, ◌+◌};
+ghost use Rattle.nj_banked.specs.Banked.{pattern_of};
 ghost use Rattle.nj_machine.specs.State.{cells_of};
 ghost use Rattle.nj_machine.specs.Wires.{answer, answered, port_byte, wires, written, Wired};
 
-use nj_board::{Board, Nrom};
+use nj_banked::Banked;
+use nj_board::Board;
 use nj_dots::Picture;
 use nj_isa::Bus;
 use nj_pad::{Pad, Port};
@@ -14,7 +16,7 @@ use nj_pad::{Pad, Port};
 pub(crate) struct Cells<P> {
     pub picture: P,
     pub ram: [u8; 2048],
-    pub board: Nrom,
+    pub board: Banked,
     pub bus_byte: u8,
     pub page: Option<u8>,
     pub odd: bool,
@@ -58,7 +60,7 @@ impl<P: Picture + Drop> Cells<P> {
 
     // The access of a write outside working memory, after the cycle's dots.
     #[inline(never)]
-    #[tactic(auto, unfolding(crate::specs::Wires::written, crate::specs::Wires::register_put, crate::specs::Wires::copy_asked, crate::specs::Wires::ports_strobed))]
+    #[tactic(auto, unfolding(crate::specs::Wires::written, crate::specs::Wires::register_put, crate::specs::Wires::copy_asked, crate::specs::Wires::ports_strobed, crate::specs::Wires::board_put))]
     fn write_outside(&mut self, at: u16, value: u8)
         requires from { 8192 ≤ at }
         ensures { ⟦<Cells<P> as Bus>⟧.held self.new ≡ written (⟦<Cells<P> as Bus>⟧.held self.old) at value }
@@ -75,7 +77,8 @@ impl<P: Picture + Drop> Cells<P> {
         } else if at == 0x4016 {
             self.port_one.strobe(value, self.pad);
             self.port_two.strobe(value, Pad(0));
-        } else if at >= 0x4020 {
+        } else if at >= 0x8000 {
+            self.picture.settle(self.board.pattern());
             self.board.cpu_write(at, value);
         }
     }
@@ -85,7 +88,7 @@ impl<P: Picture + Drop> Bus for Cells<P> {
     ghost Held = { Wired };
 
     ghost held = { λ c. record {
-      cells = cells_of (P.meaning c.picture c.board.chr) c.ram c.board c.bus_byte c.page c.odd c.port_one c.port_two;
+      cells = cells_of (P.meaning c.picture (pattern_of c.board)) c.ram c.board c.bus_byte c.page c.odd c.port_one c.port_two;
       pad = c.pad;
     } };
 

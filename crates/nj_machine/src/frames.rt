@@ -1,13 +1,16 @@
 //! The machine, frame by frame.
 
 ghost use Rattle.std.specs.Prelude.{◌≡◌, ◌+◌, ◌-◌, ◌^◌, ◌≤◌, ◌↔◌, ℕ, true, min, length, replicate, IfOk};
-ghost use Rattle.nj_board.specs.Nrom.{IsMemory};
+ghost use Rattle.nj_banked.specs.Banks.{IsBanks};
 ghost use Rattle.nj_machine.specs.State.{State, power_on, ram_of, rom_of, is_jammed, memory_of, reset_vector};
-ghost use Rattle.nj_machine.specs.Frame.{unit_step, frame, IsReady, IsFirstEnd};
+ghost use Rattle.nj_machine.specs.Frame.{unit_step, frame, frames, IsReady, IsFirstEnd};
+ghost use Rattle.nj_machine.specs.Seen.{end_told, counted, seen_of};
 
 use crate::FrameEnd;
 use crate::cells::Cells;
-use nj_board::{Board, Nrom};
+use crate::seeing::{Recorder, UnitSeen, UnitStep};
+use nj_banked::Banked;
+use nj_board::Board;
 use nj_cpu::{Cpu, UnitEnd};
 use nj_dots::Picture;
 use nj_ines::Cart;
@@ -21,10 +24,11 @@ use std::sync::ledger::Ledger;
 #[derive(Drop)]
 pub struct Console<P: Picture> {
     pub(crate) cpu: Cpu,
-    pub(crate) cells: Cells<P>,
+    pub(crate) recorder: Recorder<P>,
 }
 
 impl<P: Picture> Model for Console<P> {
+    ghost use Rattle.nj_banked.specs.Banked.{pattern_of};
     ghost use Rattle.nj_machine.specs.State.{State, cells_of};
     ghost use Rattle.nj_machine.specs.Frame.{IsReady};
 
@@ -32,12 +36,12 @@ impl<P: Picture> Model for Console<P> {
 
     ghost view = { λ m. record {
       cpu = m.cpu;
-      cells = cells_of (P.meaning m.cells.picture m.cells.board.chr) m.cells.ram m.cells.board m.cells.bus_byte m.cells.page m.cells.odd m.cells.port_one m.cells.port_two;
+      cells = cells_of (P.meaning m.recorder.cells.picture (pattern_of m.recorder.cells.board)) m.recorder.cells.ram m.recorder.cells.board m.recorder.cells.bus_byte m.recorder.cells.page m.recorder.cells.odd m.recorder.cells.port_one m.recorder.cells.port_two;
     } };
 
     ghost invariant = { λ m. IsReady (record {
       cpu = m.cpu;
-      cells = cells_of (P.meaning m.cells.picture m.cells.board.chr) m.cells.ram m.cells.board m.cells.bus_byte m.cells.page m.cells.odd m.cells.port_one m.cells.port_two;
+      cells = cells_of (P.meaning m.recorder.cells.picture (pattern_of m.recorder.cells.board)) m.recorder.cells.ram m.recorder.cells.board m.recorder.cells.bus_byte m.recorder.cells.page m.recorder.cells.odd m.recorder.cells.port_one m.recorder.cells.port_two;
     }) };
 }
 
@@ -50,7 +54,7 @@ fn zeros() -> [u8; 2048]
 
 // The word at $FFFC of a board.
 #[tactic(auto, unfolding(crate::specs::State::reset_vector))]
-fn reset_vector(board: &Nrom) -> u16
+fn reset_vector(board: &Banked) -> u16
     ensures { result ≡ reset_vector board.now }
 {
     let low = board.cpu_read(0xFFFC).unwrap_or(0);
@@ -59,13 +63,18 @@ fn reset_vector(board: &Nrom) -> u16
 }
 
 // The board of a cartridge.
-fn board_of(alloc: Global, cart: &Cart) -> Result<Nrom, AllocError>
+fn board_of(alloc: Global, cart: &Cart) -> Result<Banked, AllocError>
     ensures board { IfOk result (λ board. board ≡ memory_of cart.now) }
-    ensures sized { IfOk result (λ board. IsMemory board) }
+    ensures sized { IfOk result (λ board. IsBanks board) }
 {
     let prg = Vec::from_slice(alloc, cart.prg())?;
     let chr = Vec::from_slice(alloc, cart.chr())?;
-    Ok(Nrom::new(prg, chr, cart.chr_ram()))
+    let mapper = cart.mapper();
+    if mapper == 0 {
+        Ok(Banked::fixed(prg, chr, cart.chr_ram()))
+    } else {
+        Ok(Banked::new(prg, chr, cart.chr_ram(), mapper))
+    }
 }
 
 impl<P: Picture + Drop> Console<P> {
@@ -88,7 +97,12 @@ impl<P: Picture + Drop> Console<P> {
             port_two: Port::new(),
             pad: Pad(0),
         };
-        Ok(Console { cpu, cells })
+        let recorder = Recorder {
+            cells,
+            reads: [0, 0, 0, 0],
+            count: 0,
+        };
+        Ok(Console { cpu, recorder })
     }
 
     /// One frame with this pad, which counts as one step. It ends with the first unit of the processor that runs the
@@ -104,9 +118,21 @@ impl<P: Picture + Drop> Console<P> {
     {
         steps.tick();
         loop {
-            if let Some(end) = self.unit_step(pad) {
+            if let Some(end) = self.run_unit(pad) {
                 return end;
             }
+        }
+    }
+
+    /// One frame for each pad, each of which counts as one step.
+    pub fn play<L: Ledger>(&mut self, pads: &[Pad], steps: &mut Steps<L>)
+        ensures played { self.new ≡ frames self.old pads.now }
+        ensures cartridge { rom_of self.new ≡ rom_of self.old }
+        ensures counted { steps.new ≤ steps.old + length pads.now }
+        ensures never_falls { steps.old ≤ steps.new }
+    {
+        for pad in pads {
+            let _ = self.frame(*pad, steps);
         }
     }
 
@@ -116,7 +142,7 @@ impl<P: Picture + Drop> Console<P> {
         ensures bytes { result.now ≡ ram_of self.now }
         ensures len { length result.now ≡ 2048 }
     {
-        &self.cells.ram
+        &self.recorder.cells.ram
     }
 
     /// Whether the processor is jammed.
@@ -130,18 +156,60 @@ impl<P: Picture + Drop> Console<P> {
     /// One unit of the processor in a frame with this pad, and how it ended the frame, if it did.
     #[inline(always)]
     #[tactic(auto, unfolding(crate::specs::Frame::unit_step))]
-    fn unit_step(&mut self, pad: Pad) -> Option<FrameEnd>
+    fn run_unit(&mut self, pad: Pad) -> Option<FrameEnd>
         ensures step { unit_step pad self.old ≡ (self.new, result) }
         ensures began { IsReady self.old }
         ensures ready { IsReady self.new }
         ensures cartridge { rom_of self.new ≡ rom_of self.old }
     {
-        self.cells.pad = pad;
-        let end = nj_cpu::unit(&mut self.cpu, &mut self.cells);
-        let ended = self.cells.picture.take_end();
+        self.recorder.cells.pad = pad;
+        let end = nj_cpu::unit(&mut self.cpu, &mut self.recorder.cells);
+        let ended = self.recorder.cells.picture.take_end();
         match end {
             UnitEnd::Jammed => Some(FrameEnd::Jammed),
             UnitEnd::Done => { if ended { Some(FrameEnd::Picture) } else { None } }
         }
+    }
+
+    // One unit in a frame with this pad, and what it was.
+    #[tactic(auto, unfolding(crate::specs::Frame::unit_step))]
+    fn see_unit(&mut self, pad: Pad, seen: &mut UnitSeen) -> UnitStep
+        ensures step { unit_step pad self.old ≡ (self.new, end_told result) }
+        ensures seen { seen.new ≡ seen_of pad self.old }
+        ensures began { IsReady self.old }
+        ensures ready { IsReady self.new }
+        ensures cartridge { rom_of self.new ≡ rom_of self.old }
+    {
+        self.recorder.cells.pad = pad;
+        let end = self.recorder.unit(&mut self.cpu, seen);
+        let ended = self.recorder.cells.picture.take_end();
+        match end {
+            UnitEnd::Jammed => UnitStep::Jammed,
+            UnitEnd::Done => { if ended { UnitStep::Picture } else { UnitStep::More } }
+        }
+    }
+
+    /// One unit of the processor in a frame with this pad, with what it was. The units of a frame are those up to the
+    /// first that does not answer `More`, which counts as one step.
+    #[tactic(auto, using(crate::proofs::Units::step_tells))]
+    pub fn unit_step<L: Ledger>(
+        &mut self,
+        pad: Pad,
+        seen: &mut UnitSeen,
+        steps: &mut Steps<L>,
+    ) -> UnitStep
+        ensures after { unit_step pad self.old ≡ (self.new, end_told result) }
+        ensures seen { seen.new ≡ seen_of pad self.old }
+        ensures jammed { (result ≡ UnitStep.Jammed) ↔ (is_jammed self.new ≡ true) }
+        ensures ready { IsReady self.new }
+        ensures cartridge { rom_of self.new ≡ rom_of self.old }
+        ensures counted { steps.new ≡ counted result steps.old }
+        ensures never_falls { steps.old ≤ steps.new }
+    {
+        let step = self.see_unit(pad, seen);
+        if step != UnitStep::More {
+            steps.tick();
+        }
+        step
     }
 }

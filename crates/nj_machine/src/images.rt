@@ -7,7 +7,8 @@ ghost use Rattle.nj_machine.specs.Frame.{IsReady, frames};
 ghost use Rattle.nj_machine.specs.Image.{note_byte, page_flag, page_byte, rest_bytes, image_len, image_of, note_at, page_at, port_at, cpu_at, of_image, IsImage};
 
 use crate::frames::Console;
-use nj_board::{Board, Nrom};
+use nj_banked::Banked;
+use nj_board::Board;
 use nj_cpu::{Cpu, Flags, Note};
 use nj_dots::Picture;
 use nj_pad::Port;
@@ -141,7 +142,7 @@ fn ram_part(image: &[u8]) -> &[u8]
     ram
 }
 
-// The 32 bytes of processor, ports and data bus in an image.
+// The 32 bytes of processor, ports, data bus and bank in an image.
 fn rest_part(image: &[u8]) -> &[u8]
     requires { 4480 ≤ length image.now }
     ensures part { result.now ≡ take 32 (drop 4448 image.now) }
@@ -151,17 +152,18 @@ fn rest_part(image: &[u8]) -> &[u8]
 }
 
 // Writes pattern memory into an image, where it is RAM.
-fn place_pattern(image: &mut [u8], board: &Nrom)
+fn place_pattern(image: &mut [u8], board: &Banked)
     requires { board.now.chr_ram ≡ true → length image.old ≡ 12672 }
     ensures { image.new ≡ (if board.now.chr_ram then overwritten 4480 board.now.chr image.old else image.old) }
 {
     if board.has_chr_ram() {
+        board.fits();
         place(image, 4480, board.pattern());
     }
 }
 
 // Takes pattern memory from an image, where it is RAM.
-fn take_pattern(board: &mut Nrom, image: &[u8])
+fn take_pattern(board: &mut Banked, image: &[u8])
     requires { board.old.chr_ram ≡ true → length image.now ≡ 12672 }
     ensures { board.new ≡ record board.old { chr = (if board.old.chr_ram then drop 4480 image.now else board.old.chr) } }
 {
@@ -177,21 +179,21 @@ impl<P: Picture + Drop> Console<P> {
     pub fn image_len(&self) -> usize
         ensures { result ≡ image_len (rom_of self.now) }
     {
-        if self.cells.board.has_chr_ram() {
+        if self.recorder.cells.board.has_chr_ram() {
             12_672
         } else {
             4_480
         }
     }
 
-    // Processor, ports and data bus as bytes.
+    // Processor, ports, data bus and bank as bytes.
     #[tactic(auto, unfolding(crate::specs::Image::rest_bytes))]
     fn rest_bytes(&self) -> [u8; 32]
-        ensures { result ≡ rest_bytes self.now ++ replicate 7 0 }
+        ensures { result ≡ rest_bytes self.now ++ replicate 6 0 }
     {
         let cpu = self.cpu;
-        let one = self.cells.port_one;
-        let two = self.cells.port_two;
+        let one = self.recorder.cells.port_one;
+        let two = self.recorder.cells.port_two;
         [
             cpu.a,
             cpu.x,
@@ -214,11 +216,11 @@ impl<P: Picture + Drop> Console<P> {
             flag_byte(two.strobe),
             two.latch,
             two.count,
-            self.cells.bus_byte,
-            page_flag(self.cells.page),
-            page_byte(self.cells.page),
-            flag_byte(self.cells.odd),
-            0,
+            self.recorder.cells.bus_byte,
+            page_flag(self.recorder.cells.page),
+            page_byte(self.recorder.cells.page),
+            flag_byte(self.recorder.cells.odd),
+            self.recorder.cells.board.bank(),
             0,
             0,
             0,
@@ -235,11 +237,11 @@ impl<P: Picture + Drop> Console<P> {
         ensures same { self.new ≡ self.old }
     {
         let rest = self.rest_bytes();
-        self.cells.picture.settle(self.cells.board.pattern());
-        place(image, 0, &self.cells.ram);
-        self.cells.picture.put(image);
+        self.recorder.cells.picture.settle(self.recorder.cells.board.pattern());
+        place(image, 0, &self.recorder.cells.ram);
+        self.recorder.cells.picture.put(image);
         place(image, 4448, &rest);
-        place_pattern(image, &self.cells.board);
+        place_pattern(image, &self.recorder.cells.board);
     }
 
     /// Makes the machine the state whose image this is.
@@ -249,16 +251,17 @@ impl<P: Picture + Drop> Console<P> {
         ensures cartridge { rom_of self.new ≡ rom_of self.old }
     {
         let bytes = rest_part(image);
-        let pattern = self.cells.board.pattern();
-        self.cells.picture.settle(pattern);
-        self.cells.picture.get(image);
-        self.cells.ram.copy_from_slice(ram_part(image));
-        take_pattern(&mut self.cells.board, image);
+        let pattern = self.recorder.cells.board.pattern();
+        self.recorder.cells.picture.settle(pattern);
+        self.recorder.cells.picture.get(image);
+        self.recorder.cells.ram.copy_from_slice(ram_part(image));
+        take_pattern(&mut self.recorder.cells.board, image);
+        self.recorder.cells.board.set_bank(bytes[25]);
         self.cpu = cpu_at(bytes);
-        self.cells.bus_byte = bytes[21];
-        self.cells.page = page_at(bytes, 22);
-        self.cells.odd = flag(bytes[24]);
-        self.cells.port_one = port_at(bytes, 15);
-        self.cells.port_two = port_at(bytes, 18);
+        self.recorder.cells.bus_byte = bytes[21];
+        self.recorder.cells.page = page_at(bytes, 22);
+        self.recorder.cells.odd = flag(bytes[24]);
+        self.recorder.cells.port_one = port_at(bytes, 15);
+        self.recorder.cells.port_two = port_at(bytes, 18);
     }
 }

@@ -6,17 +6,22 @@ mod cells;
 mod frames;
 mod images;
 mod laws;
+mod seeing;
 #[cfg(test)]
 mod tests;
 
 pub use frames::Console;
-pub use laws::{a_jam_stays, an_image_tells_its_state, frame_is_first, frames_keep_the_cartridge};
+pub use laws::{
+    a_jam_stays, an_image_tells_its_state, frame_is_first, frames_are_units, frames_keep_the_cartridge,
+};
 use nj_catchup::CatchUp;
+pub use nj_cpu::{Cpu, Flags, Note};
 pub use nj_dots::Picture;
 pub use nj_ines::Cart;
 pub use nj_pad::Pad;
 use nj_ppu::DotPicture;
 pub use nj_steps::Steps;
+pub use seeing::{UnitKind, UnitSeen, UnitStep};
 
 /// The machine, over the picture that lets dots stay pending until something asks what they did.
 pub type Machine = Console<CatchUp>;

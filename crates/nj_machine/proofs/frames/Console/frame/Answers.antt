@@ -1,7 +1,7 @@
 -- The unit that ended the loop ends the frame that it is in.
 use Rattle.std.proofs.Common.{sym, ◌∙◌}
 use Rattle.nj_machine.proofs.Units.{end_tells}
-use Rattle.nj_machine.proofs.Fuel.{frame_ends}
+use Rattle.nj_machine.proofs.Fuel.{frame_ends, frame_goes_on, fewer_left}
 use Rattle.nj_machine.proofs.frames.Console.frame.Goals as goal
 
 pub returns-in-Some-clause-after : goal.returns-in-Some-clause-after
@@ -13,3 +13,12 @@ returns-in-Some-clause-jammed g c = end_tells _ _ _ _ c.in-Some.ensures.step
 
 pub returns-in-Some-clause-cartridge : goal.returns-in-Some-clause-cartridge
 returns-in-Some-clause-cartridge g c = c.in-Some.ensures.cartridge ∙ c.loop-end.invariant.same_rom
+
+pub loop-end-smaller : goal.loop-end-smaller
+loop-end-smaller g c = fewer_left _ _ _ c.in_default.ensures.began c.in_default.ensures.step
+
+pub loop-end-preserved : goal.loop-end-preserved
+loop-end-preserved g c = record {
+  same_frame = frame_goes_on _ _ _ c.in_default.ensures.began c.in_default.ensures.step ∙ c.loop-end.invariant.same_frame;
+  same_rom = c.in_default.ensures.cartridge ∙ c.loop-end.invariant.same_rom;
+}

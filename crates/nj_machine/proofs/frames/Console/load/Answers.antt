@@ -1,11 +1,12 @@
 -- The parts that are read are those of the image's state.
-use Rattle.std.proofs.Common.{[], sym, ap, ◌∙◌, subst, arith}
+use Rattle.std.proofs.Common.{[], slice_index, sym, ap, ◌∙◌, subst, arith}
 use Rattle.nj_machine.specs.State.{rom_of}
 use Rattle.nj_machine.specs.Frame.{IsReady}
 use Rattle.nj_machine.specs.Image.{of_image}
 use Rattle.nj_machine.proofs.ReadBack.{image-long}
 use Rattle.nj_machine.proofs.Saves.{with_ram}
-use Rattle.nj_machine.proofs.Loads.{holds_of, mirroring_of, with_pattern, load_chain}
+use Rattle.nj_banked.specs.Banked.{pattern_of, with_bank}
+use Rattle.nj_machine.proofs.Loads.{holds_of, mirroring_of, with_pattern, bank_below, load_chain}
 use Rattle.nj_machine.proofs.frames.Console.load.Goals as goal
 
 pub rest_part-bytes-requires : goal.rest_part-bytes-requires
@@ -16,7 +17,7 @@ get-requires-clause-long g c = omega (arith, c.requires.sized, image-long (rom_o
 
 pub get-requires-clause-stored : goal.get-requires-clause-stored
 get-requires-clause-stored g c =
-    let settled = c.settle.ensures.same [] ∙ ap (λ q. g.P.Picture.meaning c.self.inside.cells.picture q) c.pattern-pattern.ensures.bytes in
+    let settled = c.settle.ensures.same [] ∙ ap (λ q. g.P.Picture.meaning c.self.inside.recorder.cells.picture q) c.pattern-pattern.ensures.bytes in
     let mirroring = ap (λ x. x.vram.vertical) settled ∙ ap (λ s. s.cells.screen.vram.vertical) c.self.view_is in (
       [],
       (
@@ -33,10 +34,15 @@ unfolding rom_of
 take_pattern-requires g c is_ram =
     with_ram (rom_of c.args.self.now) _ c.requires.sized (ap (λ s. s.cells.board.chr_ram) (sym c.self.view_is) ∙ is_ram)
 
+pub set_bank-requires : goal.set_bank-requires
+set_bank-requires g c =
+    bank_below c.args.self.now c.args.image.now _ _ c.requires c.rest_part-bytes.ensures.part
+    (c.take_pattern.ensures ∙ ap (with_pattern c.args.image.now) (ap (λ s. s.cells.board) c.self.view_is))
+
 pub returns-clause-state : goal.returns-clause-state
 returns-clause-state g c =
-    let p = c.take_pattern.new.board.chr in
-    let settled = c.settle.ensures.same p ∙ ap (λ q. g.P.Picture.meaning c.self.inside.cells.picture q) c.pattern-pattern.ensures.bytes in
+    let p = pattern_of c.set_bank.new.self in
+    let settled = c.settle.ensures.same p ∙ ap (λ q. g.P.Picture.meaning c.self.inside.recorder.cells.picture q) c.pattern-pattern.ensures.bytes in
     let mirroring = ap (λ x. x.vram.vertical) settled ∙ ap (λ s. s.cells.screen.vram.vertical) c.self.view_is in
     load_chain c.args.self.now c.args.image.now _ _ _ _ _ _ _ _ _ (record {
       rest_is = c.rest_part-bytes.ensures.part;
@@ -46,8 +52,8 @@ returns-clause-state g c =
           (mirroring_of c.args.self.now c.args.image.now c.requires ∙ sym mirroring);
       ram_is = c.copy_from_slice.ensures.after ∙ c.ram_part.ensures.part;
       board_is =
-          c.take_pattern.ensures
-          ∙ ap (with_pattern c.args.image.now) (ap (λ s. s.cells.board) c.self.view_is);
+          c.set_bank.ensures
+          ∙ ap (λ m. with_bank m (slice_index c.rest_part-bytes.result.now 25)) (c.take_pattern.ensures ∙ ap (with_pattern c.args.image.now) (ap (λ s. s.cells.board) c.self.view_is));
       page_is = c.page_at-self-inside.ensures;
       odd_is = c.flag-self-inside.ensures;
       one_is = c.port_at-self-inside.ensures;

@@ -32,7 +32,7 @@ returns-clause-image g c =
     c.requires c.rest_bytes-rest.ensures c.place.ensures
     (c.put.ensures []
     ∙ ap (λ x. with_picture x c.place.new.image)
-    (c.settle.ensures.same [] ∙ ap (λ q. g.P.Picture.meaning c.self.inside.cells.picture q) c.pattern.ensures.bytes))
+    (c.settle.ensures.same [] ∙ ap (λ q. g.P.Picture.meaning c.self.inside.recorder.cells.picture q) c.pattern.ensures.bytes))
     c.place-2.ensures c.place_pattern.ensures
 
 pub returns-clause-is_image : goal.returns-clause-is_image
