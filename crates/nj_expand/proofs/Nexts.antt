@@ -8,7 +8,7 @@ use Rattle.nj_search_defs.specs.Game.{Word, Game}
 use Rattle.nj_search_defs.specs.Candidates.{Candidate, word_of}
 use Rattle.nj_search_defs.specs.Pruning.{Mark, forgotten, generation, top_level, raised}
 use Rattle.nj_search_defs.specs.Outcome.{State as Between, seen_of, fresh_of, state_after}
-use Rattle.nj_ines.specs.Cartridge.{IsNrom}
+use Rattle.nj_ines.specs.Cartridge.{IsCartridge}
 use Rattle.nj_machine.specs.State.{State, rom_of, power_on, ram_of, is_jammed}
 use Rattle.nj_machine.specs.Image.{image_len, image_of, of_image, IsImage}
 use Rattle.nj_rules.specs.declared.record.Judged.{Judged}
@@ -48,11 +48,11 @@ pub record AreLawful (plan : Plan) : Type 0 where
   pub judged : (word : Word) (pad : ℕ) → judged_of plan (word ++ pad ∷ [])
       ≡ judged_in plan.script.rules.rules (ram_of (state_of plan (word ++ pad ∷ []))) (status_of plan word) (is_jammed (state_of plan (word ++ pad ∷ [])))
 
-pub laws_of : (plan : Plan) → IsNrom plan.cartridge
+pub laws_of : (plan : Plan) → IsCartridge plan.cartridge
     → ((p : Plan) (word : Word) (pad : ℕ) → state_of p (word ++ pad ∷ []) ≡ held p.script.hold pad (state_of p word))
     → ((p : Plan) (word : Word) (pad : ℕ) → judged_of p (word ++ pad ∷ [])
     ≡ judged_in p.script.rules.rules (ram_of (state_of p (word ++ pad ∷ []))) (status_of p word) (is_jammed (state_of p (word ++ pad ∷ []))))
-    → ((p : Plan) (word : Word) → IsNrom p.cartridge → of_image (rom_in p) (image_at p word) ≡ state_of p word)
+    → ((p : Plan) (word : Word) → IsCartridge p.cartridge → of_image (rom_in p) (image_at p word) ≡ state_of p word)
     → AreLawful plan
 laws_of plan nrom state judged again =
     record { again = (λ word. again plan word nrom); state = state plan; judged = judged plan }

@@ -1,7 +1,7 @@
 -- What a search keeps of its front, and what its numbers keep to. All of it is this project's own.
 use Rattle.std.specs.Prelude.{◌≡◌, ℕ, ◌+◌, ◌*◌, ◌^◌, ◌≤◌, List, [], length, map}
 use Rattle.nj_search_defs.specs.Game.{Word}
-use Rattle.nj_ines.specs.Cartridge.{IsNrom}
+use Rattle.nj_ines.specs.Cartridge.{IsCartridge}
 use Rattle.nj_machine.specs.State.{Rom, rom_of, power_on}
 use Rattle.nj_machine.specs.Image.{image_len, image_of}
 use Rattle.nj_rules.specs.declared.record.Judged.{Judged}
@@ -41,7 +41,7 @@ one_state limit image = with_word image [] (empty_front (length image) limit)
 -- the pool has the images of the states after its words, which are some and no more than the bound; they are judged so;
 -- and its limit is what so many states need
 pub record IsFront (plan : Plan) (most : ℕ) (pool : Front) (judged : List Judged) : Type 0 where
-  pub nrom : IsNrom plan.cartridge
+  pub nrom : IsCartridge plan.cartridge
   pub images : pool.images ≡ map (image_at plan) pool.words
   pub judged_are : judged ≡ map (judged_of plan) pool.words
   pub some : 1 ≤ length pool.words

@@ -4,7 +4,7 @@ ghost use Rattle.std.specs.Prelude.{◌≡◌, ◌≤◌, ◌++◌, ◌∷◌, [
 ghost use Rattle.nj_search_defs.specs.Game.{Word, Game};
 ghost use Rattle.nj_search_defs.specs.Outcome.{State, Goes};
 ghost use Rattle.nj_search_defs.specs.Laws.{IsChild};
-ghost use Rattle.nj_ines.specs.Cartridge.{IsNrom};
+ghost use Rattle.nj_ines.specs.Cartridge.{IsCartridge};
 ghost use Rattle.nj_machine.specs.State.{ram_of};
 ghost use Rattle.nj_machine.specs.Image.{of_image, IsImage};
 ghost use Rattle.nj_rules.specs.Pads.{allowed_pads, named_pads};
@@ -22,9 +22,9 @@ use nj_search_defs::{front_is_bounded, parents_stood_before, words_are_equally_l
 
 /// The image of a word's state is one of its cartridge, and the state is made again from it.
 pub fn an_image_stands_for_its_word()
-    ensures is_image { (plan : Plan) (word : Word) → IsNrom plan.cartridge → IsImage (rom_in plan) (image_at plan word) }
-    ensures state { (plan : Plan) (word : Word) → IsNrom plan.cartridge → of_image (rom_in plan) (image_at plan word) ≡ state_of plan word }
-    ensures len { (plan : Plan) (word : Word) → IsNrom plan.cartridge → length (image_at plan word) ≡ size_in plan }
+    ensures is_image { (plan : Plan) (word : Word) → IsCartridge plan.cartridge → IsImage (rom_in plan) (image_at plan word) }
+    ensures state { (plan : Plan) (word : Word) → IsCartridge plan.cartridge → of_image (rom_in plan) (image_at plan word) ≡ state_of plan word }
+    ensures len { (plan : Plan) (word : Word) → IsCartridge plan.cartridge → length (image_at plan word) ≡ size_in plan }
     ensures few { (plan : Plan) → size_in plan ≤ 12672 }
 {
     a_word_keeps_the_cartridge();

@@ -1,7 +1,7 @@
 //! The start of a search: the start movie is run once, and its state is the first front.
 
 ghost use Rattle.std.specs.Prelude.{◌≡◌, ◌≤◌, ◌+◌, ◌*◌, ◌^◌, [], ◌∷◌, length, IfOk};
-ghost use Rattle.nj_ines.specs.Cartridge.{IsNrom};
+ghost use Rattle.nj_ines.specs.Cartridge.{IsCartridge};
 ghost use Rattle.nj_machine.specs.State.{rom_of};
 ghost use Rattle.nj_machine.specs.Frame.{frames};
 ghost use Rattle.nj_machine.specs.Image.{image_len, image_of};
@@ -138,7 +138,7 @@ impl First {
 
 /// What a cartridge holds.
 pub(crate) fn is_nrom(cart: &Cart)
-    ensures { IsNrom cart.now }
+    ensures { IsCartridge cart.now }
 {
     let _prg = cart.prg();
     let _chr = cart.chr();

@@ -1,7 +1,7 @@
 //! The search between two steps.
 
 ghost use Rattle.std.specs.Prelude.{◌≡◌, ◌≤◌, ◌<◌, ◌+◌, ◌*◌, ◌^◌, [], ◌∷◌, false, true, length, get_or, IfOk};
-ghost use Rattle.nj_ines.specs.Cartridge.{IsNrom};
+ghost use Rattle.nj_ines.specs.Cartridge.{IsCartridge};
 ghost use Rattle.nj_machine.specs.State.{power_on};
 ghost use Rattle.nj_machine.specs.Image.{of_image, IsImage};
 ghost use Rattle.nj_rules.specs.Pads.{named_pads};
@@ -96,7 +96,7 @@ impl Search {
     #[tactic(auto, unfolding(crate::specs::Held::opened, nj_search_defs::specs::Outcome::opening, nj_game::specs::Words::game_of, crate::specs::Front::one_state))]
     fn begun(cart: Cart, script: Script, start: Movie, bounds: Bounds, first: First) -> Search
         requires bounds { AreBounds bounds script }
-        requires nrom { IsNrom cart }
+        requires nrom { IsCartridge cart }
         requires pool { let plan = plan_of cart script start in first.pool ≡ one_state (bounds.front * (size_in plan + 16)) (image_at plan []) }
         requires judged { first.judged.items ≡ judged_of (plan_of cart script start) [] ∷ [] }
         requires seen { first.seen ≡ (key_of (plan_of cart script start) [] ∷ []) ∷ [] }
