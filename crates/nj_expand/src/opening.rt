@@ -3,7 +3,6 @@
 ghost use Rattle.std.specs.Prelude.{◌≡◌, ◌≤◌, ◌+◌, ◌*◌, ◌^◌, [], ◌∷◌, length, IfOk};
 ghost use Rattle.nj_ines.specs.Cartridge.{IsCartridge};
 ghost use Rattle.nj_machine.specs.State.{rom_of};
-ghost use Rattle.nj_machine.specs.Frame.{frames};
 ghost use Rattle.nj_machine.specs.Image.{image_len, image_of};
 ghost use Rattle.nj_pool.specs.declared.refused.PushRefused.{PushRefused};
 ghost use Rattle.nj_game.specs.Plan.{plan_of};
@@ -16,7 +15,6 @@ use nj_game::the_empty_word_is_the_start;
 use nj_ines::Cart;
 use nj_machine::Machine;
 use nj_movie::Movie;
-use nj_pad::Pad;
 use nj_pool::{FrontPool, PushRefused};
 use nj_rules::{Judged, Status};
 use nj_script::Script;
@@ -33,17 +31,6 @@ pub(crate) struct First {
     pub(crate) judged: Vec<Judged>,
     pub(crate) seen: Generations,
     pub(crate) level: u32,
-}
-
-// One frame for each pad.
-fn run_frames<L: Ledger>(machine: &mut Machine, pads: &[Pad], steps: &mut Steps<L>)
-    ensures state { machine.new ≡ frames machine.old pads.now }
-    ensures frames { steps.new ≤ steps.old + length pads.now }
-    ensures never_falls { steps.old ≤ steps.new }
-{
-    for pad in pads {
-        machine.frame(*pad, steps);
-    }
 }
 
 /// Room for an image of the machine.
@@ -119,9 +106,9 @@ impl First {
     {
         the_empty_word_is_the_start();
         an_image_stands_for_its_word();
-        is_nrom(cart);
+        is_cartridge(cart);
         let mut machine = Machine::power_on(alloc, cart)?;
-        run_frames(&mut machine, start.pads(), steps);
+        machine.play(start.pads(), steps);
         let judged = judge_state(&machine, Status(0), script);
         let key = key_in(&machine, judged, script);
         let image = saved(alloc, &mut machine)?;
@@ -137,7 +124,7 @@ impl First {
 }
 
 /// What a cartridge holds.
-pub(crate) fn is_nrom(cart: &Cart)
+pub(crate) fn is_cartridge(cart: &Cart)
     ensures { IsCartridge cart.now }
 {
     let _prg = cart.prg();

@@ -14,7 +14,7 @@ ghost use Rattle.nj_expand.specs.Front.{rom_in, size_in, image_at, one_state, Ar
 use crate::Bounds;
 use crate::laws::{a_candidate_is_told_by_its_parent, an_image_stands_for_its_word};
 use crate::movies::{is_no_fail, push_word};
-use crate::opening::{First, is_nrom};
+use crate::opening::{First, is_cartridge};
 use nj_ines::Cart;
 use nj_machine::{Machine, frames_keep_the_cartridge};
 use nj_movie::Movie;
@@ -86,7 +86,7 @@ impl Search {
         ensures frames { steps.new ≤ steps.old + length start }
         ensures never_falls { steps.old ≤ steps.new }
     {
-        is_nrom(&cart);
+        is_cartridge(&cart);
         let _inputs = script.input_count();
         let first = First::run(alloc, &cart, &script, &start, bounds.front, steps)?;
         Ok(Search::begun(cart, script, start, bounds, first))
@@ -96,7 +96,7 @@ impl Search {
     #[tactic(auto, unfolding(crate::specs::Held::opened, nj_search_defs::specs::Outcome::opening, nj_game::specs::Words::game_of, crate::specs::Front::one_state))]
     fn begun(cart: Cart, script: Script, start: Movie, bounds: Bounds, first: First) -> Search
         requires bounds { AreBounds bounds script }
-        requires nrom { IsCartridge cart }
+        requires cartridge { IsCartridge cart }
         requires pool { let plan = plan_of cart script start in first.pool ≡ one_state (bounds.front * (size_in plan + 16)) (image_at plan []) }
         requires judged { first.judged.items ≡ judged_of (plan_of cart script start) [] ∷ [] }
         requires seen { first.seen ≡ (key_of (plan_of cart script start) [] ∷ []) ∷ [] }
