@@ -1,14 +1,13 @@
 //! Reads of $2002 that pending dots do not change.
 
-ghost use Rattle.std.specs.Prelude.{◌≡◌, ◌≤◌, ◌<◌, ◌+◌, ◌*◌, ℕ, List, true, false, Some, None};
-ghost use Rattle.nj_dots.specs.Screen.{IsScreen};
+ghost use Rattle.std.specs.Prelude.{◌≡◌, ◌≤◌, ◌<◌, ◌+◌, ℕ, List, true, false, Some, None};
+ghost use Rattle.nj_dots.specs.Screen.{IsScreen, place_of};
 ghost use Rattle.nj_dots.specs.Dots.{after_dots, is_hit_pixel, to_event};
 ghost use Rattle.nj_dots.specs.Laws.{IsOverflow};
 ghost use Rattle.nj_catchup.specs.Steady.{IsAlong, IsAside, IsSteady};
 
-use crate::visible::shows_both_layers;
 use nj_dots::laws::sprite_overflow_is_timed;
-use nj_dots::{Position, Screen};
+use nj_dots::{DOTS_OF_FRAME, Position, Screen, shows_both_layers};
 use nj_sprite0::SpriteRow;
 
 /// No pending dot changes what a read of $2002 answers, nor does the read change what they do.
@@ -70,9 +69,9 @@ fn has_no_hit(screen: &Screen, dots: u32) -> bool
 fn stays_below(position: Position, dots: u32) -> bool
     requires dots { dots ≤ 89342 }
     ensures line { result ≡ true → 240 ≤ position.line }
-    ensures frame { result ≡ true → position.line * 341 + position.dot + dots ≤ 89341 }
+    ensures frame { result ≡ true → place_of position + dots ≤ 89341 }
 {
-    position.line >= 240 && u32::from(position.line) * 341 + u32::from(position.dot) + dots <= 89341
+    position.line >= 240 && position.place() + dots < DOTS_OF_FRAME
 }
 
 // How many dots there are at least up to one that latches a row of sprite zero or is a pixel of the latched one.
