@@ -1,6 +1,6 @@
 //! The row of sprite zero that a line latches.
 
-ghost use Rattle.std.specs.Prelude.{◌≡◌, ◌≤◌, ◌<◌, ◌+◌, ◌&&◌, ℕ, nat_le, length, true};
+ghost use Rattle.std.specs.Prelude.{◌≡◌, ◌≤◌, ◌<◌, ◌+◌, ◌-◌, ◌%◌, ℕ, nat_lt, length, true};
 ghost use Rattle.nj_sprite0.specs.Sprite.{has_bit, height_of, in_range_of, is_in_range, is_opaque_at, opaque_row, reversed, row_number, row_place, shown_bits, sprite_row_of};
 
 /// The part of sprite zero that one line shows: its left edge and its eight pixels, bit 7 leftmost.
@@ -92,36 +92,35 @@ pub fn in_range(oam: &[u8; 256], line: u16, tall: bool) -> u32
     u32::from(count)
 }
 
-// The first lines, from the least to the greatest, of the sprites that have a line as one of theirs: a sprite is then in
-// range by two comparisons of bytes. None where the least is above the greatest.
+// The first lines of the sprites that have a line as one of theirs: so many, from the least on.
 #[derive(Clone, Copy)]
 struct Tops {
     least: u8,
-    greatest: u8,
+    count: u8,
 }
 
 impl Tops {
     // The sprite that begins there is one of them.
     fn has(self, top: u8) -> bool
-        ensures { result ≡ (nat_le self.least top && nat_le top self.greatest) }
+        ensures { result ≡ nat_lt ((top + 256 - self.least) % 256) self.count }
     {
-        self.least <= top && top <= self.greatest
+        top.wrapping_sub(self.least) < self.count
     }
 }
 
 #[tactic(auto, unfolding(crate::specs::Sprite::is_in_range))]
 fn tops_of_line(line: u16, tall: bool) -> Tops
-    ensures { (top : ℕ) → top < 256 → (nat_le result.least top && nat_le top result.greatest) ≡ is_in_range top line tall }
+    ensures { (top : ℕ) → top < 256 → nat_lt ((top + 256 - result.least) % 256) result.count ≡ is_in_range top line tall }
 {
     let height = height(tall);
     if line < height {
-        Tops { least: 0, greatest: line as u8 }
+        Tops { least: 0, count: line as u8 + 1 }
     } else if line < 256 {
-        Tops { least: (line - height + 1) as u8, greatest: line as u8 }
+        Tops { least: (line - height + 1) as u8, count: height as u8 }
     } else if line < 255 + height {
-        Tops { least: (line - height + 1) as u8, greatest: 255 }
+        Tops { least: (line - height + 1) as u8, count: (255 + height - line) as u8 }
     } else {
-        Tops { least: 255, greatest: 0 }
+        Tops { least: 0, count: 0 }
     }
 }
 
