@@ -39,7 +39,7 @@ fn keeps_overflow(screen: &Screen, dots: u32) -> bool
         → (after_dots dots p screen.now).sprite_overflow ≡ screen.now.sprite_overflow }
 {
     sprite_overflow_is_timed();
-    screen.sprite_overflow || counts_no_sprites(screen, dots)
+    counts_no_sprites(screen, dots) || screen.sprite_overflow
 }
 
 // None of the next dots counts the sprites of a line.
@@ -48,9 +48,9 @@ fn counts_no_sprites(screen: &Screen, dots: u32) -> bool
     requires before_event { dots < to_event screen.now }
     ensures { (p : List ℕ) (n : ℕ) → result ≡ true → n < dots → IsOverflow (after_dots n p screen.now) → ⊥ }
 {
-    !screen.is_rendering()
+    dots <= dots_to_latch(screen.position.dot)
         || stays_below(screen.position, dots)
-        || dots <= dots_to_latch(screen.position.dot)
+        || !screen.is_rendering()
 }
 
 // The pixel of none of the next dots is a hit.
