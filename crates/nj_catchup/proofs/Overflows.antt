@@ -6,7 +6,6 @@ use Rattle.nj_dots.specs.Screen.{place_of, IsScreen, is_rendering}
 use Rattle.nj_dots.specs.Dots.{dot_of, after_dots, to_event}
 use Rattle.nj_dots.specs.Laws.{IsEvent, IsNext, IsOverflow}
 use Rattle.nj_dots.proofs.Kept.{after_dots-fits}
-
 use Rattle.nj_catchup.specs.Steady.{IsAlong, IsAside}
 use Rattle.nj_catchup.proofs.Calm.{Calm, calm-after}
 use Rattle.nj_catchup.proofs.Ahead.{skips-of, dots-least, ahead}

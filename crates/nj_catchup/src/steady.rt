@@ -16,9 +16,7 @@ pub fn is_steady(screen: &Screen, dots: u32) -> bool
     requires before_event { dots < to_event screen.now }
     ensures { (p : List ℕ) → result ≡ true → IsSteady dots p screen.now }
 {
-    dots + 1 < screen.dots_to_event()
-        && keeps_hit(screen, dots)
-        && keeps_overflow(screen, dots)
+    dots + 1 < screen.dots_to_event() && keeps_hit(screen, dots) && keeps_overflow(screen, dots)
 }
 
 // None of the next dots raises the hit flag.

@@ -145,8 +145,8 @@ impl Screen {
         }
     }
 
-    /// The last dot of a tile: the row of the next tile but one comes into the low half of the shift register, and coarse
-    /// X moves on.
+    /// The last dot of a tile: the row of the next tile but one comes into the low half of the shift register, and
+    /// coarse X moves on.
     #[tactic(auto, unfolding(crate::specs::Dots::tile_fetched))]
     pub fn fetch_tile(&mut self, pattern: &[u8])
         requires { length pattern.now ≡ 8192 }
@@ -157,8 +157,8 @@ impl Screen {
         self.scroll.step_x();
     }
 
-    /// A whole tile as one, as at dots 328 and 336: the shift register moves left by eight and takes the tile's row, and
-    /// coarse X moves on.
+    /// A whole tile as one, as at dots 328 and 336: the shift register moves left by eight and takes the tile's row,
+    /// and coarse X moves on.
     #[tactic(auto, unfolding(crate::specs::Dots::prefetched))]
     pub fn prefetch(&mut self, pattern: &[u8])
         requires { length pattern.now ≡ 8192 }

@@ -110,15 +110,25 @@ impl Tops {
 
 #[tactic(auto, unfolding(crate::specs::Sprite::is_in_range))]
 fn tops_of_line(line: u16, tall: bool) -> Tops
-    ensures { (top : ℕ) → top < 256 → nat_lt ((top + 256 - result.least) % 256) result.count ≡ is_in_range top line tall }
+    ensures { (top : ℕ) → top < 256
+        → nat_lt ((top + 256 - result.least) % 256) result.count ≡ is_in_range top line tall }
 {
     let height = height(tall);
     if line < height {
-        Tops { least: 0, count: line as u8 + 1 }
+        Tops {
+            least: 0,
+            count: line as u8 + 1,
+        }
     } else if line < 256 {
-        Tops { least: (line - height + 1) as u8, count: height as u8 }
+        Tops {
+            least: (line - height + 1) as u8,
+            count: height as u8,
+        }
     } else if line < 255 + height {
-        Tops { least: (line - height + 1) as u8, count: (255 + height - line) as u8 }
+        Tops {
+            least: (line - height + 1) as u8,
+            count: (255 + height - line) as u8,
+        }
     } else {
         Tops { least: 0, count: 0 }
     }

@@ -2,7 +2,6 @@
 use Rattle.nj_dots.specs.Screen.{place_of}
 use Rattle.std.proofs.Common.{◌≡◌, ◌+◌, ◌*◌, ◌/◌, ◌%◌, ap, ◌∙◌, arith}
 use Rattle.nj_dots.specs.declared.position.Position.{Position}
-
 use Rattle.nj_catchup.specs.Place.{place_ahead}
 use Rattle.nj_catchup.proofs.Ahead.{to_event-small, skips-of, position-after}
 use Rattle.nj_catchup.proofs.place.position_ahead.Goals as goal
