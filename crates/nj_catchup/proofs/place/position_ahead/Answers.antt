@@ -1,6 +1,6 @@
 -- The place is that of the picture after the dots.
 use Rattle.nj_dots.specs.Screen.{place_of}
-use Rattle.std.proofs.Common.{◌≡◌, ◌+◌, ◌*◌, ◌/◌, ◌%◌, ap, ◌∙◌, arith}
+use Rattle.std.proofs.Common.{◌≡◌, ◌/◌, ◌%◌, ap, ◌∙◌, arith}
 use Rattle.nj_dots.specs.declared.position.Position.{Position}
 use Rattle.nj_catchup.specs.Place.{place_ahead}
 use Rattle.nj_catchup.proofs.Ahead.{to_event-small, skips-of, position-after}

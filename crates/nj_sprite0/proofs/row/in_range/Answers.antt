@@ -1,5 +1,5 @@
 -- Sprite by sprite.
-use Rattle.std.proofs.Common.{◌≡◌, ℕ, ◌+◌, ◌*◌, slice_index, ap, sym, ◌∙◌, arith}
+use Rattle.std.proofs.Common.{◌≡◌, ◌+◌, ◌*◌, slice_index, ap, sym, ◌∙◌, arith}
 use Rattle.nj_sprite0.proofs.Counts.{counted, counted-none, counted-in, counted-out, counted-le, counted-all}
 use Rattle.nj_sprite0.proofs.row.in_range.Goals as goal
 use Rattle.nj_sprite0.proofs.row.in_range.Goals.{then-has, else-has}
