@@ -4,12 +4,12 @@ use Rattle.std.proofs.lemmas.Bool.{cases_Bool, true≢false, cases_eq, cases_lt}
 use Rattle.std.proofs.lemmas.Bool.Decides.{nat_tests}
 use Rattle.nj_dots.specs.declared.position.Position.{Position}
 use Rattle.nj_dots.specs.declared.screen.Screen.{Screen}
-use Rattle.nj_dots.specs.Screen.{IsScreen, is_rendering}
+use Rattle.nj_dots.specs.Screen.{place_of, IsScreen, is_rendering}
 use Rattle.nj_dots.specs.Dots.{is_last_dot, dot_of, after_dots, to_event}
 use Rattle.nj_catchup.specs.Place.{frame_dots, place_ahead}
 use Rattle.nj_dots.proofs.Kept.{after_dots-fits}
 use Rattle.nj_dots.proofs.Events.{to-event-at, to_event-at, place_of-lt}
-use Rattle.nj_dots.proofs.Moving.{place_of, place_of-after, not-last, is-last, is-last-odd, IsLastPlace, last-place, GoesOn, goes-on, Restarts, restarts}
+use Rattle.nj_dots.proofs.Moving.{place_of-after, not-last, is-last, is-last-odd, IsLastPlace, last-place, GoesOn, goes-on, Restarts, restarts}
 
 abbrev pub skips-of : Screen → Bool
 skips-of s = s.odd_frame && is_rendering s.mask

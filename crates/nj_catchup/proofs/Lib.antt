@@ -3,7 +3,6 @@ pub mod Calm
 pub mod Ahead
 pub mod Idling
 pub mod Marks
-pub mod Settled
 pub mod Tiles
 pub mod Status
 pub mod Misses

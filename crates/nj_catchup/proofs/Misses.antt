@@ -5,11 +5,11 @@ use Rattle.std.proofs.lemmas.Bool.Decides.{nat_tests}
 use Rattle.nj_sprite0.specs.Sprite.{shows_at}
 use Rattle.nj_dots.specs.declared.position.Position.{Position}
 use Rattle.nj_dots.specs.declared.screen.Screen.{Screen}
-use Rattle.nj_dots.specs.Screen.{IsScreen, is_next, shows_both_layers}
+use Rattle.nj_dots.specs.Screen.{place_of, IsScreen, is_next, shows_both_layers}
 use Rattle.nj_dots.specs.Dots.{raised, background_bit, is_shown_column, is_hit_pixel, pixel, tile_fetched, line_ended, tile_ended, latched, sprites_fetched, prefetched, shown, emptied, hidden, drawn, moved, is_last_dot, after_position, dot_of, after_dots, to_event}
 use Rattle.nj_dots.specs.Laws.{IsEvent}
 use Rattle.nj_dots.proofs.Timing.{Moves, moves-moved}
-use Rattle.nj_dots.proofs.Moving.{place_of, if-true, if-false, IsLastPlace, last-place, not-next, GoesOn, goes-on, Restarts, restarts}
+use Rattle.nj_dots.proofs.Moving.{if-true, if-false, IsLastPlace, last-place, not-next, GoesOn, goes-on, Restarts, restarts}
 use Rattle.nj_dots.proofs.Kept.{after_dots-fits}
 use Rattle.nj_dots.proofs.Events.{event-one, to_event-after}
 use Rattle.nj_catchup.specs.Tiles.{may_hit}

@@ -1,12 +1,11 @@
 -- Dots before an event of which none counts too many sprites leave the overflow flag.
-use Rattle.std.proofs.Common.{◌≡◌, ℕ, zero, suc, ◌+◌, ◌*◌, ◌<◌, ◌≤◌, true, false, List, refl, ap, sym, ◌∙◌, arith, inl, inr, ◌⊎◌, None}
+use Rattle.std.proofs.Common.{◌≡◌, ℕ, zero, suc, ◌+◌, ◌<◌, ◌≤◌, true, false, List, ap, sym, ◌∙◌, arith, inl, inr, None}
 use Rattle.std.proofs.lemmas.Bool.{cases_Bool, true≢false}
 use Rattle.nj_dots.specs.declared.screen.Screen.{Screen}
-use Rattle.nj_dots.specs.Screen.{IsScreen, is_rendering}
+use Rattle.nj_dots.specs.Screen.{place_of, IsScreen, is_rendering}
 use Rattle.nj_dots.specs.Dots.{dot_of, after_dots, to_event}
 use Rattle.nj_dots.specs.Laws.{IsEvent, IsNext, IsOverflow}
 use Rattle.nj_dots.proofs.Kept.{after_dots-fits}
-use Rattle.nj_dots.proofs.Moving.{place_of}
 use Rattle.nj_catchup.specs.Steady.{IsAlong, IsAside}
 use Rattle.nj_catchup.proofs.Calm.{Calm, calm-after}
 use Rattle.nj_catchup.proofs.Ahead.{skips-of, dots-least, ahead}

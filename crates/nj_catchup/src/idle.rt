@@ -1,10 +1,10 @@
 //! Dots that do nothing but move the position on.
 
 ghost use Rattle.std.specs.Prelude.{◌≡◌, ◌≤◌, ◌<◌, ◌+◌, ℕ, List, true};
-ghost use Rattle.nj_dots.specs.Dots.{after_dots, is_drawn_line};
+ghost use Rattle.nj_dots.specs.Dots.{after_dots};
 ghost use Rattle.nj_catchup.specs.Idle.{at_dot, is_cleared, is_idle, is_idle_shown};
 
-use nj_dots::Screen;
+use nj_dots::{Screen, is_drawn_line};
 
 /// The number of the next dots that do nothing but move the position on along its line.
 pub fn idle_dots(screen: &Screen) -> u16
@@ -59,13 +59,6 @@ fn shown_idle_end(cleared: bool, dot: u16) -> u16
     } else {
         339
     }
-}
-
-#[tactic(auto, unfolding(nj_dots::specs::Dots::is_drawn_line))]
-fn is_drawn_line(line: u16) -> bool
-    ensures { result ≡ is_drawn_line line }
-{
-    line < 240 || line == 261
 }
 
 #[tactic(auto, unfolding(crate::specs::Idle::is_cleared))]

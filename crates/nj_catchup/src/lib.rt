@@ -1,4 +1,18 @@
-//! The picture that catches up: dots stay pending until something asks what they did.
+//! The picture that catches up: dots stay pending until something asks what they did, and then many of them are run as
+//! one. For every list of calls it answers as the picture that runs each dot at once.
+//!
+//! The main idea is that few dots do much. *Pending* dots are those that were asked for and not yet run: the picture's
+//! meaning is the kept one after them. They stay pending in a *lull*, before the next dot that changes the vertical
+//! blank flag (an event), so the NMI line is known without running them. Dots before an event are *calm*: they leave
+//! all registers and memories but the position, v, the shift register, the OAM address, the row of sprite zero and the
+//! two flags of sprites. A read of $2002 leaves them pending where it is *steady*: none of them raises such a flag.
+//! When they are run, *idle* dots move the position alone, so a run of them is one step; *quiet* dots are those of
+//! visible pixels none of which can be a hit, so of many tiles the last two alone are fetched; a whole line with a row
+//! of sprite zero is one step with one search for the first hit; each other dot is run by itself. Each step is one
+//! equation with the definition of single dots.
+//!
+//! Read first `IsLull` (specs/Limit.antt: what is kept beside the pending dots), then `IsSteady` (specs/Steady.antt),
+//! `is_idle` (specs/Idle.antt) and `IsQuiet` (specs/Tiles.antt).
 #![tactic(auto)]
 
 mod advance;

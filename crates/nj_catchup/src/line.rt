@@ -1,14 +1,14 @@
 //! A whole visible line with a row of sprite zero.
 
 ghost use Rattle.std.specs.Prelude.{◌≡◌, ◌<◌, ◌≤◌, ℕ, true, false, length, slice_index, IfSome};
-ghost use Rattle.nj_dots.specs.Screen.{shows_both_layers, shows_left_columns};
+ghost use Rattle.nj_dots.specs.Screen.{shows_both_layers};
 ghost use Rattle.nj_dots.specs.Dots.{after_dots};
 ghost use Rattle.nj_catchup.specs.Tiles.{tiles_run};
 ghost use Rattle.nj_catchup.specs.Line.{IsRowLine, shown_byte};
 
-use crate::visible::{finish_line, run_tile, run_visible, shows_both_layers};
-use nj_dots::Screen;
-use nj_sprite0::{SpriteRow, has_bit, meeting};
+use crate::visible::{finish_line, run_tile, run_visible};
+use nj_dots::{Screen, shows_both_layers, shows_left_columns};
+use nj_sprite0::{SpriteRow, meeting};
 
 /// Runs some of the next dots as one, where they are visible: a whole line that latched a row of sprite zero, or dots
 /// none of whose pixels can be a hit. Tells how many, 0 where the next dot is another.
@@ -90,12 +90,4 @@ fn shown_byte(screen: &Screen) -> u8
     ensures { result ≡ shown_byte screen.now }
 {
     ((screen.shift >> (8 - screen.scroll.x)) % 256) as u8
-}
-
-// The eight left columns are shown in both layers.
-#[tactic(auto, unfolding(nj_dots::specs::Screen::shows_left_columns))]
-fn shows_left_columns(mask: u8) -> bool
-    ensures { result ≡ shows_left_columns mask }
-{
-    has_bit(mask, 1) && has_bit(mask, 2)
 }

@@ -1,11 +1,11 @@
 //! Where the picture is once its pending dots have run.
 
-ghost use Rattle.std.specs.Prelude.{◌≡◌, ◌<◌, ◌≤◌, ◌&&◌, ◌+◌, ◌*◌, ℕ, List};
+ghost use Rattle.std.specs.Prelude.{◌≡◌, ◌<◌, ◌≤◌, ◌&&◌, ℕ, List};
 ghost use Rattle.nj_dots.specs.Screen.{IsScreen, is_rendering};
 ghost use Rattle.nj_dots.specs.Dots.{after_dots, to_event};
 ghost use Rattle.nj_catchup.specs.Place.{frame_dots, place_ahead};
 
-use nj_dots::{Position, Screen};
+use nj_dots::{DOTS_OF_FRAME, DOTS_OF_LINE, Position, Screen};
 
 /// The position a number of dots ahead, before the next change of the vertical blank flag.
 pub fn position_ahead(screen: &Screen, dots: u32) -> Position
@@ -13,11 +13,10 @@ pub fn position_ahead(screen: &Screen, dots: u32) -> Position
     requires before_event { dots < to_event screen.now }
     ensures { (p : List ℕ) → result ≡ (after_dots dots p screen.now).position }
 {
-    let place = u32::from(screen.position.line) * 341 + u32::from(screen.position.dot);
-    let ahead = place_ahead(dots, place, skips_dot(screen));
+    let ahead = place_ahead(dots, screen.position.place(), skips_dot(screen));
     Position {
-        line: (ahead / 341) as u16,
-        dot: (ahead % 341) as u16,
+        line: (ahead / DOTS_OF_LINE) as u16,
+        dot: (ahead % DOTS_OF_LINE) as u16,
     }
 }
 
@@ -42,10 +41,10 @@ fn place_ahead(dots: u32, place: u32, skips: bool) -> u32
 fn frame_dots(place: u32, skips: bool) -> u32
     ensures { result ≡ frame_dots place skips }
 {
-    if place <= 89340 && skips {
-        89341
+    if place <= DOTS_OF_FRAME - 2 && skips {
+        DOTS_OF_FRAME - 1
     } else {
-        89342
+        DOTS_OF_FRAME
     }
 }
 

@@ -1,14 +1,13 @@
 //! Reads of $2002 that pending dots do not change.
 
-ghost use Rattle.std.specs.Prelude.{◌≡◌, ◌≤◌, ◌<◌, ◌+◌, ◌*◌, ℕ, List, true, false, Some, None};
-ghost use Rattle.nj_dots.specs.Screen.{IsScreen};
+ghost use Rattle.std.specs.Prelude.{◌≡◌, ◌≤◌, ◌<◌, ◌+◌, ℕ, List, true, false, Some, None};
+ghost use Rattle.nj_dots.specs.Screen.{IsScreen, place_of};
 ghost use Rattle.nj_dots.specs.Dots.{after_dots, is_hit_pixel, to_event};
 ghost use Rattle.nj_dots.specs.Laws.{IsOverflow};
 ghost use Rattle.nj_catchup.specs.Steady.{IsAlong, IsAside, IsSteady};
 
-use crate::visible::shows_both_layers;
 use nj_dots::laws::sprite_overflow_is_timed;
-use nj_dots::{Position, Screen};
+use nj_dots::{DOTS_OF_FRAME, Position, Screen, shows_both_layers};
 use nj_sprite0::SpriteRow;
 
 /// No pending dot changes what a read of $2002 answers, nor does the read change what they do.
@@ -17,9 +16,7 @@ pub fn is_steady(screen: &Screen, dots: u32) -> bool
     requires before_event { dots < to_event screen.now }
     ensures { (p : List ℕ) → result ≡ true → IsSteady dots p screen.now }
 {
-    dots + 1 < screen.dots_to_event()
-        && keeps_hit(screen, dots)
-        && keeps_overflow(screen, dots)
+    dots + 1 < screen.dots_to_event() && keeps_hit(screen, dots) && keeps_overflow(screen, dots)
 }
 
 // None of the next dots raises the hit flag.
@@ -40,7 +37,7 @@ fn keeps_overflow(screen: &Screen, dots: u32) -> bool
         → (after_dots dots p screen.now).sprite_overflow ≡ screen.now.sprite_overflow }
 {
     sprite_overflow_is_timed();
-    screen.sprite_overflow || counts_no_sprites(screen, dots)
+    counts_no_sprites(screen, dots) || screen.sprite_overflow
 }
 
 // None of the next dots counts the sprites of a line.
@@ -49,9 +46,9 @@ fn counts_no_sprites(screen: &Screen, dots: u32) -> bool
     requires before_event { dots < to_event screen.now }
     ensures { (p : List ℕ) (n : ℕ) → result ≡ true → n < dots → IsOverflow (after_dots n p screen.now) → ⊥ }
 {
-    !screen.is_rendering()
+    dots <= dots_to_latch(screen.position.dot)
         || stays_below(screen.position, dots)
-        || dots <= dots_to_latch(screen.position.dot)
+        || !screen.is_rendering()
 }
 
 // The pixel of none of the next dots is a hit.
@@ -70,9 +67,9 @@ fn has_no_hit(screen: &Screen, dots: u32) -> bool
 fn stays_below(position: Position, dots: u32) -> bool
     requires dots { dots ≤ 89342 }
     ensures line { result ≡ true → 240 ≤ position.line }
-    ensures frame { result ≡ true → position.line * 341 + position.dot + dots ≤ 89341 }
+    ensures frame { result ≡ true → place_of position + dots ≤ 89341 }
 {
-    position.line >= 240 && u32::from(position.line) * 341 + u32::from(position.dot) + dots <= 89341
+    position.line >= 240 && position.place() + dots < DOTS_OF_FRAME
 }
 
 // How many dots there are at least up to one that latches a row of sprite zero or is a pixel of the latched one.

@@ -113,8 +113,8 @@ fn an_image_has_the_settled_position(rt: HostRuntime) {
     assert_eq!(rt; &image[4384..4388], [2u8, 0, 62, 1].as_slice());
 }
 
-// A ninth sprite on line 27 raises the overflow flag at dot (27,257), also where dots before it are pending from one read
-// to the next, and it falls at (261,1).
+// A ninth sprite on line 27 raises the overflow flag at dot (27,257), also where dots before it are pending from one
+// read to the next, and it falls at (261,1).
 #[test]
 fn a_ninth_sprite_overflows(rt: HostRuntime) {
     let pattern = [0u8; 8192];

@@ -2,12 +2,11 @@
 
 ghost use Rattle.std.specs.Prelude.{◌≡◌, ◌≤◌, ◌<◌, ◌+◌, ◌-◌, ◌*◌, ◌%◌, ℕ, false, Some, length};
 ghost use Rattle.nj_sprite0.specs.Sprite.{shows_at};
-ghost use Rattle.nj_dots.specs.Screen.{shows_both_layers};
-ghost use Rattle.nj_dots.specs.Dots.{after_dots, fetch_place, fetched_row, prefetched, tile_fetched};
+ghost use Rattle.nj_dots.specs.Dots.{after_dots};
 ghost use Rattle.nj_catchup.specs.Tiles.{IsQuiet, columns_on, jumped, line_finished, may_hit, tile_run};
 
-use nj_dots::Screen;
-use nj_sprite0::{SpriteRow, has_bit, opaque_row};
+use nj_dots::{Screen, shows_both_layers};
+use nj_sprite0::SpriteRow;
 
 /// Runs some of the next dots as one, where they are visible and none of their pixels can be a hit. Tells how many, 0
 /// where the next dot is another.
@@ -73,7 +72,7 @@ fn run_part(screen: &mut Screen, dots: u16, pattern: &[u8])
     screen.shift <<= dots;
     screen.position.dot += dots;
     if screen.position.dot % 8 == 1 {
-        fetch_tile(screen, pattern);
+        screen.fetch_tile(pattern);
         finish_line(screen);
     }
 }
@@ -109,41 +108,8 @@ pub fn run_tile(screen: &mut Screen, pattern: &[u8])
     requires pattern { length pattern.now ≡ 8192 }
     ensures { screen.new ≡ tile_run pattern.now screen.old }
 {
-    let row = fetched_row(screen, pattern);
-    screen.shift = screen.shift % 256 * 256 + u16::from(row);
-    screen.scroll.step_x();
+    screen.prefetch(pattern);
     screen.position.dot += 8;
-}
-
-// A tile's row comes into the low half of the shift register.
-#[tactic(auto, unfolding(nj_dots::specs::Dots::tile_fetched))]
-fn fetch_tile(screen: &mut Screen, pattern: &[u8])
-    requires { length pattern.now ≡ 8192 }
-    ensures { screen.new ≡ tile_fetched pattern.now screen.old }
-{
-    let row = fetched_row(screen, pattern);
-    screen.shift = screen.shift / 256 * 256 + u16::from(row);
-    screen.scroll.step_x();
-}
-
-// Which pixels of the tile's row at v are opaque.
-#[tactic(auto, unfolding(nj_dots::specs::Dots::fetched_row))]
-fn fetched_row(screen: &Screen, pattern: &[u8]) -> u8
-    requires { length pattern.now ≡ 8192 }
-    ensures { result ≡ fetched_row pattern.now screen.now }
-{
-    let tile = screen.vram.get(0x2000 + screen.scroll.v % 4096);
-    opaque_row(pattern, fetch_place(screen.control, tile, screen.scroll.v))
-}
-
-// Where a tile's row stands in pattern memory.
-#[tactic(auto, unfolding(nj_dots::specs::Dots::fetch_place))]
-fn fetch_place(control: u8, tile: u8, v: u16) -> u16
-    ensures place { result ≡ fetch_place control tile v }
-    ensures within { result + 8 < 8192 }
-{
-    let table = if has_bit(control, 4) { 4096 } else { 0 };
-    table + u16::from(tile) * 16 + v / 4096 % 8
 }
 
 /// After the line's last tile Y moves on.
@@ -184,14 +150,6 @@ fn quiet_end(screen: &Screen, dot: u16) -> u16
         None => 257,
         Some(row) => row_from(row, dot),
     }
-}
-
-/// Both layers are shown.
-#[tactic(auto, unfolding(nj_dots::specs::Screen::shows_both_layers))]
-pub fn shows_both_layers(mask: u8) -> bool
-    ensures { result ≡ shows_both_layers mask }
-{
-    has_bit(mask, 3) && has_bit(mask, 4)
 }
 
 // The first dot from this one on whose pixel is one of the row's, or 257.

@@ -3,11 +3,11 @@ use Rattle.std.proofs.Common.{◌≡◌, ◌≢◌, ℕ, zero, suc, ◌+◌, ◌
 use Rattle.std.proofs.lemmas.Bool.{cases_Bool, true≢false, cases_lt, cases_eq}
 use Rattle.std.proofs.lemmas.Bool.Decides.{nat_tests}
 use Rattle.nj_dots.specs.declared.screen.Screen.{Screen}
-use Rattle.nj_dots.specs.Screen.{IsPlaced, IsScreen, is_rendering}
+use Rattle.nj_dots.specs.Screen.{place_of, IsPlaced, IsScreen, is_rendering}
 use Rattle.nj_dots.specs.Dots.{is_last_dot, dot_of, after_dots, to_event}
 use Rattle.nj_dots.specs.Laws.{IsEvent}
 use Rattle.nj_dots.proofs.Kept.{after_dots-fits}
-use Rattle.nj_dots.proofs.Moving.{place_of, place_of-after, IsLastPlace, last-place, is-last, is-last-odd, GoesOn, goes-on, Restarts, restarts}
+use Rattle.nj_dots.proofs.Moving.{place_of-after, IsLastPlace, last-place, is-last, is-last-odd, GoesOn, goes-on, Restarts, restarts}
 
 -- the count by place alone, where the frame leaves its last dot out and where not
 unfoldable pub to-event-at : ℕ → Bool → ℕ

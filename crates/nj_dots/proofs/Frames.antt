@@ -2,11 +2,11 @@
 use Rattle.std.proofs.Common.{◌≡◌, ℕ, zero, suc, ◌-◌, ◌<◌, Bool, true, false, not, ◌&&◌, List, refl, ap, ◌∙◌, subst, arith, inl, inr}
 use Rattle.std.proofs.lemmas.Bool.{cases_Bool}
 use Rattle.nj_dots.specs.declared.screen.Screen.{Screen}
-use Rattle.nj_dots.specs.Screen.{IsScreen, is_rendering}
+use Rattle.nj_dots.specs.Screen.{place_of, IsScreen, is_rendering}
 use Rattle.nj_dots.specs.Dots.{is_last_dot, dot_of, after_dots}
 use Rattle.nj_dots.specs.Laws.{IsStart, frame_length}
 use Rattle.nj_dots.proofs.Kept.{dot_of-fits}
-use Rattle.nj_dots.proofs.Moving.{if-true, if-false, place_of, place_of-after, not-last, not-last-whole, is-last, is-last-odd, GoesOn, goes-on, Restarts, restarts}
+use Rattle.nj_dots.proofs.Moving.{if-true, if-false, place_of-after, not-last, not-last-whole, is-last, is-last-odd, GoesOn, goes-on, Restarts, restarts}
 
 -- the frame leaves its last dot out
 abbrev pub skips : Screen → Bool

@@ -1,10 +1,10 @@
 -- Where a dot leads, by its place in the frame.
-use Rattle.std.proofs.Common.{◌≡◌, ℕ, ◌+◌, ◌*◌, ◌<◌, ◌≤◌, Bool, true, false, not, ◌||◌, ◌&&◌, ◌==◌, if◌then◌else◌, List, refl, ap, sym, ◌∙◌, arith, inl, inr}
+use Rattle.std.proofs.Common.{◌≡◌, ℕ, ◌+◌, ◌<◌, ◌≤◌, Bool, true, false, not, ◌||◌, ◌&&◌, ◌==◌, if◌then◌else◌, List, refl, ap, sym, ◌∙◌, arith, inl, inr}
 use Rattle.std.proofs.lemmas.Bool.{cases_Bool, true≢false}
 use Rattle.std.proofs.lemmas.Bool.Decides.{nat_tests}
 use Rattle.nj_dots.specs.declared.position.Position.{Position}
 use Rattle.nj_dots.specs.declared.screen.Screen.{Screen}
-use Rattle.nj_dots.specs.Screen.{IsPlaced, is_next, is_rendering}
+use Rattle.nj_dots.specs.Screen.{place_of, IsPlaced, is_next, is_rendering}
 use Rattle.nj_dots.specs.Dots.{is_last_dot, after_position, frame_begun, advanced, moved, dot_of}
 use Rattle.nj_dots.specs.Laws.{IsNext, IsStart}
 use Rattle.nj_dots.proofs.Timing.{before_move, dot_of-moved, Stands, before_move-stands}
@@ -32,10 +32,6 @@ not-next l d s apart = elim (cases_Bool (is_next l d s)) [
   | inl does ↦ absurd (apart (next-is l d s does))
   | inr does_not ↦ does_not
 ]
-
--- the place of a dot, counted from 0 in its frame
-abbrev pub place_of : Position → ℕ
-place_of p = p.line * 341 + p.dot
 
 -- which place is the last of the frame
 pub record IsLastPlace (s : Screen) : Type 0 where

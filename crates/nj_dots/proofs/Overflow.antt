@@ -1,8 +1,7 @@
 -- Which dots change the overflow flag; no access does.
-use Rattle.std.proofs.Common.{◌≡◌, ℕ, ◌<◌, ◌≤◌, Bool, true, false, ◌||◌, ◌&&◌, ◌==◌, if◌then◌else◌, nat_le, nat_lt, List, refl, ap, sym, ◌∙◌, arith, inl, inr}
-use Rattle.std.proofs.lemmas.Bool.{cases_Bool, true≢false, eq-eqb}
+use Rattle.std.proofs.Common.{◌≡◌, ℕ, Bool, true, false, ◌||◌, ◌&&◌, ◌==◌, if◌then◌else◌, nat_le, List, refl, ap, sym, ◌∙◌, arith, inl, inr}
+use Rattle.std.proofs.lemmas.Bool.{cases_Bool, true≢false}
 use Rattle.std.proofs.lemmas.Bool.Decides.{nat_tests}
-use Rattle.nj_sprite0.specs.Sprite.{has_bit, in_range_of}
 use Rattle.nj_dots.specs.declared.screen.Screen.{Screen}
 use Rattle.nj_dots.specs.Screen.{is_next, is_rendering}
 use Rattle.nj_dots.specs.Dots.{raised, blank_begun, blank_ended, flagged, pixel, tile_fetched, line_ended, tile_ended, overflows, latched, sprites_fetched, prefetched, shown, emptied, hidden, is_drawn_line, drawn, moved, dot_of}

@@ -8,7 +8,7 @@ use Rattle.nj_dots.specs.declared.position.Position.{Position}
 use Rattle.nj_dots.specs.declared.scroll.Scroll.{Scroll}
 use Rattle.nj_dots.specs.declared.screen.Screen.{Screen}
 use Rattle.nj_dots.specs.Scroll.{next_column, next_row, with_horizontal, with_vertical}
-use Rattle.nj_dots.specs.Screen.{is_rendering, shows_both_layers, shows_left_columns, is_next, first_sprite}
+use Rattle.nj_dots.specs.Screen.{place_of, is_rendering, shows_both_layers, shows_left_columns, is_next, first_sprite}
 
 -- a hit that was near raises its flag, one dot after the pixel
 unfoldable pub raised : Screen → Screen
@@ -170,7 +170,7 @@ after_dots (suc n) pattern s = dot_of pattern (after_dots n pattern s)
 -- the last dot is left out in an odd frame with rendering on
 unfoldable pub to_event : Screen → ℕ
 to_event s =
-    let place = s.position.line * 341 + s.position.dot in
+    let place = place_of s.position in
     if nat_le place 82182 then 82183 - place
     else (if nat_le place 89002 then 89003 - place
     else (if nat_le place 89340 && s.odd_frame && is_rendering s.mask then 171524 - place else 171525 - place))

@@ -1,5 +1,5 @@
 -- The state of the picture, and what of it other definitions read (NESdev Wiki, "PPU registers").
-use Rattle.std.specs.Prelude.{◌≡◌, ℕ, ◌<◌, Bool, false, ◌||◌, ◌&&◌, ◌==◌, List, [], ◌∷◌, length, replicate, slice_index, None}
+use Rattle.std.specs.Prelude.{◌≡◌, ℕ, ◌+◌, ◌*◌, ◌<◌, Bool, false, ◌||◌, ◌&&◌, ◌==◌, List, [], ◌∷◌, length, replicate, slice_index, None}
 use Rattle.nj_vram.specs.Home.{blank}
 use Rattle.nj_vram.specs.Laws.{IsSized}
 use Rattle.nj_sprite0.specs.Sprite.{has_bit}
@@ -28,6 +28,10 @@ power_on vertical = record {
   oam = replicate 256 0;
   vram = blank vertical;
 }
+
+-- the place of a dot in its frame, all dots of 341 a line counted from 0
+abbrev pub place_of : Position → ℕ
+place_of p = p.line * 341 + p.dot
 
 -- the position is one of a frame: 262 lines of 341 dots
 pub record IsPlaced (p : Position) : Type 0 where

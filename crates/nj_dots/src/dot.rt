@@ -145,9 +145,10 @@ impl Screen {
         }
     }
 
-    // A tile's row comes into the low half of the shift register.
+    /// The last dot of a tile: the row of the next tile but one comes into the low half of the shift register, and
+    /// coarse X moves on.
     #[tactic(auto, unfolding(crate::specs::Dots::tile_fetched))]
-    fn fetch_tile(&mut self, pattern: &[u8])
+    pub fn fetch_tile(&mut self, pattern: &[u8])
         requires { length pattern.now ≡ 8192 }
         ensures { self.new ≡ tile_fetched pattern.now self.old }
     {
@@ -156,9 +157,10 @@ impl Screen {
         self.scroll.step_x();
     }
 
-    // One of the next line's first two tiles.
+    /// A whole tile as one, as at dots 328 and 336: the shift register moves left by eight and takes the tile's row,
+    /// and coarse X moves on.
     #[tactic(auto, unfolding(crate::specs::Dots::prefetched))]
-    fn prefetch(&mut self, pattern: &[u8])
+    pub fn prefetch(&mut self, pattern: &[u8])
         requires { length pattern.now ≡ 8192 }
         ensures { self.new ≡ prefetched pattern.now self.old }
     {
@@ -239,8 +241,9 @@ impl Screen {
     }
 }
 
+/// The line is drawn: 0 to 239, and the pre-render line 261.
 #[tactic(auto, unfolding(crate::specs::Dots::is_drawn_line))]
-fn is_drawn_line(line: u16) -> bool
+pub fn is_drawn_line(line: u16) -> bool
     ensures { result ≡ is_drawn_line line }
 {
     line < 240 || line == 261

@@ -11,9 +11,10 @@ mod registers;
 mod screen;
 mod scroll;
 
+pub use dot::is_drawn_line;
 pub use nj_sprite0::SpriteRow;
 pub use nj_vram::Vram;
 pub use picture::Picture;
-pub use position::Position;
-pub use screen::Screen;
+pub use position::{BLANK_BEGINS, BLANK_ENDS, DOTS_OF_FRAME, DOTS_OF_LINE, Position};
+pub use screen::{Screen, shows_both_layers, shows_left_columns};
 pub use scroll::Scroll;

@@ -4,7 +4,7 @@ ghost use Rattle.std.specs.Prelude.{◌≡◌, false};
 ghost use Rattle.nj_dots.specs.Screen.{IsPlaced, IsScreen, is_next, is_rendering, nmi_line_of, power_on, shows_both_layers, shows_left_columns};
 ghost use Rattle.nj_dots.specs.Dots.{to_event};
 
-use crate::position::Position;
+use crate::position::{BLANK_BEGINS, BLANK_ENDS, DOTS_OF_FRAME, Position};
 use crate::scroll::Scroll;
 use nj_sprite0::{SpriteRow, has_bit};
 use nj_vram::Vram;
@@ -121,15 +121,15 @@ impl Screen {
         requires { IsPlaced self.now.position }
         ensures { result ≡ to_event self.now }
     {
-        let place = u32::from(self.position.line) * 341 + u32::from(self.position.dot);
-        if place <= 82182 {
-            82183 - place
-        } else if place <= 89002 {
-            89003 - place
-        } else if place <= 89340 && self.odd_frame && self.is_rendering() {
-            171524 - place
+        let place = self.position.place();
+        if place <= BLANK_BEGINS {
+            BLANK_BEGINS + 1 - place
+        } else if place <= BLANK_ENDS {
+            BLANK_ENDS + 1 - place
+        } else if place <= DOTS_OF_FRAME - 2 && self.odd_frame && self.is_rendering() {
+            DOTS_OF_FRAME + BLANK_BEGINS - place
         } else {
-            171525 - place
+            DOTS_OF_FRAME + BLANK_BEGINS + 1 - place
         }
     }
 }

@@ -1,6 +1,6 @@
 //! The row of sprite zero that a line latches.
 
-ghost use Rattle.std.specs.Prelude.{◌≡◌, ◌≤◌, ◌<◌, ◌+◌, length, true};
+ghost use Rattle.std.specs.Prelude.{◌≡◌, ◌≤◌, ◌<◌, ◌+◌, ◌-◌, ◌%◌, ℕ, nat_lt, length, true};
 ghost use Rattle.nj_sprite0.specs.Sprite.{has_bit, height_of, in_range_of, is_in_range, is_opaque_at, opaque_row, reversed, row_number, row_place, shown_bits, sprite_row_of};
 
 /// The part of sprite zero that one line shows: its left edge and its eight pixels, bit 7 leftmost.
@@ -82,13 +82,56 @@ pub fn in_range(oam: &[u8; 256], line: u16, tall: bool) -> u32
     ensures count { result ≡ in_range_of oam.now line tall }
     ensures most { result ≤ 64 }
 {
-    let mut count = 0;
+    let tops = tops_of_line(line, tall);
+    let mut count = 0u8;
     for sprite in 0..64 {
-        if is_in_range(oam[sprite * 4], line, tall) {
+        if tops.has(oam[sprite * 4]) {
             count += 1;
         }
     }
-    count
+    u32::from(count)
+}
+
+// The first lines of the sprites that have a line as one of theirs: so many, from the least on.
+#[derive(Clone, Copy)]
+struct Tops {
+    least: u8,
+    count: u8,
+}
+
+impl Tops {
+    // The sprite that begins there is one of them.
+    fn has(self, top: u8) -> bool
+        ensures { result ≡ nat_lt ((top + 256 - self.least) % 256) self.count }
+    {
+        top.wrapping_sub(self.least) < self.count
+    }
+}
+
+#[tactic(auto, unfolding(crate::specs::Sprite::is_in_range))]
+fn tops_of_line(line: u16, tall: bool) -> Tops
+    ensures { (top : ℕ) → top < 256
+        → nat_lt ((top + 256 - result.least) % 256) result.count ≡ is_in_range top line tall }
+{
+    let height = height(tall);
+    if line < height {
+        Tops {
+            least: 0,
+            count: line as u8 + 1,
+        }
+    } else if line < 256 {
+        Tops {
+            least: (line - height + 1) as u8,
+            count: height as u8,
+        }
+    } else if line < 255 + height {
+        Tops {
+            least: (line - height + 1) as u8,
+            count: (255 + height - line) as u8,
+        }
+    } else {
+        Tops { least: 0, count: 0 }
+    }
 }
 
 /// The bit of a byte is set.
