@@ -1,5 +1,5 @@
 -- What a reply and a stop say of the answer, of `out` and of `err`.
-use Rattle.std.proofs.Common.{◌≡◌, ◌≢◌, ◌≤◌, ℕ, List, length, take, Option, Some, Result, Ok, Err, OnOk, OnErr, Contains, inl, inr, lit<, refl, sym, ap, ◌∙◌, subst}
+use Rattle.std.proofs.Common.{◌≡◌, ◌≢◌, ◌≤◌, ℕ, List, length, take, Option, Some, Result, Ok, Err, OnOk, OnErr, IsErrOf, Contains, inl, inr, lit<, refl, sym, ap, ◌∙◌, subst}
 use Rattle.nj_outside.specs.Told.{Files, appended, appended-nothing}
 use Rattle.nj_app.specs.Causes.{statuses, IsCarriedOut, IsPlain, IsAnswered, IsCutShort, line_for}
 use Rattle.nj_app.specs.Refusals.{usage_line}
@@ -113,3 +113,14 @@ carried_out_status status (inr (inr (inr e))) = (2, lit< tt, rw e refl)
 pub unless_failed : {A E : Type 0} {P Q : Type 0} (result : Result A E) → OnOk result P → OnErr result Q → ¬ Q → P
 unless_failed (Ok value) ok err never = ok
 unless_failed (Err e) ok err never = absurd (never err)
+
+-- a status that is not 7 is that of no failed read
+pub stop_no_fault : (stop : Stop) (status : ℕ) → status ≡ status_of stop → status ≢ 7 → IsErrOf {T = Reply} (Err stop) stops.ReadFault → ⊥
+stop_no_fault stops.Usage status is_status other e = cc
+stop_no_fault (stops.Cartridge line) status is_status other e = cc
+stop_no_fault (stops.Script line) status is_status other e = cc
+stop_no_fault (stops.Plan line) status is_status other e = cc
+stop_no_fault (stops.Movie line) status is_status other e = cc
+stop_no_fault (stops.Source line) status is_status other e = cc
+stop_no_fault stops.ReadFault status is_status other e = other is_status
+stop_no_fault stops.NoMemory status is_status other e = cc

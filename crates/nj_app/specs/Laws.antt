@@ -5,6 +5,7 @@ use Rattle.nj_movie.specs.Text.{movie_of, movie_text}
 use Rattle.nj_replay.specs.Reading.{word_of}
 use Rattle.nj_replay.specs.Replay.{replay_of}
 use Rattle.nj_rules.specs.declared.record.Verdict.TheVariants.{Win}
+use Rattle.nj_script.specs.Script.{script_of}
 use Rattle.nj_search_defs.specs.Game.{Word}
 use Rattle.nj_search_defs.specs.Outcome.{WonAt}
 use Rattle.nj_search.specs.Ends.{outcome_of, reward_in}
@@ -34,9 +35,8 @@ pub record ReplaysToItsLine (planned : Planned) (step : ℕ) (word : Word) : Typ
   pub answered : judged_work planned.plan.cartridge planned.plan.script planned.plan.start (movie_of_word planned.plan word)
       ≡ Done (done 0 (outcome_head (told planned)) (length (movie_of_word planned.plan word)))
 
--- so does the text of each search that is not refused and is won, the pads of its start and of its script being bytes
+-- so does the text of each search that is not refused and is won, its script being what some text says, and its start movie too
 abbrev pub WonTextReplays : Type 0
-WonTextReplays = (planned : Planned) (step : ℕ) (word : Word) → 1 ≤ planned.plan.script.hold
-    → refusal_of planned.plan planned.limits ≡ None → outcome_of planned ≡ WonAt step word
-    → All (λ pad. pad < 256) planned.plan.start → All (λ set. All (λ pad. pad < 256) set.pads) planned.plan.script.inputs.sets
-    → ReplaysToItsLine planned step word
+WonTextReplays = (planned : Planned) (step : ℕ) (word : Word) (script start : List ℕ)
+    → script_of script ≡ Ok planned.plan.script → movie_of start ≡ Ok planned.plan.start
+    → refusal_of planned.plan planned.limits ≡ None → outcome_of planned ≡ WonAt step word → ReplaysToItsLine planned step word

@@ -24,6 +24,7 @@ pub fn asm<S: Shelf>(alloc: Global, shelf: &mut S, source: &str) -> Result<Reply
     ensures done { IfOk result (λ reply. reply.status ≡ 0) }
     ensures not_words { result ≢ Err Stop.Usage }
     ensures fault { IsErrOf result Stop.ReadFault → Rose (S.read_faults shelf.old) (S.read_faults shelf.new) }
+    ensures no_fault { ¬ IsErrOf result Stop.ReadFault → S.read_faults shelf.new ≡ S.read_faults shelf.old }
     ensures fault_name { IsErrOf result Stop.ReadFault → Contains (map fnv_of (source.now ∷ [])) (S.failed_read shelf.new) }
     ensures content { S.content shelf.new ≡ S.content shelf.old }
 {
@@ -39,6 +40,7 @@ pub fn asm<S: Shelf>(alloc: Global, shelf: &mut S, source: &str) -> Result<Reply
 fn load_source<S: Shelf>(alloc: Global, shelf: &mut S, name: &str) -> Result<Assembled, Stop>
     ensures loads { (files : Files) → S.content shelf.old ≡ Some files → Loads files (with_source name.now) (S.failed_read shelf.new) result }
     ensures fault { IsErrOf result Stop.ReadFault → Rose (S.read_faults shelf.old) (S.read_faults shelf.new) }
+    ensures no_fault { ¬ IsErrOf result Stop.ReadFault → S.read_faults shelf.new ≡ S.read_faults shelf.old }
     ensures fault_name { IsErrOf result Stop.ReadFault → S.failed_read shelf.new ≡ fnv_of name.now }
     ensures not_words { result ≢ Err Stop.Usage }
     ensures content { S.content shelf.new ≡ S.content shelf.old }

@@ -26,6 +26,7 @@ pub fn check<S: Shelf>(
     ensures done { IfOk result (λ reply. reply.status ≡ 0) }
     ensures not_words { result ≢ Err Stop.Usage }
     ensures fault { IsErrOf result Stop.ReadFault → Rose (S.read_faults shelf.old) (S.read_faults shelf.new) }
+    ensures no_fault { ¬ IsErrOf result Stop.ReadFault → S.read_faults shelf.new ≡ S.read_faults shelf.old }
     ensures fault_name { IsErrOf result Stop.ReadFault → Contains (map fnv_of (cart.now ∷ script.now ∷ [])) (S.failed_read shelf.new) }
     ensures content { S.content shelf.new ≡ S.content shelf.old }
 {

@@ -3,7 +3,8 @@
 ghost use Rattle.nj_app.specs.Laws.{WonTextIsAMovie, WonTextReplays};
 
 use nj_lines::printed_numbers_have_no_line_feed;
-use nj_movie::what_was_written_is_read;
+use nj_movie::{a_text_says_its_pads, what_was_written_is_read};
+use nj_script::what_is_read_is_in_range;
 use nj_search::a_won_word_replays;
 use nj_search_defs::{parents_stood_before, winner_is_best};
 
@@ -20,6 +21,8 @@ pub fn won_text_replays()
     ensures { WonTextReplays }
 {
     won_text_is_a_movie();
+    what_is_read_is_in_range();
+    a_text_says_its_pads();
     a_won_word_replays();
     parents_stood_before();
     winner_is_best();

@@ -28,6 +28,7 @@ const MOVIE_LIMIT: u64 = 16_777_216;
 pub fn load_cart<S: Shelf>(alloc: Global, shelf: &mut S, name: &str) -> Result<Cart, Stop>
     ensures loads { (files : Files) → S.content shelf.old ≡ Some files → Loads files (with_cart name.now) (S.failed_read shelf.new) result }
     ensures fault { IsErrOf result Stop.ReadFault → Rose (S.read_faults shelf.old) (S.read_faults shelf.new) }
+    ensures no_fault { ¬ IsErrOf result Stop.ReadFault → S.read_faults shelf.new ≡ S.read_faults shelf.old }
     ensures fault_name { IsErrOf result Stop.ReadFault → S.failed_read shelf.new ≡ fnv_of name.now }
 
     ensures not_words { result ≢ Err Stop.Usage }
@@ -44,6 +45,7 @@ pub fn load_cart<S: Shelf>(alloc: Global, shelf: &mut S, name: &str) -> Result<C
 pub fn load_script<S: Shelf>(alloc: Global, shelf: &mut S, name: &str) -> Result<Script, Stop>
     ensures loads { (files : Files) → S.content shelf.old ≡ Some files → Loads files (with_script name.now) (S.failed_read shelf.new) result }
     ensures fault { IsErrOf result Stop.ReadFault → Rose (S.read_faults shelf.old) (S.read_faults shelf.new) }
+    ensures no_fault { ¬ IsErrOf result Stop.ReadFault → S.read_faults shelf.new ≡ S.read_faults shelf.old }
     ensures fault_name { IsErrOf result Stop.ReadFault → S.failed_read shelf.new ≡ fnv_of name.now }
 
     ensures not_words { result ≢ Err Stop.Usage }
@@ -60,6 +62,7 @@ pub fn load_script<S: Shelf>(alloc: Global, shelf: &mut S, name: &str) -> Result
 pub fn load_movie<S: Shelf>(alloc: Global, shelf: &mut S, name: &str) -> Result<Movie, Stop>
     ensures loads { (files : Files) → S.content shelf.old ≡ Some files → Loads files (with_movie name.now) (S.failed_read shelf.new) result }
     ensures fault { IsErrOf result Stop.ReadFault → Rose (S.read_faults shelf.old) (S.read_faults shelf.new) }
+    ensures no_fault { ¬ IsErrOf result Stop.ReadFault → S.read_faults shelf.new ≡ S.read_faults shelf.old }
     ensures fault_name { IsErrOf result Stop.ReadFault → Contains (map fnv_of (movie_file name.now)) (S.failed_read shelf.new) }
     ensures few { IfOk result (λ movie. length movie ≤ 2 ^ 20) }
 

@@ -53,10 +53,16 @@ pub fn run_plain<S: Shelf, O: Sink, E: Sink, L: Ledger>(
     ensures read_in_order { (files : Files) → S.content shelf.old ≡ Some files → result ≡ 7 →
         Reaches files (work_for (map string_bytes words.now)) (S.failed_read shelf.new) }
 
+    // no failed read is passed over
+    ensures no_read_fault { result ≢ 7 → S.read_faults shelf.new ≡ S.read_faults shelf.old }
+
     // a failed write: of the text of a command that nothing refuses
     ensures write_fault { result ≡ 8 → Rose (O.faults out.old) (O.faults out.new) }
     ensures cut_short { (files : Files) → S.content shelf.old ≡ Some files → result ≡ 8 →
         IsCutShort (answer (map string_bytes words.now) files) (O.written out.old) (O.written out.new) }
+
+    // no failed write of it is passed over
+    ensures no_write_fault { result ≢ 8 → O.faults out.new ≡ O.faults out.old }
 
     // no other status but 0, 1, 2, 10 and 8 writes to `out`
     ensures silent { result ≢ 0 → result ≢ 1 → result ≢ 2 → result ≢ 10 → result ≢ 8 → O.written out.new ≡ O.written out.old }
@@ -105,6 +111,7 @@ fn reply_to<S: Shelf, L: Ledger>(
     ensures usage { IsErrOf result Stop.Usage → reading (map string_bytes words.now) ≡ None }
     ensures unread { reading (map string_bytes words.now) ≡ None → (result ≡ Err Stop.Usage) ⊎ (result ≡ Err Stop.NoMemory) }
     ensures fault { IsErrOf result Stop.ReadFault → Rose (S.read_faults shelf.old) (S.read_faults shelf.new) }
+    ensures no_fault { ¬ IsErrOf result Stop.ReadFault → S.read_faults shelf.new ≡ S.read_faults shelf.old }
     ensures fault_name { IsErrOf result Stop.ReadFault → IsOfCommand (reading (map string_bytes words.now)) (S.failed_read shelf.new) }
     ensures frames { (files : Files) → S.content shelf.old ≡ Some files →
         steps.new ≤ steps.old + frames_of (answer (map string_bytes words.now) files) }
@@ -133,6 +140,7 @@ fn carry_out<S: Shelf, L: Ledger>(
     ensures done { IfOk result (λ reply. IsCarriedOut reply.status) }
     ensures not_words { result ≢ Err Stop.Usage }
     ensures fault { IsErrOf result Stop.ReadFault → Rose (S.read_faults shelf.old) (S.read_faults shelf.new) }
+    ensures no_fault { ¬ IsErrOf result Stop.ReadFault → S.read_faults shelf.new ≡ S.read_faults shelf.old }
     ensures fault_name { IsErrOf result Stop.ReadFault → Contains (map fnv_of (file_names command.now)) (S.failed_read shelf.new) }
     ensures frames { (files : Files) → S.content shelf.old ≡ Some files →
         steps.new ≤ steps.old + frames_of (given files (work_of command.now)) }
@@ -190,6 +198,7 @@ fn play<S: Shelf, L: Ledger>(
     ensures done { IfOk result (λ reply. reply.status ≡ 0) }
     ensures not_words { result ≢ Err Stop.Usage }
     ensures fault { IsErrOf result Stop.ReadFault → Rose (S.read_faults shelf.old) (S.read_faults shelf.new) }
+    ensures no_fault { ¬ IsErrOf result Stop.ReadFault → S.read_faults shelf.new ≡ S.read_faults shelf.old }
     ensures fault_name { IsErrOf result Stop.ReadFault → Contains (map fnv_of (cart.now ∷ movie_file movie.now)) (S.failed_read shelf.new) }
     ensures frames { (files : Files) → S.content shelf.old ≡ Some files →
         steps.new ≤ steps.old + frames_of (given files (play_work cart.now movie.now)) }
@@ -217,6 +226,7 @@ fn replay<S: Shelf, L: Ledger>(
     ensures done { IfOk result (λ reply. IsCarriedOut reply.status) }
     ensures not_words { result ≢ Err Stop.Usage }
     ensures fault { IsErrOf result Stop.ReadFault → Rose (S.read_faults shelf.old) (S.read_faults shelf.new) }
+    ensures no_fault { ¬ IsErrOf result Stop.ReadFault → S.read_faults shelf.new ≡ S.read_faults shelf.old }
     ensures fault_name { IsErrOf result Stop.ReadFault →
         Contains (map fnv_of (cart.now ∷ script.now ∷ (movie_file start.now ++ movie_file movie.now))) (S.failed_read shelf.new) }
     ensures frames { (files : Files) → S.content shelf.old ≡ Some files →

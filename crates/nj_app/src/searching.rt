@@ -38,6 +38,7 @@ pub fn search<S: Shelf, L: Ledger>(
     ensures done { IfOk result (λ reply. IsCarriedOut reply.status) }
     ensures not_words { result ≢ Err Stop.Usage }
     ensures fault { IsErrOf result Stop.ReadFault → Rose (S.read_faults shelf.old) (S.read_faults shelf.new) }
+    ensures no_fault { ¬ IsErrOf result Stop.ReadFault → S.read_faults shelf.new ≡ S.read_faults shelf.old }
     ensures fault_name { IsErrOf result Stop.ReadFault →
         Contains (map fnv_of (cart.now ∷ script.now ∷ movie_file start.now)) (S.failed_read shelf.new) }
     ensures frames { (files : Files) → S.content shelf.old ≡ Some files →
@@ -63,6 +64,7 @@ fn load_plan<S: Shelf>(
         Loads files (with_search cart.now script.now start.now limits) (S.failed_read shelf.new) result }
     ensures not_words { result ≢ Err Stop.Usage }
     ensures fault { IsErrOf result Stop.ReadFault → Rose (S.read_faults shelf.old) (S.read_faults shelf.new) }
+    ensures no_fault { ¬ IsErrOf result Stop.ReadFault → S.read_faults shelf.new ≡ S.read_faults shelf.old }
     ensures fault_name { IsErrOf result Stop.ReadFault →
         Contains (map fnv_of (cart.now ∷ script.now ∷ movie_file start.now)) (S.failed_read shelf.new) }
     ensures content { S.content shelf.new ≡ S.content shelf.old }

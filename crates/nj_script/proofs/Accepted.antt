@@ -1,5 +1,5 @@
 -- What holds of what a reading accepts.
-use Rattle.std.proofs.Common.{◌≡◌, ℕ, zero, suc, ◌+◌, ◌<◌, ◌≤◌, Bool, true, false, ◌||◌, refl, sym, ◌∙◌, ap, arith, List, [], ◌∷◌, ◌++◌, length, length-append, All, Option, Some, None, Ok, Err, IfOk, ℤ, pos, negsuc, unsigned_abs, ◌≤ℤ◌, int_lt, nat_lt, option_and_then, find, position, if◌then◌else◌, subst, neg_ℤ}
+use Rattle.std.proofs.Common.{◌≡◌, ℕ, suc, ◌+◌, ◌≤◌, Bool, true, false, ◌||◌, refl, arith, List, [], ◌∷◌, ◌++◌, length, length-append, All, Option, Some, None, Ok, Err, IfOk, ℤ, pos, negsuc, unsigned_abs, ◌≤ℤ◌, int_lt, nat_lt, option_and_then, if◌then◌else◌}
 use Rattle.std.proofs.lemmas.Int.{ints}
 use Rattle.std.proofs.lemmas.Bool.Decides.{nat_tests}
 use Rattle.std.proofs.lemmas.List.Elements.{All-append, All-cons}

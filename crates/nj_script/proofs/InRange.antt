@@ -1,5 +1,5 @@
 -- The numbers of an accepted script are in their ranges.
-use Rattle.std.proofs.Common.{◌≡◌, ℕ, ◌+◌, ◌<◌, ◌≤◌, Bool, true, false, refl, sym, ◌∙◌, ap, arith, List, [], ◌∷◌, length, map, All, Option, Some, None, Ok, Err, IfOk, position, nat_lt, bytes_eq, codes, cond, subst}
+use Rattle.std.proofs.Common.{◌≡◌, ℕ, ◌<◌, ◌≤◌, Bool, true, false, refl, sym, ◌∙◌, arith, List, [], length, map, All, Some, None, Ok, Err, IfOk, nat_lt, bytes_eq, codes, cond, subst}
 use Rattle.std.specs.List.{position_or_len}
 use Rattle.std.proofs.lemmas.Bool.Decides.{nat_tests}
 use Rattle.std.proofs.lemmas.List.{length-map}
@@ -7,20 +7,18 @@ use Rattle.std.proofs.lemmas.List.Elements.{All-map}
 use Rattle.serde_json.specs.Data.{Data}
 use Rattle.nj_property.specs.Property.{IsPlaced}
 use Rattle.nj_rules.specs.declared.record.Rule.{Rule}
-use Rattle.nj_rules.specs.declared.record.HashItem.{HashItem}
-use Rattle.nj_rules.specs.declared.record.InputSet.{InputSet}
 use Rattle.nj_rules.specs.Limits.{IsItemInRange, IsSetInRange, IsRuleInRange, AreItemsInRange, AreSetsInRange, AreRulesInRange}
 use Rattle.nj_script.specs.declared.names.Named.{Named}
 use Rattle.nj_script.specs.declared.rules.Body.{Body}
 use Rattle.nj_script.specs.declared.rules.NamedRule.{NamedRule}
 use Rattle.nj_script.specs.declared.refusal.ScriptRefused.TheVariants.{UnknownName}
-use Rattle.nj_script.specs.Reading.{Reading, then_read, if_there}
+use Rattle.nj_script.specs.Reading.{then_read, if_there}
 use Rattle.nj_script.specs.Fields.{natural_or, list}
 use Rattle.nj_script.specs.Lists.{each, collected}
 use Rattle.nj_script.specs.Names.{number_of}
 use Rattle.nj_script.specs.Kinds.{property_in, item_in, set_in, rule_in}
-use Rattle.nj_script.specs.Script.{Record, IsInRange, properties_in, items_in, sets_in, named_rules_in, numbers_of, rule_of, rules_in, head_in, script_in}
-use Rattle.nj_script.proofs.Accepted.{ok_then, ok_after, ok_if_there, ok_weaker, ok_collected, ok_natural_or, ok_list}
+use Rattle.nj_script.specs.Script.{IsInRange, properties_in, items_in, sets_in, named_rules_in, numbers_of, rule_of, rules_in, head_in, script_in}
+use Rattle.nj_script.proofs.Accepted.{ok_then, ok_after, ok_weaker, ok_collected, ok_natural_or, ok_list}
 use Rattle.nj_script.proofs.Members.{ArePlaced, IsBodyInRange, ok_members, ok_property_in, ok_item_in, ok_set_in, ok_rule_in}
 
 pub ok_properties_in : (d : Data) → IfOk (properties_in d) (λ ps. ArePlaced ps × (length ps ≤ 64))

@@ -1,5 +1,5 @@
 -- The first unknown key of an object, as a loop over its keys finds it.
-use Rattle.std.proofs.Common.{◌≡◌, ℕ, Option, Some, None, Bool, true, false, refl, sym, ◌∙◌, ap, List, [], ◌∷◌, map, find, not, bytes_eq, Bor, cond, Ok, Err}
+use Rattle.std.proofs.Common.{◌≡◌, ℕ, Option, Some, Bool, true, false, refl, sym, ◌∙◌, ap, List, [], ◌∷◌, map, find, not, bytes_eq, Bor, Ok, Err}
 use Rattle.std.proofs.Common.{String, Global, string_bytes}
 use Rattle.std.specs.List.{list_any}
 use Rattle.std.specs.Map.{keys_of}

@@ -5,3 +5,4 @@ pub mod Accepted
 pub mod Members
 pub mod InRange
 pub mod Json
+pub mod PadBytes

@@ -1,8 +1,7 @@
 -- What holds of the members that a script's lists accept.
-use Rattle.std.proofs.Common.{◌≡◌, ℕ, zero, suc, ◌+◌, ◌-◌, ◌^◌, ◌<◌, ◌≤◌, Bool, true, false, refl, sym, ◌∙◌, ap, arith, List, [], ◌∷◌, length, All, Option, Some, None, Ok, Err, IfOk, ℤ, pos, negsuc, neg_ℤ, unsigned_abs, ◌≤ℤ◌, nat_lt, find, position, bytes_eq, codes, cond, is_some}
+use Rattle.std.proofs.Common.{◌≡◌, ℕ, ◌-◌, ◌^◌, ◌≤◌, Bool, true, false, arith, List, [], ◌∷◌, length, All, Some, Ok, Err, IfOk, ℤ, pos, negsuc, neg_ℤ, unsigned_abs, ◌≤ℤ◌, find, bytes_eq, codes, cond, is_some}
 use Rattle.std.proofs.lemmas.Int.{ints}
-use Rattle.std.proofs.lemmas.Bool.Decides.{nat_tests}
-use Rattle.std.specs.List.{list_any, position_or_len}
+use Rattle.std.specs.List.{list_any}
 use Rattle.serde_json.specs.Data.{Data, Items}
 use Rattle.serde_json.specs.Find.{get, as_str}
 use Rattle.serde_json.specs.Events.{items_len}
@@ -10,24 +9,17 @@ use Rattle.nj_property.specs.Property.{IsPlaced, size_of}
 use Rattle.nj_property.specs.Condition.{IsPlacedCondition, IsPlacedSide}
 use Rattle.nj_property.specs.declared.Kind.{Kind}
 use Rattle.nj_property.specs.declared.Kind.TheVariants.{U8, I8, U16, I16}
-use Rattle.nj_property.specs.declared.Cmp.{Cmp}
 use Rattle.nj_property.specs.declared.Property.{Property}
-use Rattle.nj_property.specs.declared.Side.{Side}
 use Rattle.nj_property.specs.declared.Side.TheVariants.{Number, Other}
-use Rattle.nj_property.specs.declared.Condition.{Condition}
-use Rattle.nj_rules.specs.declared.record.HashItem.{HashItem}
-use Rattle.nj_rules.specs.declared.record.InputSet.{InputSet}
-use Rattle.nj_rules.specs.declared.record.Weight.{Weight}
 use Rattle.nj_rules.specs.Limits.{IsItemInRange, IsSetInRange, IsWeightInRange}
 use Rattle.nj_script.specs.declared.names.Named.{Named}
-use Rattle.nj_script.specs.declared.rules.Flags.{Flags}
 use Rattle.nj_script.specs.declared.rules.Body.{Body}
 use Rattle.nj_script.specs.declared.rules.NamedRule.{NamedRule}
 use Rattle.nj_script.specs.declared.refusal.ScriptRefused.TheVariants.{UnknownName}
 use Rattle.nj_script.specs.Reading.{Reading, then_read, if_there}
 use Rattle.nj_script.specs.Fields.{opened, integer, integer_or, natural, truth, text, text_in, list, list_or_none}
 use Rattle.nj_script.specs.Lists.{each}
-use Rattle.nj_script.specs.Names.{free_name, property_named, kind_named, comparison_named, pad_named}
+use Rattle.nj_script.specs.Names.{free_name, property_named}
 use Rattle.nj_script.specs.Kinds.{kind_in, property_in, property_at, range_in, range_of, item_in, condition_keys, comparison_in, side_in, condition_in, conditions_in, pad_in, pads_in, set_in, flags_in, weight_in, weights_in, also_in, body_in, rule_keys, rule_in}
 use Rattle.nj_script.proofs.Accepted.{ok_then, ok_after, ok_if_there, ok_weaker, ok_each, ok_natural, ok_integer, ok_integer_or, ok_list, ok_list_or_none, All-head, All-tail}
 

@@ -1,5 +1,5 @@
 -- The members of a JSON object (RFC 8259), read one at a time. What is asked of them is this project's own.
-use Rattle.std.specs.Prelude.{ℕ, ⊤, ◌||◌, Bool, false, List, [], ◌∷◌, find, not, ℤ, pos, unsigned_abs, int_lt, nat_lt, Option, Some, None, Ok, Err, option_and_then, bytes_eq, if◌then◌else◌}
+use Rattle.std.specs.Prelude.{ℕ, ⊤, ◌||◌, Bool, false, List, [], ◌∷◌, find, not, ℤ, pos, unsigned_abs, int_lt, nat_lt, Option, Ok, Err, option_and_then, bytes_eq, if◌then◌else◌}
 use Rattle.std.specs.List.{list_any}
 use Rattle.serde_json.specs.Data.{Data, Items, no_items, Members, no_members, member}
 use Rattle.serde_json.specs.Find.{get, as_number, as_i64, as_bool, as_str, as_array, as_object}

@@ -1,5 +1,5 @@
 -- A whole script: what its text says, or the first refusal. The layout is this project's own; JSON is RFC 8259.
-use Rattle.std.specs.Prelude.{ℕ, ⊤, ◌≤◌, Bool, List, [], ◌∷◌, length, map, pos, codes, Option, Some, None, Ok, Err, option_and_then, if◌then◌else◌}
+use Rattle.std.specs.Prelude.{◌≡◌, ℕ, ⊤, ◌<◌, ◌≤◌, All, List, [], ◌∷◌, length, map, pos, codes, Option, None, Ok, Err, option_and_then, if◌then◌else◌}
 use Rattle.std.specs.Str.{is_utf8}
 use Rattle.std.specs.Ordering.{int_eq}
 use Rattle.serde_json.specs.Data.{Data}
@@ -112,3 +112,8 @@ json_of bytes = if is_utf8 bytes then read bytes else None
 -- what a text of bytes says as a script
 unfoldable pub script_of : List ℕ → Reading Record
 script_of bytes = if_there (json_of bytes) (Err NotJson) script_in
+
+-- the numbers of each script that is read are in their ranges, and its pads are bytes
+abbrev pub WhatIsReadIsInRange : Type 0
+WhatIsReadIsInRange = (bytes : List ℕ) (script : Record) → script_of bytes ≡ Ok script
+    → IsInRange script × All (λ set. All (λ pad. pad < 256) set.pads) script.inputs.sets

@@ -4,6 +4,7 @@
 
 mod conditions;
 mod fields;
+mod laws;
 mod lists;
 mod names;
 mod naming;
@@ -13,6 +14,7 @@ mod rules;
 mod script;
 mod sets;
 
+pub use laws::what_is_read_is_in_range;
 pub use nj_pad::Pad;
 pub use nj_rules::{
     Cmp, Condition, HashItem, HashItems, InputSet, InputSets, Kind, Property, Rule, Rules, Side,

@@ -1,7 +1,9 @@
 -- The text is a movie within its limit, and its replay is told by the line that the text begins with.
-use Rattle.std.proofs.Common.{◌≡◌, ◌≤◌, ◌*◌, ◌++◌, ℕ, ℤ, List, [], ◌∷◌, length, false, nat_lt, Result, Ok, codes, refl, ap, sym, ◌∙◌, arith, length-append}
+use Rattle.std.proofs.Common.{◌≡◌, ◌<◌, ◌≤◌, ◌*◌, ◌++◌, ℕ, ℤ, List, [], ◌∷◌, length, false, nat_lt, Result, Ok, codes, refl, ap, sym, ◌∙◌, arith, length-append}
 use Rattle.std.proofs.lemmas.Bool.Decides.{nat_tests}
+use Rattle.std.proofs.lemmas.List.Elements.{All-cons, All-nil}
 use Rattle.nj_game.specs.Plan.{Plan, movie_of as movie_of_word}
+use Rattle.nj_movie.specs.Says.{Says, nothing, skip, press}
 use Rattle.nj_movie.specs.Text.{movie_of, movie_text, written_line}
 use Rattle.nj_pad.specs.Pad.{pad_text}
 use Rattle.nj_replay.specs.Replay.{replay_of}
@@ -20,7 +22,7 @@ use Rattle.nj_app.specs.Refusals.{movie_refusal, replay_refusal}
 use Rattle.nj_app.specs.Replay.{judged_work, outcome_line, replay_done}
 use Rattle.nj_app.specs.Search.{told}
 use Rattle.nj_app.specs.Work.{Done, accepted, done, refusal_told}
-use Rattle.nj_app.proofs.Bytes.{won_movie_bytes}
+use Rattle.nj_app.proofs.Bytes.{AreBytes, won_movie_bytes}
 use Rattle.nj_app.proofs.Digits.{decimal_short, signed_short}
 use Rattle.nj_app.proofs.laws.won_text_replays.Goals as goal
 
@@ -73,10 +75,20 @@ unfolding judged_work
 won_answered plan step reward pads replayed =
     ap (λ (r : Result Replayed ReplayRefused). accepted 6 (codes "movie") (replay_done (length pads)) (refusal_told replay_refusal r)) replayed
 
+-- the pads that lines say are bytes
+said_bytes : (parts : List (List ℕ)) (pads : List ℕ) → Says parts pads → AreBytes pads
+said_bytes parts whole nothing = All-nil (λ pad. pad < 256)
+said_bytes parts whole (skip line rest pads skipped says) = said_bytes rest pads says
+said_bytes parts whole (press line rest pad pads frame says) = All-cons (λ pad. pad < 256) pad pads frame.0 (said_bytes rest pads says)
+
 pub returns : goal.returns
-returns c = λ planned step word some_hold none won start sets.
-    let bytes = won_movie_bytes c.parents_stood_before.ensures c.winner_is_best.ensures planned step word won start sets in
-    let replays = c.a_won_word_replays.ensures planned step word some_hold none won in
+returns c = λ planned step word script start script_read start_read none won.
+    let in_range = c.what_is_read_is_in_range.ensures script planned.plan.script script_read in
+    let says = (c.a_text_says_its_pads.ensures.said start planned.plan.start start_read).0 in
+    let bytes =
+    won_movie_bytes c.parents_stood_before.ensures c.winner_is_best.ensures planned step word won (said_bytes _ planned.plan.start says)
+    in_range.1 in
+    let replays = c.a_won_word_replays.ensures planned step word in_range.0.hold_low none won in
     let pads = movie_of_word planned.plan word in
     let reward = reward_in planned.plan word in
     let is_told = told_won planned step word won in

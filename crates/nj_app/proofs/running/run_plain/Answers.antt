@@ -1,7 +1,7 @@
 -- A reply is written, and a stop has its line.
 use Rattle.std.proofs.Common.{Err, refl, lit<, ap, ◌∙◌}
 use Rattle.nj_outside.specs.Told.{appended}
-use Rattle.nj_app.proofs.Statuses.{carried_out_status, stop_status, reply_answers, reply_cut_short, stop_settles, stop_completes, stop_reaches, stop_line, unless_failed}
+use Rattle.nj_app.proofs.Statuses.{carried_out_status, stop_status, reply_answers, reply_cut_short, stop_settles, stop_completes, stop_reaches, stop_line, stop_no_fault, unless_failed}
 use Rattle.nj_app.proofs.running.run_plain.Goals as goal
 
 pub returns-in-Ok-write_all-clause-known : goal.returns-in-Ok-write_all-clause-known
@@ -57,3 +57,7 @@ returns-clause-line g c = λ files told never.
 
 pub returns-in-Ok-clause-known : goal.returns-in-Ok-clause-known
 returns-in-Ok-clause-known g c = (8, lit< tt, refl)
+
+pub returns-clause-no_read_fault : goal.returns-clause-no_read_fault
+returns-clause-no_read_fault g c = λ other.
+    c.in-Err.ensures.no_fault (stop_no_fault c.in-Err.stop c.status.result c.status.ensures other)

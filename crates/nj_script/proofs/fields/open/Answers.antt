@@ -1,7 +1,6 @@
-use Rattle.std.proofs.Common.{◌≡◌, ◌∙◌, sym, ap, refl, Some, None, Ok, Err, map}
+use Rattle.std.proofs.Common.{◌∙◌, refl, map}
 use Rattle.serde_json.specs.View.{view, members_view}
 use Rattle.nj_script.specs.declared.refusal.ScriptRefused.TheVariants.{UnknownKey}
-use Rattle.nj_script.specs.Reading.{Refuses}
 use Rattle.nj_script.specs.Fields.{opened}
 use Rattle.nj_script.proofs.Keys.{opened-members, unknown_key-view}
 use Rattle.nj_script.proofs.Refused.{refused_with}

@@ -1,4 +1,4 @@
-use Rattle.std.proofs.Common.{◌≡◌, ◌∙◌, sym, ap, Some, None, map, find, not, bytes_eq, string_bytes, List, ◌∷◌, false, true}
+use Rattle.std.proofs.Common.{◌≡◌, ◌∙◌, sym, ap, Some, map, find, not, string_bytes, false, true}
 use Rattle.std.specs.BTreeMap.{keys}
 use Rattle.nj_script.proofs.Keys.{is_unknown, find-here, find-behind}
 use Rattle.nj_script.proofs.fields.unknown_among.Goals as goal

@@ -1,4 +1,4 @@
-use Rattle.std.proofs.Common.{◌≡◌, Ok, rules, refl}
+use Rattle.std.proofs.Common.{◌≡◌, Ok, rules}
 use Rattle.serde_json.specs.View.{view}
 use Rattle.nj_script.specs.Script.{Record, IsInRange, script_in}
 use Rattle.nj_script.proofs.Accepted.{holds_of}
