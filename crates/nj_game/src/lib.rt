@@ -5,7 +5,7 @@
 
 ghost use Rattle.std.specs.Prelude.{◌≡◌, ◌↔◌, ◌+◌, ◌≤◌, ◌<◌, ◌++◌, ◌∷◌, [], ℕ, List, length, true};
 ghost use Rattle.nj_search_defs.specs.Game.{Word};
-ghost use Rattle.nj_ines.specs.Cartridge.{IsNrom};
+ghost use Rattle.nj_ines.specs.Cartridge.{IsCartridge};
 ghost use Rattle.nj_machine.specs.State.{State, power_on, ram_of, rom_of, is_jammed};
 ghost use Rattle.nj_machine.specs.Frame.{frame, play, IsReady};
 ghost use Rattle.nj_rules.specs.Rules.{status_after, is_in, judged_of as judged_in};
@@ -36,8 +36,8 @@ pub fn a_word_goes_on()
 
 /// After a word the machine stands between two frames and has what the cartridge fixes.
 pub fn a_word_keeps_the_cartridge()
-    ensures ready { (plan : Plan) (word : Word) → IsNrom plan.cartridge → IsReady (state_of plan word) }
-    ensures cartridge { (plan : Plan) (word : Word) → IsNrom plan.cartridge → rom_of (state_of plan word) ≡ rom_of (power_on plan.cartridge) }
+    ensures ready { (plan : Plan) (word : Word) → IsCartridge plan.cartridge → IsReady (state_of plan word) }
+    ensures cartridge { (plan : Plan) (word : Word) → IsCartridge plan.cartridge → rom_of (state_of plan word) ≡ rom_of (power_on plan.cartridge) }
 {
     frames_keep_the_cartridge();
 }
