@@ -5,7 +5,6 @@ ghost use Rattle.nj_search_defs.specs.Game.{Word};
 ghost use Rattle.nj_rules.specs.Limits.{AreRulesInRange};
 ghost use Rattle.nj_game.specs.Plan.{Plan, plan_of, held_pads};
 ghost use Rattle.nj_game.specs.Words.{held};
-ghost use Rattle.nj_machine.specs.Frame.{frames};
 ghost use Rattle.nj_replay.specs.Reading.{first_pads};
 ghost use Rattle.nj_replay.specs.Replay.{IsAfter};
 
@@ -25,17 +24,6 @@ use std::sync::ledger::Ledger;
 pub struct Run {
     machine: Machine,
     judged: Judged,
-}
-
-// One frame for each pad.
-fn run_frames<L: Ledger>(machine: &mut Machine, pads: &[Pad], steps: &mut Steps<L>)
-    ensures state { machine.new ≡ frames machine.old pads.now }
-    ensures frames { steps.new ≤ steps.old + length pads.now }
-    ensures never_falls { steps.old ≤ steps.new }
-{
-    for pad in pads {
-        machine.frame(*pad, steps);
-    }
 }
 
 // So many frames with the pad held.
@@ -65,7 +53,7 @@ impl Run {
     {
         the_empty_word_is_the_start();
         let mut machine = Machine::power_on(alloc, cart)?;
-        run_frames(&mut machine, start.pads(), steps);
+        machine.play(start.pads(), steps);
         let judged = judge(script.rules(), machine.ram(), Status(0), machine.jammed());
         Ok(Run { machine, judged })
     }
