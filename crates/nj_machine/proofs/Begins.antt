@@ -62,27 +62,27 @@ uxrom_bank : (m : Banks) → IsUxrom m → 0 < bank_count m
 unfolding bank_count
 uxrom_bank m h =
     rw h.mapper (elim h.prg [
-      inl e ↦ rw e (lit≤ tt)
-    | inr (inl e) ↦ rw e (lit≤ tt)
-    | inr (inr (inl e)) ↦ rw e (lit≤ tt)
-    | inr (inr (inr e)) ↦ rw e (lit≤ tt)
+      | inl e ↦ rw e (lit≤ tt)
+      | inr (inl e) ↦ rw e (lit≤ tt)
+      | inr (inr (inl e)) ↦ rw e (lit≤ tt)
+      | inr (inr (inr e)) ↦ rw e (lit≤ tt)
     ])
 
 cnrom_bank : (m : Banks) → IsCnrom m → 0 < bank_count m
 unfolding bank_count
 cnrom_bank m h =
     rw h.mapper (elim h.chr [
-      inl e ↦ rw e (lit≤ tt)
-    | inr (inl e) ↦ rw e (lit≤ tt)
-    | inr (inr e) ↦ rw e (lit≤ tt)
+      | inl e ↦ rw e (lit≤ tt)
+      | inr (inl e) ↦ rw e (lit≤ tt)
+      | inr (inr e) ↦ rw e (lit≤ tt)
     ])
 
 pub sized_by : (cart : Cartridge) → IsCartridge cart → IsBanks (memory_of cart)
 sized_by cart h =
     elim h.board [
-      inl n ↦ record { board = inl (of_nrom cart n); bank = nrom_bank (memory_of cart) (of_nrom cart n) }
-    | inr (inl u) ↦ record { board = inr (inl (of_uxrom cart u)); bank = uxrom_bank (memory_of cart) (of_uxrom cart u) }
-    | inr (inr c) ↦ record { board = inr (inr (of_cnrom cart c)); bank = cnrom_bank (memory_of cart) (of_cnrom cart c) }
+      | inl n ↦ record { board = inl (of_nrom cart n); bank = nrom_bank (memory_of cart) (of_nrom cart n) }
+      | inr (inl u) ↦ record { board = inr (inl (of_uxrom cart u)); bank = uxrom_bank (memory_of cart) (of_uxrom cart u) }
+      | inr (inr c) ↦ record { board = inr (inr (of_cnrom cart c)); bank = cnrom_bank (memory_of cart) (of_cnrom cart c) }
     ]
 
 -- the state at power-on is ready

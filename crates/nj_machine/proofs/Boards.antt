@@ -16,9 +16,9 @@ with_chr : (m : Banks) (chr : List ℕ) → length chr ≡ length m.chr → IsBa
 unfolding bank_count
 with_chr m chr same h = record {
   board = elim h.board [
-    inl n ↦ inl (record { mapper = n.mapper; prg = n.prg; chr = same ∙ n.chr })
-  | inr (inl u) ↦ inr (inl (record { mapper = u.mapper; prg = u.prg; chr = same ∙ u.chr }))
-  | inr (inr c) ↦ inr (inr (record { mapper = c.mapper; prg = c.prg; chr = rw same c.chr; rom = c.rom }))
+    | inl n ↦ inl (record { mapper = n.mapper; prg = n.prg; chr = same ∙ n.chr })
+    | inr (inl u) ↦ inr (inl (record { mapper = u.mapper; prg = u.prg; chr = same ∙ u.chr }))
+    | inr (inr c) ↦ inr (inr (record { mapper = c.mapper; prg = c.prg; chr = rw same c.chr; rom = c.rom }))
   ];
   bank = rw same h.bank;
 }
@@ -28,9 +28,9 @@ with_another : (m : Banks) (bank : ℕ) → bank < bank_count m → IsBanks m �
 unfolding bank_count
 with_another m bank below h = record {
   board = elim h.board [
-    inl n ↦ inl (record { mapper = n.mapper; prg = n.prg; chr = n.chr })
-  | inr (inl u) ↦ inr (inl (record { mapper = u.mapper; prg = u.prg; chr = u.chr }))
-  | inr (inr c) ↦ inr (inr (record { mapper = c.mapper; prg = c.prg; chr = c.chr; rom = c.rom }))
+    | inl n ↦ inl (record { mapper = n.mapper; prg = n.prg; chr = n.chr })
+    | inr (inl u) ↦ inr (inl (record { mapper = u.mapper; prg = u.prg; chr = u.chr }))
+    | inr (inr c) ↦ inr (inr (record { mapper = c.mapper; prg = c.prg; chr = c.chr; rom = c.rom }))
   ];
   bank = below;
 }
@@ -77,9 +77,9 @@ whole-if false m part h = refl
 cnrom_only : (m : Banks) → IsBanks m → m.chr_ram ≡ true → (m.mapper == 3) ≡ true → ⊥
 cnrom_only m h ram three =
     elim h.board [
-      inl n ↦ (let clash : (0 == 3) ≡ true = ap (λ k. k == 3) (sym n.mapper) ∙ three in cc)
-    | inr (inl u) ↦ (let clash : (2 == 3) ≡ true = ap (λ k. k == 3) (sym u.mapper) ∙ three in cc)
-    | inr (inr c) ↦ true≢false (sym ram ∙ c.rom)
+      | inl n ↦ (let clash : (0 == 3) ≡ true = ap (λ k. k == 3) (sym n.mapper) ∙ three in cc)
+      | inr (inl u) ↦ (let clash : (2 == 3) ≡ true = ap (λ k. k == 3) (sym u.mapper) ∙ three in cc)
+      | inr (inr c) ↦ true≢false (sym ram ∙ c.rom)
     ]
 
 pub ram_pattern : (m : Banks) → IsBanks m → m.chr_ram ≡ true → pattern_of m ≡ m.chr

@@ -131,7 +131,7 @@ module _ {Held : Type 0} (acts : Acts Held) where
       w.held.reads ≡ p → length p + cond b (suc (fetch_count rest)) (fetch_count rest) ≤ 4 →
       cond b (is_always a.when_ && is_lead rest) (fetch_count rest == 0) ≡ true →
       ((q : List ℕ) (v : Walk (Recorded Held)) → v.held.reads ≡ q → length q + fetch_count rest ≤ 4 → is_lead rest ≡ true →
-          Starts (q ++ operand_bytes acts op rest (behind v)) (walk (recording acts) op rest v).held.reads) →
+      Starts (q ++ operand_bytes acts op rest (behind v)) (walk (recording acts) op rest v).held.reads) →
       Starts (p ++ before_if b (acts.byte w.held.held w.cpu.pc) (operand_bytes acts op rest (step acts op a (behind w)))) (walk (recording acts) op rest (step (recording acts) op a w)).held.reads
   lead-by true op a rest p w f e short l next =
       let parts = split_and (is_always a.when_) (is_lead rest) l in

@@ -185,7 +185,13 @@ impl<P: Picture + Drop> Console<P> {
         let ended = self.recorder.cells.picture.take_end();
         match end {
             UnitEnd::Jammed => UnitStep::Jammed,
-            UnitEnd::Done => { if ended { UnitStep::Picture } else { UnitStep::More } }
+            UnitEnd::Done => {
+                if ended {
+                    UnitStep::Picture
+                } else {
+                    UnitStep::More
+                }
+            }
         }
     }
 

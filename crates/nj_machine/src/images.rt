@@ -237,7 +237,10 @@ impl<P: Picture + Drop> Console<P> {
         ensures same { self.new ≡ self.old }
     {
         let rest = self.rest_bytes();
-        self.recorder.cells.picture.settle(self.recorder.cells.board.pattern());
+        self.recorder
+            .cells
+            .picture
+            .settle(self.recorder.cells.board.pattern());
         place(image, 0, &self.recorder.cells.ram);
         self.recorder.cells.picture.put(image);
         place(image, 4448, &rest);

@@ -1,5 +1,8 @@
-//! The whole machine: processor, picture, board and ports, from power-on, one frame for each pad. A frame ends with
-//! the unit of the processor that runs the picture's dot (241,1), or with a jam.
+//! The whole machine: processor, picture, board and ports, from power-on, one frame for each pad, or one unit of the
+//! processor after another. A frame ends with the unit that runs the picture's dot (241,1), or with a jam. The machine's
+//! state is a record of lists and numbers, whatever the picture does with its dots; an access is a function on it, a unit a
+//! fold over accesses, a frame a fold over units, a movie a fold over frames, and a state's image is one list of bytes from
+//! which the state is made again. Read specs/State first, then specs/Wires (one cycle) and specs/Frame.
 #![tactic(auto)]
 
 mod cells;
@@ -12,7 +15,8 @@ mod tests;
 
 pub use frames::Console;
 pub use laws::{
-    a_jam_stays, an_image_tells_its_state, frame_is_first, frames_are_units, frames_keep_the_cartridge,
+    a_jam_stays, an_image_tells_its_state, frame_is_first, frames_are_units,
+    frames_keep_the_cartridge,
 };
 use nj_catchup::CatchUp;
 pub use nj_cpu::{Cpu, Flags, Note};

@@ -93,11 +93,7 @@ impl<P: Picture + Drop> Recorder<P> {
         ensures value { result ≡ nth (take self.now.count self.now.reads) n }
         ensures below { result < 256 }
     {
-        if n < self.count {
-            self.reads[n]
-        } else {
-            0
-        }
+        if n < self.count { self.reads[n] } else { 0 }
     }
 
     // The bytes of the instruction of this row that was run.

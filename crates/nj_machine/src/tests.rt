@@ -289,13 +289,13 @@ fn frame_seen<L: Ledger>(
     let mut steps = Steps::<L>::open(blank);
     let mut first = [UnitSeen::new(); 3];
     let mut count = 0;
-    for _ in 0..most {
+    for at in 0..most {
         let mut seen = UnitSeen::new();
         let step = machine.unit_step(Pad(0), &mut seen, &mut steps);
-        if count < 3 {
-            first[count as usize] = seen;
+        if at < 3 {
+            first[at as usize] = seen;
         }
-        count += 1;
+        count = at + 1;
         if step != UnitStep::More {
             break;
         }
@@ -310,15 +310,61 @@ fn units_of_the_walk(rt: HostRuntime) -> Result<(), Fail> {
     let (first, count, steps) = frame_seen::<Brand>(Blank::new(1), &mut walks, 30_000);
     assert_eq!(rt; (count, steps), (9132, 1));
     let [sei, lda, sta] = first;
-    assert_eq!(rt; told(&sei), (UnitKind::Code, [0x78, 0, 0], 1, [0, 0xFD], 0x8000, (0, 0)));
-    assert_eq!(rt; told(&lda), (UnitKind::Code, [0xA9, 0x80, 0], 2, [0, 0xFD], 0x8001, (0, 6)));
-    assert_eq!(rt; told(&sta), (UnitKind::Code, [0x8D, 0x00, 0x20], 3, [0x80, 0xFD], 0x8003, (0, 12)));
+    assert_eq!(rt;
+        told(&sei),
+        (UnitKind::Code, [0x78, 0, 0], 1, [0, 0xFD], 0x8000, (0, 0))
+    );
+    assert_eq!(rt;
+        told(&lda),
+        (
+            UnitKind::Code,
+            [0xA9, 0x80, 0],
+            2,
+            [0, 0xFD],
+            0x8001,
+            (0, 6)
+        )
+    );
+    assert_eq!(rt;
+        told(&sta),
+        (
+            UnitKind::Code,
+            [0x8D, 0x00, 0x20],
+            3,
+            [0x80, 0xFD],
+            0x8003,
+            (0, 12)
+        )
+    );
     let (second, count, _) = frame_seen::<Brand>(Blank::new(1), &mut walks, 30_000);
     assert_eq!(rt; count, 9925);
     let [jmp, nmi, inc] = second;
-    assert_eq!(rt; told(&jmp), (UnitKind::Code, [0x4C, 0x06, 0x80], 3, [0x80, 0xFD], 0x8006, (241, 4)));
-    assert_eq!(rt; told(&nmi), (UnitKind::Nmi, [0; 3], 0, [0x80, 0xFD], 0x8006, (241, 13)));
-    assert_eq!(rt; told(&inc), (UnitKind::Code, [0xE6, 0x11, 0], 2, [0x80, 0xFA], 0x8009, (241, 34)));
+    assert_eq!(rt;
+        told(&jmp),
+        (
+            UnitKind::Code,
+            [0x4C, 0x06, 0x80],
+            3,
+            [0x80, 0xFD],
+            0x8006,
+            (241, 4)
+        )
+    );
+    assert_eq!(rt;
+        told(&nmi),
+        (UnitKind::Nmi, [0; 3], 0, [0x80, 0xFD], 0x8006, (241, 13))
+    );
+    assert_eq!(rt;
+        told(&inc),
+        (
+            UnitKind::Code,
+            [0xE6, 0x11, 0],
+            2,
+            [0x80, 0xFA],
+            0x8009,
+            (241, 34)
+        )
+    );
     Ok(())
 }
 
@@ -329,14 +375,27 @@ fn units_of_a_jam_and_a_call(rt: HostRuntime) -> Result<(), Fail> {
     let (first, count, steps) = frame_seen::<Brand>(Blank::new(1), &mut jams, 3);
     assert_eq!(rt; (count, steps), (1, 1));
     let [jam, _, _] = first;
-    assert_eq!(rt; told(&jam), (UnitKind::Jam, [0x02, 0, 0], 1, [0, 0xFD], 0x8000, (0, 0)));
+    assert_eq!(rt;
+        told(&jam),
+        (UnitKind::Jam, [0x02, 0, 0], 1, [0, 0xFD], 0x8000, (0, 0))
+    );
     let (later, count, steps) = frame_seen::<Brand>(Blank::new(1), &mut jams, 3);
     assert_eq!(rt; (count, steps), (1, 1));
     let [nothing, _, _] = later;
     assert_eq!(rt; nothing.kind, UnitKind::Nothing);
     let mut calls = machine::<CatchUp>(rt.alloc(), &[0x20, 0x34, 0x12], 0x00)?;
     let ([jsr, _, _], _, _) = frame_seen::<Brand>(Blank::new(1), &mut calls, 1);
-    assert_eq!(rt; told(&jsr), (UnitKind::Code, [0x20, 0x34, 0x12], 3, [0, 0xFD], 0x8000, (0, 0)));
+    assert_eq!(rt;
+        told(&jsr),
+        (
+            UnitKind::Code,
+            [0x20, 0x34, 0x12],
+            3,
+            [0, 0xFD],
+            0x8000,
+            (0, 0)
+        )
+    );
     Ok(())
 }
 
@@ -344,15 +403,15 @@ fn units_of_a_jam_and_a_call(rt: HostRuntime) -> Result<(), Fail> {
 fn file_of(
     alloc: Global,
     header: [u8; 16],
-    length: usize,
-    pieces: &[(usize, &[u8])],
+    length: u16,
+    pieces: &[(u16, &[u8])],
 ) -> Result<Vec<u8>, AllocError> {
     let mut file = Vec::from_slice(alloc, &header)?;
     for (at, piece) in pieces {
-        file.resize(16 + *at, 0)?;
+        file.resize(16 + usize::from(*at), 0)?;
         file.extend_from_slice(piece)?;
     }
-    file.resize(16 + length, 0)?;
+    file.resize(16 + usize::from(length), 0)?;
     Ok(file)
 }
 
@@ -364,9 +423,13 @@ fn kept_at_10<P: Picture + Drop>(alloc: Global, file: &[u8]) -> Result<u8, Fail>
     Ok(machine.ram()[0x10])
 }
 
-const HEADER_UXROM: [u8; 16] = [b'N', b'E', b'S', 0x1A, 2, 0, 0x20, 0, 0, 0, 0, 0, 0, 0, 0, 0];
+const HEADER_UXROM: [u8; 16] = [
+    b'N', b'E', b'S', 0x1A, 2, 0, 0x20, 0, 0, 0, 0, 0, 0, 0, 0, 0,
+];
 
-const HEADER_CNROM: [u8; 16] = [b'N', b'E', b'S', 0x1A, 1, 2, 0x30, 0, 0, 0, 0, 0, 0, 0, 0, 0];
+const HEADER_CNROM: [u8; 16] = [
+    b'N', b'E', b'S', 0x1A, 1, 2, 0x30, 0, 0, 0, 0, 0, 0, 0, 0, 0,
+];
 
 // Writes $FF at $FFF0 and keeps the byte at $8000.
 const SWITCHES_PRG: [u8; 12] = [
@@ -383,24 +446,46 @@ const SWITCHES_CHR: [u8; 25] = [
 #[test]
 fn banks_of_both_boards(rt: HostRuntime) -> Result<(), Fail> {
     for (there, prg_byte, chr_byte) in [(0x01, 0xA9, 0x42), (0x00, 0x11, 0x21)] {
-        let uxrom = file_of(rt.alloc(), HEADER_UXROM, 0x8000, &[
-            (0x0000, &[0x11]),
-            (0x4000, &SWITCHES_PRG),
-            (0x400C, &[0xC0]),
-            (0x7FF0, &[there]),
-            (0x7FFC, &[0x00, 0xC0]),
-        ])?;
-        assert_eq!(rt; kept_at_10::<CatchUp>(rt.alloc(), uxrom.as_slice())?, prg_byte);
-        assert_eq!(rt; kept_at_10::<DotPicture>(rt.alloc(), uxrom.as_slice())?, prg_byte);
-        let cnrom = file_of(rt.alloc(), HEADER_CNROM, 0x8000, &[
-            (0x0000, &SWITCHES_CHR),
-            (0x3FF0, &[there]),
-            (0x3FFC, &[0x00, 0x80]),
-            (0x4000, &[0x21]),
-            (0x6000, &[0x42]),
-        ])?;
-        assert_eq!(rt; kept_at_10::<CatchUp>(rt.alloc(), cnrom.as_slice())?, chr_byte);
-        assert_eq!(rt; kept_at_10::<DotPicture>(rt.alloc(), cnrom.as_slice())?, chr_byte);
+        let uxrom = file_of(
+            rt.alloc(),
+            HEADER_UXROM,
+            0x8000,
+            &[
+                (0x0000, &[0x11]),
+                (0x4000, &SWITCHES_PRG),
+                (0x400C, &[0xC0]),
+                (0x7FF0, &[there]),
+                (0x7FFC, &[0x00, 0xC0]),
+            ],
+        )?;
+        assert_eq!(rt;
+            kept_at_10::<CatchUp>(rt.alloc(), uxrom.as_slice())?,
+            prg_byte
+        );
+        assert_eq!(rt;
+            kept_at_10::<DotPicture>(rt.alloc(), uxrom.as_slice())?,
+            prg_byte
+        );
+        let cnrom = file_of(
+            rt.alloc(),
+            HEADER_CNROM,
+            0x8000,
+            &[
+                (0x0000, &SWITCHES_CHR),
+                (0x3FF0, &[there]),
+                (0x3FFC, &[0x00, 0x80]),
+                (0x4000, &[0x21]),
+                (0x6000, &[0x42]),
+            ],
+        )?;
+        assert_eq!(rt;
+            kept_at_10::<CatchUp>(rt.alloc(), cnrom.as_slice())?,
+            chr_byte
+        );
+        assert_eq!(rt;
+            kept_at_10::<DotPicture>(rt.alloc(), cnrom.as_slice())?,
+            chr_byte
+        );
     }
     Ok(())
 }

@@ -3,9 +3,3 @@ use Rattle.nj_machine.proofs.tests.units_of_a_jam_and_a_call.Given as goal
 
 abbrev pub ghosts-frame_seen : goal.ghosts-frame_seen
 ghosts-frame_seen g a = record { name = a.blank.name; parts = a.blank.parts }
-
-abbrev pub ghosts-frame_seen-2 : goal.ghosts-frame_seen-2
-ghosts-frame_seen-2 g a = record { name = a.blank.name; parts = a.blank.parts }
-
-abbrev pub ghosts-frame_seen-3 : goal.ghosts-frame_seen-3
-ghosts-frame_seen-3 g a = record { name = a.blank.name; parts = a.blank.parts }
