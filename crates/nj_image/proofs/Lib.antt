@@ -1,0 +1,12 @@
+mod Compare
+mod Flags
+mod Sizes
+mod Every
+mod Fill
+mod Steps
+mod Damage
+mod Packed
+mod Bits
+mod Forms
+mod Unpacked
+mod Tells

@@ -1,0 +1,31 @@
+-- A packing tells its image.
+use Rattle.std.proofs.Common.{◌≡◌, ℕ, ◌∷◌, Bool, true, false, List, length, refl, sym, ap, ◌∙◌}
+use Rattle.nj_image.specs.Pages.{IsImageSize, pages, page_count, flags_of, flags_in, mask_of}
+use Rattle.nj_image.specs.Packing.{flagged, all_of, packing, IsPacking}
+use Rattle.nj_image.specs.Filling.{merged}
+use Rattle.nj_image.proofs.Packed.{packing-all, packing-some, mask-flags, count-mask}
+use Rattle.nj_image.proofs.Forms.{image-reads}
+use Rattle.nj_image.proofs.Unpacked.{same-parts}
+
+tail : {a b : ℕ} {xs ys : List ℕ} → ◌≡◌ {A = List ℕ} (a ∷ xs) (b ∷ ys) → xs ≡ ys
+tail e = cc
+
+pub one-image : (image other base : List ℕ) → IsImageSize base → length image ≡ length base → length other ≡ length base → packing image base ≡ packing other base → image ≡ other
+one-image image other base size first second same = go (all_of (flags_of image base)) refl (all_of (flags_of other base)) refl
+  where
+    go : (a : Bool) → all_of (flags_of image base) ≡ a → (b : Bool) → all_of (flags_of other base) ≡ b → image ≡ other
+    go true e true f = tail (sym (packing-all image base e) ∙ (same ∙ packing-all other base f))
+    go true e false f = cc (sym (packing-all image base e) ∙ (same ∙ packing-some other base f))
+    go false e true f = cc (sym (packing-some image base e) ∙ (same ∙ packing-all other base f))
+    go false e false f =
+        let parts = same-parts (mask_of image base) (flagged (flags_of image base) (pages image)) (mask_of other base) (flagged (flags_of other base) (pages other))
+        (count-mask image base ∙ sym (count-mask other base)) (tail (sym (packing-some image base e) ∙ (same ∙ packing-some other base f))) in
+        let flags : flags_of image base ≡ flags_of other base =
+        sym (mask-flags image base size first) ∙ (ap (flags_in (page_count base)) parts.0 ∙ mask-flags other base size second) in
+        sym (image-reads image base size first).1
+        ∙ (ap (λ fs. merged fs (pages base) (flagged (flags_of image base) (pages image))) flags
+        ∙ (ap (merged (flags_of other base) (pages base)) parts.1 ∙ (image-reads other base size second).1))
+
+pub packed-is : (image base : List ℕ) → length image ≡ length base → IsPacking base (packing image base)
+unfolding IsPacking
+packed-is image base same = (image, (same, refl))
