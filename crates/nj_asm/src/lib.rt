@@ -21,4 +21,3 @@ pub use listing::list;
 pub use nj_asm_lines::{Fault, Line};
 pub use nj_seq::Seq;
 pub use refusals::AsmRefused;
-

@@ -14,4 +14,3 @@ mod words;
 
 pub use source::read_lines;
 pub use syntax::{Cell, Fault, Form, Line, Operand, Statement, Value};
-

@@ -19,10 +19,7 @@ fn a_source_is_listed(rt: HostRuntime) -> Result<(), Fail> {
 #[test]
 fn unofficial_opcodes_are_listed_alone(rt: HostRuntime) -> Result<(), Fail> {
     let text = list(rt.alloc(), &[0xA7, 0x10], 0x8000)?;
-    assert_eq!(rt;
-        text.as_slice(),
-        b"8000 A7 10    LAX $10\n".as_slice()
-    );
+    assert_eq!(rt; text.as_slice(), b"8000 A7 10    LAX $10\n".as_slice());
     assert_eq!(rt;
         assemble(rt.alloc(), b"LAX $10").err(),
         Some(AsmRefused::UnknownOp { line: 1 })

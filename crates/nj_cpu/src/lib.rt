@@ -22,4 +22,3 @@ pub use nj_alu::Flags;
 pub use nj_isa::Bus;
 pub use state::{Cpu, Note, UnitEnd};
 pub use units::{power_on, unit};
-

@@ -4,7 +4,8 @@ ghost use Rattle.std.specs.Prelude.{◌≡◌, ◌+◌, ◌==◌, ℕ, List, Boo
 
 use nj_cpu::{
     Bus, Cpu, Flags, Note, UnitEnd, cycles_are_published, instructions_go_on_behind_themselves,
-    jams_are_those_of_the_table, power_on, pulled_a_is_pushed_a, returns_come_back_behind_calls, unit,
+    jams_are_those_of_the_table, power_on, pulled_a_is_pushed_a, returns_come_back_behind_calls,
+    unit,
 };
 
 /// Answers the n-th access, if it is a read, by the n-th byte of `answers`.

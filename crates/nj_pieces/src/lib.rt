@@ -10,4 +10,3 @@ mod rule;
 mod take;
 
 pub use parts::{Pieces, Taker};
-
