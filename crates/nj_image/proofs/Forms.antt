@@ -110,7 +110,7 @@ form-of base bytes size is = go (all_of (flags_of is.0 base)) refl
         ∙ subst (λ f. merged f (pages base) (flagged f (pages is.0)) ≡ is.0) flags read.1 in
         inl (record {
           rest = is.0;
-          bytes_are = sym is.1.1 ∙ packing-all is.0 base all;
+          bytes_are = sym is.1.1.1 ∙ packing-all is.0 base all;
           none = subst (λ l. stop (replicate (page_count base) true) (pages base) l ≡ None) image none;
         })
     go false some =
@@ -120,6 +120,6 @@ form-of base bytes size is = go (all_of (flags_of is.0 base)) refl
           rest = flagged (flags_of is.0 base) (pages is.0);
           count = count-flags is.0 base same;
           some = some;
-          bytes_are = sym is.1.1 ∙ packing-some is.0 base some;
+          bytes_are = sym is.1.1.1 ∙ packing-some is.0 base some;
           none = (image-reads is.0 base size same).0;
         })

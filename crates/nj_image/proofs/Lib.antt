@@ -4,6 +4,7 @@ mod Sizes
 mod Every
 mod Fill
 mod Steps
+mod Octets
 mod Damage
 mod Packed
 mod Bits

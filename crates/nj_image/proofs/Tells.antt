@@ -1,7 +1,7 @@
 -- A packing tells its image.
 use Rattle.std.proofs.Common.{◌≡◌, ℕ, ◌∷◌, Bool, true, false, List, length, refl, sym, ap, ◌∙◌}
 use Rattle.nj_image.specs.Pages.{IsImageSize, pages, page_count, flags_of, flags_in, mask_of}
-use Rattle.nj_image.specs.Packing.{flagged, all_of, packing, IsPacking}
+use Rattle.nj_image.specs.Packing.{flagged, all_of, packing, AreBytes, IsPacking}
 use Rattle.nj_image.specs.Filling.{merged}
 use Rattle.nj_image.proofs.Packed.{packing-all, packing-some, mask-flags, count-mask}
 use Rattle.nj_image.proofs.Forms.{image-reads}
@@ -26,6 +26,6 @@ one-image image other base size first second same = go (all_of (flags_of image b
         ∙ (ap (λ fs. merged fs (pages base) (flagged (flags_of image base) (pages image))) flags
         ∙ (ap (merged (flags_of other base) (pages base)) parts.1 ∙ (image-reads other base size second).1))
 
-pub packed-is : (image base : List ℕ) → length image ≡ length base → IsPacking base (packing image base)
+pub packed-is : (image base : List ℕ) → length image ≡ length base → AreBytes image → IsPacking base (packing image base)
 unfolding IsPacking
-packed-is image base same = (image, (same, refl))
+packed-is image base same octets = (image, (same, (octets, refl)))

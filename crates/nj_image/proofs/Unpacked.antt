@@ -8,15 +8,21 @@ use Rattle.std.proofs.Math.Seq.{take-append_seam, drop-append_seam, take-add}
 use Rattle.std.specs.Int.{bit_at}
 use Rattle.std.specs.Simd.Lanes.{mask_l}
 use Rattle.nj_image.specs.Pages.{IsImageSize, pages, page_count, mask_bytes, mask_size, flag_in, flags_in}
-use Rattle.nj_image.specs.Packing.{all_of, packing, IsPacking, IsBeginning, IsDamagedAt}
+use Rattle.nj_image.specs.Packing.{AreBytes, all_of, packing, IsPacking, IsBeginning, IsDamagedAt}
 use Rattle.nj_image.specs.Filling.{merged, stop}
 use Rattle.nj_image.proofs.Flags.{count-bytes, byte-at, count-flags_in, flags-back}
 use Rattle.nj_image.proofs.Sizes.{sized, whole}
 use Rattle.nj_image.proofs.Every.{not-every}
+use Rattle.nj_image.proofs.Octets.{byte-pages, merged-bytes, bytes-append, bytes-take, bytes-drop}
 use Rattle.nj_image.proofs.Fill.{count-pages}
 use Rattle.nj_image.proofs.Damage.{filled, stops}
 use Rattle.nj_image.proofs.Bits.{mask-back}
 use Rattle.nj_image.proofs.Forms.{base-whole, whole-packing, mask-packing, WholeForm, MaskForm, form-of}
+
+-- an image that is packed, and that its numbers are bytes
+packed-octets : (base image bytes : List ℕ) → (length image ≡ length base) × (packing image base ≡ bytes) → AreBytes image → IsPacking base bytes
+unfolding IsPacking
+packed-octets base image bytes p octets = (image, (p.0, (octets, p.1)))
 
 -- the beginning of a beginning is one
 begins-less : (base one two : List ℕ) → IsBeginning base (one ++ two) → IsBeginning base one
@@ -43,9 +49,9 @@ damaged-at base bytes at never within begins ends = record { no_packing = never;
             (subst (λ l. IsBeginning base l) (ap (λ k. take k bytes) (sym split) ∙ take-add (at + 1) (n - (at + 1)) bytes) is)))
 
 -- some packing begins with nothing
-nothing-begins : (base : List ℕ) → IsBeginning base []
+nothing-begins : (base : List ℕ) → AreBytes base → IsBeginning base []
 unfolding IsBeginning IsPacking
-nothing-begins base = (packing base base, (base, (refl, refl)))
+nothing-begins base octets = (packing base base, (base, (refl, (octets, refl))))
 
 -- a packing's first byte is 0 or 1
 first-byte : (base : List ℕ) (byte : ℕ) (bytes : List ℕ) → IsImageSize base → IsPacking base (byte ∷ bytes) → byte ≤ 1
@@ -54,18 +60,18 @@ first-byte base byte bytes size is = elim (form-of base (byte ∷ bytes) size is
     zero-one : (a b : ℕ) (xs ys : List ℕ) → ◌≡◌ {A = List ℕ} (a ∷ xs) (b ∷ ys) → b ≤ 1 → a ≤ 1
     zero-one a b xs ys e most = let same : a ≡ b = cc in omega (arith, same, most)
 
-pub empty-damaged : (base bytes : List ℕ) → IsImageSize base → length bytes ≡ 0 → IsDamagedAt base bytes 0
-empty-damaged base [] size none = damaged-at base [] 0 never (omega arith) (nothing-begins base) (inl refl)
+pub empty-damaged : (base bytes : List ℕ) → IsImageSize base → AreBytes base → length bytes ≡ 0 → IsDamagedAt base bytes 0
+empty-damaged base [] size octets none = damaged-at base [] 0 never (omega arith) (nothing-begins base octets) (inl refl)
   where
     never : IsPacking base [] → ⊥
     never is = elim (form-of base [] size is) [ inl form ↦ cc (form.bytes_are) | inr form ↦ cc (form.bytes_are) ]
-empty-damaged base (byte ∷ bytes) size none = absurd (omega (arith, none))
+empty-damaged base (byte ∷ bytes) size octets none = absurd (omega (arith, none))
 
-pub first-damaged : (base bytes : List ℕ) → IsImageSize base → 1 < get_or bytes 0 0 → IsDamagedAt base bytes 0
+pub first-damaged : (base bytes : List ℕ) → IsImageSize base → AreBytes base → 1 < get_or bytes 0 0 → IsDamagedAt base bytes 0
 unfolding IsBeginning
-first-damaged base [] size above = absurd (omega (arith, above))
-first-damaged base (byte ∷ bytes) size above =
-    damaged-at base (byte ∷ bytes) 0 (λ is. absurd (omega (arith, above, first-byte base byte bytes size is))) (omega arith) (nothing-begins base)
+first-damaged base [] size octets above = absurd (omega (arith, above))
+first-damaged base (byte ∷ bytes) size octets above =
+    damaged-at base (byte ∷ bytes) 0 (λ is. absurd (omega (arith, above, first-byte base byte bytes size is))) (omega arith) (nothing-begins base octets)
     (inr (λ is. absurd (omega (arith, above, first-byte base byte is.0 size is.1))))
 
 -- bytes behind a 0 are every page
@@ -78,13 +84,13 @@ whole-none base bytes size is = elim (form-of base (0 ∷ bytes) size is) [ inl 
         tail : {a b : ℕ} {xs ys : List ℕ} → ◌≡◌ {A = List ℕ} (a ∷ xs) (b ∷ ys) → xs ≡ ys
         tail e = cc
 
-pub whole-damaged : (base bytes : List ℕ) (at : ℕ) → IsImageSize base → stop (replicate (page_count base) true) (pages base) bytes ≡ Some at → IsDamagedAt base (0 ∷ bytes) (suc at)
+pub whole-damaged : (base bytes : List ℕ) (at : ℕ) → IsImageSize base → AreBytes base → AreBytes bytes → stop (replicate (page_count base) true) (pages base) bytes ≡ Some at → IsDamagedAt base (0 ∷ bytes) (suc at)
 unfolding IsBeginning IsPacking
-whole-damaged base bytes at size is =
+whole-damaged base bytes at size octets fits is =
     let n = page_count base in
-    let s = stops (replicate n true) (pages base) bytes at (length-replicate {A = Bool} n true ∙ sym (count-pages n base)) (base-whole base size) is in
+    let s = stops (replicate n true) (pages base) bytes at (length-replicate {A = Bool} n true ∙ sym (count-pages n base)) (base-whole base size) (byte-pages n base octets) is in
     damaged-at base (0 ∷ bytes) (suc at) (λ p. cc (whole-none base bytes size p, is)) (omega (arith, s.within))
-    (s.rest, (merged (replicate n true) (pages base) (take at bytes ++ s.rest), whole-packing base (take at bytes ++ s.rest) size s.begins))
+    (s.rest, packed-octets base _ _ (whole-packing base (take at bytes ++ s.rest) size s.begins) (merged-bytes (replicate n true) (pages base) (take at bytes ++ s.rest) (byte-pages n base octets) (bytes-append (take at bytes) s.rest (bytes-take at bytes fits) s.octets)))
     (elim s.ends [
       | inl all ↦ inl (ap suc all)
       | inr never ↦ inr (λ p. let next : suc at + 1 ≡ suc (at + 1) = omega arith in
@@ -182,22 +188,22 @@ zeros-can base ys size few bytes =
     can-mask base mask size long (few-bytes ys (m - length ys) bytes) (subst (λ x. x < 64) (sym zero_last) (omega arith))
     (sym (not-every n (n - 1) mask (omega (arith, (whole base size).some)) none))
 
-mask-begins : (base ys : List ℕ) → IsImageSize base → length ys < mask_size base → ((j : ℕ) → get_or ys j 0 < 256) → IsBeginning base (1 ∷ ys)
+mask-begins : (base ys : List ℕ) → IsImageSize base → AreBytes base → length ys < mask_size base → ((j : ℕ) → get_or ys j 0 < 256) → IsBeginning base (1 ∷ ys)
 unfolding IsBeginning IsPacking
-mask-begins base ys size few bytes =
+mask-begins base ys size octets few bytes =
     let n = page_count base in
     let zeros = replicate (mask_size base - length ys) 0 in
     let mask = ys ++ zeros in
     let can = zeros-can base ys size few bytes in
-    let f = filled (flags_in n mask) (pages base) (count-flags_in n mask ∙ sym (count-pages n base)) (base-whole base size) in
+    let f = filled (flags_in n mask) (pages base) (count-flags_in n mask ∙ sym (count-pages n base)) (base-whole base size) (byte-pages n base octets) in
     let p = masked base mask f.bytes size can f.none in
-    (zeros ++ f.bytes, (merged (flags_in n mask) (pages base) f.bytes, (p.0, p.1 ∙ ap (λ l. 1 ∷ l) (append_assoc ys zeros f.bytes))))
+    (zeros ++ f.bytes, packed-octets base _ _ (p.0, p.1 ∙ ap (λ l. 1 ∷ l) (append_assoc ys zeros f.bytes)) (merged-bytes (flags_in n mask) (pages base) f.bytes (byte-pages n base octets) f.octets))
 
 -- bytes that end within the mask
-pub short-damaged : (base ys : List ℕ) → IsImageSize base → length ys < mask_size base → ((j : ℕ) → get_or ys j 0 < 256) → IsDamagedAt base (1 ∷ ys) (length (1 ∷ ys))
-short-damaged base ys size few bytes =
+pub short-damaged : (base ys : List ℕ) → IsImageSize base → AreBytes base → length ys < mask_size base → ((j : ℕ) → get_or ys j 0 < 256) → IsDamagedAt base (1 ∷ ys) (length (1 ∷ ys))
+short-damaged base ys size octets few bytes =
     damaged-at base (1 ∷ ys) (length (1 ∷ ys)) never (omega arith)
-    (subst (IsBeginning base) (sym (take_all (length (1 ∷ ys)) (1 ∷ ys) (omega arith))) (mask-begins base ys size few bytes)) (inl refl)
+    (subst (IsBeginning base) (sym (take_all (length (1 ∷ ys)) (1 ∷ ys) (omega arith))) (mask-begins base ys size octets few bytes)) (inl refl)
   where
     never : IsPacking base (1 ∷ ys) → ⊥
     never is = elim (form-of base (1 ∷ ys) size is) [
@@ -206,10 +212,10 @@ short-damaged base ys size few bytes =
     ]
 
 -- a mask that flags pages that there are not, or every page
-pub mask-damaged : (base ys : List ℕ) → IsImageSize base → mask_size base ≤ length ys → ((j : ℕ) → get_or ys j 0 < 256) →
+pub mask-damaged : (base ys : List ℕ) → IsImageSize base → AreBytes base → mask_size base ≤ length ys → ((j : ℕ) → get_or ys j 0 < 256) →
     (64 ≤ get_or (take (mask_size base) ys) (mask_size base - 1) 0) ⊎ (all_of (flags_in (page_count base) (take (mask_size base) ys)) ≡ true) → IsDamagedAt base (1 ∷ ys) (mask_size base)
 unfolding IsBeginning
-mask-damaged base ys size long bytes bad =
+mask-damaged base ys size octets long bytes bad =
     let m = mask_size base in
     let s = sized base size in
     let q = s.1.0 in
@@ -219,7 +225,7 @@ mask-damaged base ys size long bytes bad =
     let next : take (m + 1) (1 ∷ ys) ≡ 1 ∷ mask = ap (λ k. take k (1 ∷ ys)) (one-more m) in
     damaged-at base (1 ∷ ys) m
     (λ is. never (mask-of base mask (drop m ys) size wide (subst (λ l. IsPacking base (1 ∷ l)) (sym (take-append-drop m ys)) is))) (omega (arith, long))
-    (subst (IsBeginning base) (sym part) (mask-begins base (take q ys) size (omega (arith, length-take {A = ℕ} q ys, s.1.1.mask)) (taken q ys bytes)))
+    (subst (IsBeginning base) (sym part) (mask-begins base (take q ys) size octets (omega (arith, length-take {A = ℕ} q ys, s.1.1.mask)) (taken q ys bytes)))
     (inr (λ is. never (mask-of base mask is.0 size wide (subst (λ l. IsPacking base (l ++ is.0)) next is.1))))
   where
     one-more : (k : ℕ) → k + 1 ≡ suc k
@@ -241,17 +247,20 @@ mask-damaged base ys size long bytes bad =
     taken (suc q) (y ∷ ys) bytes (suc j) = taken q ys (λ i. bytes (suc i)) j
 
 -- pages behind a mask
-pub pages-damaged : (base mask rest : List ℕ) (at : ℕ) → IsImageSize base → CanMask base mask → stop (flags_in (page_count base) mask) (pages base) rest ≡ Some at →
+pub pages-damaged : (base mask rest : List ℕ) (at : ℕ) → IsImageSize base → AreBytes base → AreBytes rest → CanMask base mask → stop (flags_in (page_count base) mask) (pages base) rest ≡ Some at →
     IsDamagedAt base (1 ∷ (mask ++ rest)) (suc (length mask + at))
 unfolding IsBeginning IsPacking
-pages-damaged base mask rest at size can is =
+pages-damaged base mask rest at size octets fits can is =
     let n = page_count base in
     let flags = flags_in n mask in
-    let s = stops flags (pages base) rest at (count-flags_in n mask ∙ sym (count-pages n base)) (base-whole base size) is in
+    let s = stops flags (pages base) rest at (count-flags_in n mask ∙ sym (count-pages n base)) (base-whole base size) (byte-pages n base octets) is in
     let p = masked base mask (take at rest ++ s.rest) size can s.begins in
     damaged-at base (1 ∷ (mask ++ rest)) (suc (length mask + at)) (λ q. cc ((mask-of base mask rest size can.size q).none, is))
-    (omega (arith, s.within, length-append mask rest))
-    (s.rest, (merged flags (pages base) (take at rest ++ s.rest), (p.0, p.1 ∙ ap (λ l. 1 ∷ l) (sym (append_assoc mask (take at rest) s.rest) ∙ ap (λ l. l ++ s.rest) (sym (behind at))))))
+    (omega (arith, s.within, length-append mask rest)) (
+      s.rest,
+      packed-octets base _ _ (p.0, p.1 ∙ ap (λ l. 1 ∷ l) (sym (append_assoc mask (take at rest) s.rest) ∙ ap (λ l. l ++ s.rest) (sym (behind at))))
+          (merged-bytes flags (pages base) (take at rest ++ s.rest) (byte-pages n base octets) (bytes-append (take at rest) s.rest (bytes-take at rest fits) s.octets)),
+    )
     (elim s.ends [
       | inl all ↦ inl (omega (arith, all, length-append mask rest))
       | inr never ↦ inr (λ q. let next : suc (length mask + at) + 1 ≡ suc (length mask + (at + 1)) = omega arith in
@@ -272,27 +281,27 @@ whole-ok base (byte ∷ ys) into flags size some first all read =
     let p = whole-packing base ys size none in
     (ap length image ∙ p.0, ap (λ i. packing i base) image ∙ (p.1 ∙ ap (λ b. b ∷ ys) (sym first)))
 
-pub whole-bad : (base bytes : List ℕ) (flags : List Bool) (at : ℕ) → IsImageSize base → 0 < length bytes → get_or bytes 0 0 ≡ 0 → flags ≡ replicate (page_count base) true →
+pub whole-bad : (base bytes : List ℕ) (flags : List Bool) (at : ℕ) → IsImageSize base → AreBytes base → AreBytes bytes → 0 < length bytes → get_or bytes 0 0 ≡ 0 → flags ≡ replicate (page_count base) true →
     (stop flags (pages base) (drop 1 bytes) ≡ Some (at - 1)) × (1 ≤ at) → IsDamagedAt base bytes at
-whole-bad base [] flags at size some first all read = absurd (omega (arith, some))
-whole-bad base (byte ∷ ys) flags at size some first all read =
+whole-bad base [] flags at size octets fits some first all read = absurd (omega (arith, some))
+whole-bad base (byte ∷ ys) flags at size octets fits some first all read =
     let back : suc (at - 1) ≡ at = omega (arith, read.1) in
     subst (λ k. IsDamagedAt base (byte ∷ ys) k) back
-    (subst (λ b. IsDamagedAt base (b ∷ ys) (suc (at - 1))) (sym first) (whole-damaged base ys (at - 1) size (ap (λ f. stop f (pages base) ys) (sym all) ∙ read.0)))
+    (subst (λ b. IsDamagedAt base (b ∷ ys) (suc (at - 1))) (sym first) (whole-damaged base ys (at - 1) size octets fits.1 (ap (λ f. stop f (pages base) ys) (sym all) ∙ read.0)))
 
 -- behind a mask
-pub short-ends : (base bytes : List ℕ) → IsImageSize base → 0 < length bytes → get_or bytes 0 0 ≡ 1 → length bytes ≤ mask_size base → ((j : ℕ) → get_or bytes j 0 < 256) →
+pub short-ends : (base bytes : List ℕ) → IsImageSize base → AreBytes base → 0 < length bytes → get_or bytes 0 0 ≡ 1 → length bytes ≤ mask_size base → ((j : ℕ) → get_or bytes j 0 < 256) →
     IsDamagedAt base bytes (length bytes)
-short-ends base [] size some one few fits = absurd (omega (arith, some))
-short-ends base (byte ∷ ys) size some one few fits =
-    subst (λ b. IsDamagedAt base (b ∷ ys) (length (b ∷ ys))) (sym one) (short-damaged base ys size (omega (arith, few)) (λ j. fits (suc j)))
+short-ends base [] size octets some one few fits = absurd (omega (arith, some))
+short-ends base (byte ∷ ys) size octets some one few fits =
+    subst (λ b. IsDamagedAt base (b ∷ ys) (length (b ∷ ys))) (sym one) (short-damaged base ys size octets (omega (arith, few)) (λ j. fits (suc j)))
 
-pub mask-ends : (base bytes : List ℕ) → IsImageSize base → get_or bytes 0 0 ≡ 1 → mask_size base < length bytes → ((j : ℕ) → get_or bytes j 0 < 256) →
+pub mask-ends : (base bytes : List ℕ) → IsImageSize base → AreBytes base → get_or bytes 0 0 ≡ 1 → mask_size base < length bytes → ((j : ℕ) → get_or bytes j 0 < 256) →
     (64 ≤ get_or (take (mask_size base) (drop 1 bytes)) (mask_size base - 1) 0) ⊎ (all_of (flags_in (page_count base) (take (mask_size base) (drop 1 bytes))) ≡ true) →
     IsDamagedAt base bytes (mask_size base)
-mask-ends base [] size one long fits bad = absurd (omega (arith, long))
-mask-ends base (byte ∷ ys) size one long fits bad =
-    subst (λ b. IsDamagedAt base (b ∷ ys) (mask_size base)) (sym one) (mask-damaged base ys size (omega (arith, long)) (λ j. fits (suc j)) bad)
+mask-ends base [] size octets one long fits bad = absurd (omega (arith, long))
+mask-ends base (byte ∷ ys) size octets one long fits bad =
+    subst (λ b. IsDamagedAt base (b ∷ ys) (mask_size base)) (sym one) (mask-damaged base ys size octets (omega (arith, long)) (λ j. fits (suc j)) bad)
 
 tail-fits : (k : ℕ) (ys : List ℕ) → ((j : ℕ) → get_or ys j 0 < 256) → (j : ℕ) → get_or (take k ys) j 0 < 256
 tail-fits zero ys fits j = omega arith
@@ -323,15 +332,15 @@ pages-ok base (byte ∷ ys) into size one long can read =
     let image : into ≡ merged flags (pages base) (drop m ys) = read.1 ∙ ap (merged flags (pages base)) (drop-behind m byte ys) in
     (ap length image ∙ p.0, ap (λ i. packing i base) image ∙ (p.1 ∙ (ap (λ l. 1 ∷ l) (take-append-drop m ys) ∙ ap (λ b. b ∷ ys) (sym one))))
 
-pub pages-bad : (base bytes : List ℕ) (at : ℕ) → IsImageSize base → get_or bytes 0 0 ≡ 1 → mask_size base < length bytes → CanMask base (take (mask_size base) (drop 1 bytes)) →
+pub pages-bad : (base bytes : List ℕ) (at : ℕ) → IsImageSize base → AreBytes base → AreBytes bytes → get_or bytes 0 0 ≡ 1 → mask_size base < length bytes → CanMask base (take (mask_size base) (drop 1 bytes)) →
     (stop (flags_in (page_count base) (take (mask_size base) (drop 1 bytes))) (pages base) (drop (1 + mask_size base) bytes) ≡ Some (at - (1 + mask_size base))) × (1 + mask_size base ≤ at) →
     IsDamagedAt base bytes at
-pages-bad base [] at size one long can read = absurd (omega (arith, long))
-pages-bad base (byte ∷ ys) at size one long can read =
+pages-bad base [] at size octets fits one long can read = absurd (omega (arith, long))
+pages-bad base (byte ∷ ys) at size octets fits one long can read =
     let m = mask_size base in
     let flags = flags_in (page_count base) (take m ys) in
     let back : suc (length (take m ys) + (at - (1 + m))) ≡ at = omega (arith, read.1, can.size) in
-    let damaged = pages-damaged base (take m ys) (drop m ys) (at - (1 + m)) size can (ap (stop flags (pages base)) (sym (drop-behind m byte ys)) ∙ read.0) in
+    let damaged = pages-damaged base (take m ys) (drop m ys) (at - (1 + m)) size octets (bytes-drop m ys fits.1) can (ap (stop flags (pages base)) (sym (drop-behind m byte ys)) ∙ read.0) in
     subst (λ k. IsDamagedAt base (byte ∷ ys) k) back
     (subst (λ b. IsDamagedAt base (b ∷ ys) (suc (length (take m ys) + (at - (1 + m))))) (sym one)
     (subst (λ l. IsDamagedAt base (1 ∷ l) (suc (length (take m ys) + (at - (1 + m))))) (take-append-drop m ys) damaged))

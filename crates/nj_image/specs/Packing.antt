@@ -1,5 +1,5 @@
 -- The packing of an image over a base: what of it differs (this project's own).
-use Rattle.std.specs.Prelude.{◌≡◌, ◌≤◌, ℕ, Bool, if◌then◌else◌, List, [], ◌∷◌, ◌++◌, length, take}
+use Rattle.std.specs.Prelude.{◌≡◌, ◌<◌, ◌≤◌, ℕ, Bool, if◌then◌else◌, List, [], ◌∷◌, ◌++◌, length, take}
 use Rattle.std.specs.List.{list_all}
 use Rattle.nj_image.specs.Pages.{pages, flags_of, mask_of}
 
@@ -19,9 +19,14 @@ packing image base =
     if all_of (flags_of image base) then 0 ∷ image
     else 1 ∷ (mask_of image base ++ flagged (flags_of image base) (pages image))
 
+-- numbers that are bytes
+abbrev pub AreBytes : List ℕ → Type 0
+AreBytes [] = Unit {0}
+AreBytes (byte ∷ bytes) = (byte < 256) × AreBytes bytes
+
 -- bytes are the packing of some image over a base
 unfoldable pub IsPacking : List ℕ → List ℕ → Type 0
-IsPacking base bytes = (image : List ℕ) × ((length image ≡ length base) × (packing image base ≡ bytes))
+IsPacking base bytes = (image : List ℕ) × ((length image ≡ length base) × (AreBytes image × (packing image base ≡ bytes)))
 
 -- bytes with which some packing begins
 unfoldable pub IsBeginning : List ℕ → List ℕ → Type 0
