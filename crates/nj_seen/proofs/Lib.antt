@@ -1,3 +1,16 @@
 pub mod Keys
 pub mod Firsts
-pub mod Chosens
+pub mod Shuffling
+pub mod Told
+pub mod Added
+pub mod Leaving
+pub mod Members
+pub mod Steps
+pub mod Slots
+pub mod Emptying
+pub mod Keeping
+pub mod Published
+pub mod Oldest
+pub mod Counting
+pub mod Claims
+pub mod Newest
