@@ -1,6 +1,7 @@
 pub mod Keys
 pub mod Firsts
 pub mod Shuffling
+pub mod Chosen
 pub mod Told
 pub mod Added
 pub mod Leaving

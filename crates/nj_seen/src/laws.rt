@@ -1,14 +1,17 @@
 //! Laws on the seen keys in a claim table. The functions do nothing: their contracts are the laws.
-ghost use Rattle.std.specs.Prelude.{◌≡◌, ◌≢◌, ℕ, ◌+◌, ◌<◌, ◌≤◌, ◌==◌, List, [], ◌∷◌, ◌++◌, length, map, Some, None, option_map, if◌then◌else◌};
+ghost use Rattle.std.specs.Prelude.{◌≡◌, ◌≢◌, ℕ, ◌+◌, ◌<◌, ◌≤◌, ◌==◌, List, [], ◌∷◌, ◌++◌, length, map, filter, true, Some, None, option_map, if◌then◌else◌};
 ghost use Rattle.std.specs.List.{All, AllPairs, Contains, list_any};
 ghost use Rattle.std.specs.List.Sorted.{IsPermutation};
 ghost use Rattle.nj_search_defs.specs.Pruning.{Seen, key_count};
+ghost use Rattle.nj_search_defs.specs.Order.{in_order};
 ghost use Rattle.nj_rows.specs.declared.Row.{Row};
+ghost use Rattle.nj_rows.specs.Order.{is_win_row, is_row_before};
 ghost use Rattle.nj_claims.specs.Tables.{IsTable, entries_in, owner_in, owner_after, slot_count};
 ghost use Rattle.nj_claims.specs.Passes.{HadNoRoom};
-ghost use Rattle.nj_seen.specs.Rows.{IsRising, is_fresh_row, fresh_rows, generation_rows};
+ghost use Rattle.nj_seen.specs.Rows.{IsRising, winner_row, is_fresh_row, fresh_rows, generation_rows};
 ghost use Rattle.nj_seen.specs.Held.{HoldsSeen, AreClaims, claim_of, first_claim, is_owned, keys_in_rows, oldest_step, published, seen_in};
 
+use nj_rows::any_order_is_one;
 use nj_claims::{different_numbers_fit, entries_are_the_map};
 
 /// A table that holds the seen keys of a search has as many entries as there are keys, and its
@@ -82,3 +85,15 @@ pub fn added_keys_are_seen()
         → ((key : ℕ) → owner_in after key ≡ (if list_any (λ k. k == key) (keys_in_rows (fresh_rows seen rows)) then Some (step + 1) else owner_in before key))
         → HoldsSeen after (seen ++ generation_rows (fresh_rows seen rows) ∷ []) (step + 1) }
 {}
+
+/// Some of the rows of a step, in any order, tell its winner where they have all that win; and those that own their keys are
+/// in order the fresh rows, where they have all of these.
+pub fn rows_in_any_order()
+    ensures winner { (some rows : List Row) → AllPairs (λ a b. a.number ≢ b.number) some → IsRising rows → All (Contains rows) some
+        → All (λ row. is_win_row row ≡ true → Contains some row) rows → winner_row some ≡ winner_row rows }
+    ensures fresh { (some rows : List Row) (words : List ℕ) (seen : Seen) → AllPairs (λ a b. a.number ≢ b.number) some → IsRising rows → All (Contains rows) some
+        → All (λ row. is_owned words row ≡ is_fresh_row seen rows row) rows → All (λ row. is_fresh_row seen rows row ≡ true → Contains some row) rows
+        → in_order is_row_before (filter (is_owned words) some) ≡ in_order is_row_before (fresh_rows seen rows) }
+{
+    any_order_is_one();
+}

@@ -20,7 +20,8 @@ pub use adding::{add_keys, keys_of, unseen};
 pub use forgetting::{SeenKeys, left, room};
 pub use laws::{
     added_keys_are_seen, claims_are_of_rows, fresh_keys_are_new, fresh_keys_are_seen,
-    one_key_is_seen, owned_is_fresh, room_is_enough, seen_is_told, seen_keys_stand,
+    one_key_is_seen, owned_is_fresh, room_is_enough, rows_in_any_order, seen_is_told,
+    seen_keys_stand,
 };
 pub use nj_rows::{Row, Verdict3};
 pub use publishing::{FIRST_CLAIM, fresh, owned, publish};
