@@ -1,6 +1,7 @@
 -- The end of a step: what is decided of the rows is what the search decides of its candidates.
-use Rattle.std.proofs.Common.{◌≡◌, ℕ, ◌+◌, ◌*◌, ◌<◌, ◌≤◌, List, [], ◌∷◌, ◌++◌, length, map, drop, take, refl, ap, ap₂, sym, subst, ◌∙◌, arith}
+use Rattle.std.proofs.Common.{◌≡◌, ℕ, ◌+◌, ◌*◌, ◌<◌, ◌≤◌, List, [], ◌∷◌, ◌++◌, length, map, drop, take, refl, ap, ap₂, sym, subst, ◌∙◌, arith, true, false, ◌==◌, eq-eqb}
 use Rattle.std.specs.Prelude.{Option, Some, None, option_map, filter, slice_get}
+use Rattle.std.proofs.lemmas.Bool.{eqb-true, both_ways}
 use Rattle.std.proofs.lemmas.List.{length-map, length-take}
 use Rattle.nj_search_defs.specs.Candidates.{Candidate}
 use Rattle.nj_search_defs.specs.Order.{in_order}
@@ -136,10 +137,16 @@ pub kept_found : (h : Held) (most : ℕ) (fresh kept : List Row) → most ≡ h.
 unfolding kept_rows
 kept_found h most fresh kept same order is = is ∙ ap₂ take same order
 
--- where none is kept, none is to be kept
-pub none_found : (rows : List Row) → length rows ≡ 0 → rows ≡ []
-none_found [] e = refl
-none_found (row ∷ rows) e = absurd (omega arith)
+-- rows of which there are none, and of which there are some
+pub none_found : (rows : List Row) (n : ℕ) → n ≡ length rows → (n == 0) ≡ true → rows ≡ []
+none_found rows n is e = none rows (sym is ∙ eqb-true n 0 e) where
+  none : (rows : List Row) → length rows ≡ 0 → rows ≡ []
+  none [] e = refl
+  none (row ∷ rows) e = absurd (omega arith)
+
+pub some_found : (rows : List Row) (n : ℕ) → n ≡ length rows → (n == 0) ≡ false → 0 < length rows
+some_found [] n is e = absurd (both_ways (n == 0) e (eq-eqb n 0 is))
+some_found (row ∷ rows) n is e = omega arith
 
 -- the frames that were run again, as a bound of the search
 pub frames_held : (h now : Held) (kept rows : List Row) (steps old : ℕ) → h ≡ now → AreFew now → Prefers → IsKeptOf now kept → rows ≡ kept
