@@ -10,7 +10,7 @@ use Rattle.nj_expand.specs.Held.{Held, candidates_in, kept_in}
 use Rattle.nj_expand.proofs.Words.{told_allowed}
 use Rattle.nj_expand.proofs.Ends.{kept_few}
 
-length-extensions : (number : ℕ) (word : Word) (pads : List ℕ) → length (extensions number word pads) ≡ length pads
+pub length-extensions : (number : ℕ) (word : Word) (pads : List ℕ) → length (extensions number word pads) ≡ length pads
 length-extensions number word [] = refl
 length-extensions number word (pad ∷ pads) = ap suc (length-extensions (number + 1) word pads)
 

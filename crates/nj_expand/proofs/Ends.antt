@@ -1,20 +1,21 @@
 -- The end of a step: what is decided of the rows is what the search decides of its candidates.
-use Rattle.std.proofs.Common.{◌≡◌, ℕ, ◌+◌, ◌*◌, ◌<◌, ◌≤◌, List, [], ◌∷◌, ◌++◌, length, map, drop, take, refl, ap, ap₂, sym, subst, ◌∙◌, arith}
-use Rattle.std.specs.Prelude.{Option, Some, None, option_map}
+use Rattle.std.proofs.Common.{◌≡◌, ℕ, ◌+◌, ◌*◌, ◌<◌, ◌≤◌, List, [], ◌∷◌, ◌++◌, length, map, drop, take, refl, ap, ap₂, sym, subst, ◌∙◌, arith, true, false, ◌==◌, eq-eqb}
+use Rattle.std.specs.Prelude.{Option, Some, None, option_map, filter, slice_get}
+use Rattle.std.proofs.lemmas.Bool.{eqb-true, both_ways}
 use Rattle.std.proofs.lemmas.List.{length-map, length-take}
 use Rattle.nj_search_defs.specs.Candidates.{Candidate}
 use Rattle.nj_search_defs.specs.Order.{in_order}
-use Rattle.nj_search_defs.specs.Pruning.{Seen, is_before, winner, forgotten, fresh, kept, generation}
+use Rattle.nj_search_defs.specs.Pruning.{is_before, winner, fresh, kept, generation}
 use Rattle.nj_search_defs.specs.Outcome.{State, Next, won_or, exhausted_or, lives_of, seen_of, fresh_of, kept_of, state_after, next}
 use Rattle.nj_game.specs.Words.{game_of}
 use Rattle.nj_rows.specs.declared.Row.{Row}
+use Rattle.nj_rows.specs.Order.{is_win_row, is_row_before}
 use Rattle.nj_seen.specs.Rows.{IsRising, winner_row, fresh_rows, kept_rows, generation_rows}
 use Rattle.nj_expand.specs.declared.Stepped.TheVariants.{Won, Exhausted, Go}
 use Rattle.nj_expand.specs.Rows.{row_of}
 use Rattle.nj_expand.specs.Held.{Held, live_rows, kept_in, next_in}
 use Rattle.nj_expand.specs.Step.{IsStepBy, IsStep}
-use Rattle.nj_expand.specs.Ending.{room_of, IsKeptOf, AreFew}
-use Rattle.nj_seen.specs.declared.choice.Chosen.{Chosen}
+use Rattle.nj_expand.specs.Ending.{AreFew, fresh_rows_in, IsKeptOf}
 use Rattle.nj_expand.proofs.Rising.{AreRising, lives_rise, filter_rises, rows_rise, kept_are_placed}
 use Rattle.nj_expand.proofs.Nexts.{AreKept}
 use Rattle.nj_expand.proofs.Lifts.{Prefers, winner-map, fresh-map, kept-map, generation-map}
@@ -36,14 +37,14 @@ winner_in held few law =
     winner-map (game_of held.plan) law (lives_of (game_of held.plan) held.state) (lives_rise (game_of held.plan) held.state few)
 
 -- the fresh rows are the rows of the fresh
-fresh_in : (held : Held) → fresh_rows (forgotten held.bounds.slots (room_of held) held.state.seen) (live_rows held)
+fresh_in : (held : Held) → fresh_rows (seen_of held.bounds held.state) (live_rows held)
     ≡ map (row_of (game_of held.plan)) (fresh_of (game_of held.plan) held.bounds held.state)
-unfolding live_rows fresh_of seen_of
+unfolding live_rows fresh_of
 fresh_in held =
-    fresh-map (game_of held.plan) (forgotten held.bounds.slots (room_of held) held.state.seen) (lives_of (game_of held.plan) held.state)
+    fresh-map (game_of held.plan) (seen_of held.bounds held.state) (lives_of (game_of held.plan) held.state)
 
 -- the kept rows are the rows of the kept
-pub kept_rows_in : (held : Held) → AreFew held → Prefers → kept_rows held.bounds.most (fresh_rows (forgotten held.bounds.slots (room_of held) held.state.seen) (live_rows held))
+pub kept_rows_in : (held : Held) → AreFew held → Prefers → kept_rows held.bounds.most (fresh_rows (seen_of held.bounds held.state) (live_rows held))
     ≡ map (row_of (game_of held.plan)) (kept_in held)
 unfolding kept_in kept_of
 kept_rows_in held few law =
@@ -51,7 +52,7 @@ kept_rows_in held few law =
     ∙ kept-map (game_of held.plan) law held.bounds.most (fresh_of (game_of held.plan) held.bounds held.state) (fresh_rise held few)
 
 -- the rows' new generation is the candidates'
-pub generation_in : (held : Held) → generation_rows (fresh_rows (forgotten held.bounds.slots (room_of held) held.state.seen) (live_rows held))
+pub generation_in : (held : Held) → generation_rows (fresh_rows (seen_of held.bounds held.state) (live_rows held))
     ≡ generation (game_of held.plan) (fresh_of (game_of held.plan) held.bounds held.state)
 generation_in held =
     ap generation_rows (fresh_in held) ∙ generation-map (game_of held.plan) (fresh_of (game_of held.plan) held.bounds held.state)
@@ -76,7 +77,7 @@ exhausted_by held goes None [] e f = refl
 exhausted_by held goes None (k ∷ ks) e f = absurd (cc)
 
 pub exhausted_step : (held : Held) → AreFew held → Prefers → winner_row (live_rows held) ≡ None
-    → kept_rows held.bounds.most (fresh_rows (forgotten held.bounds.slots (room_of held) held.state.seen) (live_rows held)) ≡ [] → IsStep held Exhausted held
+    → kept_rows held.bounds.most (fresh_rows (seen_of held.bounds held.state) (live_rows held)) ≡ [] → IsStep held Exhausted held
 unfolding IsStep next_in next kept_in
 exhausted_step held few law e f =
     let game = game_of held.plan in
@@ -113,7 +114,7 @@ kept_few h = take_most h.bounds.most (in_order (is_before (game_of h.plan)) (fre
 
 -- the kept of a search are candidates of its front, no more than its bound
 pub are_kept : (h : Held) (rows : List Row) → AreFew h → Prefers
-    → rows ≡ kept_rows h.bounds.most (fresh_rows (forgotten h.bounds.slots (room_of h) h.state.seen) (live_rows h)) → AreKept h.plan h.bounds.most h.state.front (kept_in h) rows
+    → rows ≡ kept_rows h.bounds.most (fresh_rows (seen_of h.bounds h.state) (live_rows h)) → AreKept h.plan h.bounds.most h.state.front (kept_in h) rows
 unfolding kept_in
 are_kept h rows few law is = record {
   placed = kept_are_placed (game_of h.plan) h.bounds h.state few;
@@ -121,14 +122,35 @@ are_kept h rows few law is = record {
   few = kept_few h;
 }
 
--- the frames that were run again, as a bound of the search
-pub frames_held : (h now : Held) (chosen : Chosen) (rows : List Row) (steps old : ℕ) → h ≡ now → AreFew now → Prefers → IsKeptOf now chosen → rows ≡ chosen.kept.items
-    → steps ≤ old + h.plan.script.hold * length rows → steps ≤ old + now.plan.script.hold * length (kept_in now)
-frames_held h now chosen rows steps old same few law kept are ran =
-    let count : length rows ≡ length (kept_in now) = kept_count now rows (are ∙ kept.kept ∙ kept_rows_in now few law) in
-    subst (λ n. steps ≤ old + now.plan.script.hold * n) count (subst (λ (x : Held). steps ≤ old + x.plan.script.hold * length rows) same ran)
 
--- the keys that are seen after the step
-pub seen_next : (h : Held) (chosen : Chosen) (seen : Seen) → IsKeptOf h chosen → seen ≡ drop chosen.gone h.state.seen ++ chosen.generation.items ∷ []
-    → seen ≡ forgotten h.bounds.slots (room_of h) h.state.seen ++ generation (game_of h.plan) (fresh_of (game_of h.plan) h.bounds h.state) ∷ []
-seen_next h chosen seen kept is = is ∙ ap₂ (λ xs k. xs ++ k ∷ []) kept.gone (kept.generation ∙ generation_in h)
+-- ---- what is found of the rows
+
+-- the winner among rows that tell it
+pub winner_found : (h : Held) (rows : List Row) (found : Option Row) → winner_row rows ≡ winner_row (live_rows h) → found ≡ slice_get (in_order is_row_before (filter is_win_row rows)) 0
+    → winner_row (live_rows h) ≡ found
+unfolding winner_row
+winner_found h rows found same is = sym same ∙ sym is
+
+-- the rows that are kept of those that are fresh in some order
+pub kept_found : (h : Held) (most : ℕ) (fresh kept : List Row) → most ≡ h.bounds.most → in_order is_row_before fresh ≡ in_order is_row_before (fresh_rows_in h)
+    → kept ≡ take most (in_order is_row_before fresh) → kept ≡ kept_rows h.bounds.most (fresh_rows_in h)
+unfolding kept_rows
+kept_found h most fresh kept same order is = is ∙ ap₂ take same order
+
+-- rows of which there are none, and of which there are some
+pub none_found : (rows : List Row) (n : ℕ) → n ≡ length rows → (n == 0) ≡ true → rows ≡ []
+none_found rows n is e = none rows (sym is ∙ eqb-true n 0 e) where
+  none : (rows : List Row) → length rows ≡ 0 → rows ≡ []
+  none [] e = refl
+  none (row ∷ rows) e = absurd (omega arith)
+
+pub some_found : (rows : List Row) (n : ℕ) → n ≡ length rows → (n == 0) ≡ false → 0 < length rows
+some_found [] n is e = absurd (both_ways (n == 0) e (eq-eqb n 0 is))
+some_found (row ∷ rows) n is e = omega arith
+
+-- the frames that were run again, as a bound of the search
+pub frames_held : (h now : Held) (kept rows : List Row) (steps old : ℕ) → h ≡ now → AreFew now → Prefers → IsKeptOf now kept → rows ≡ kept
+    → steps ≤ old + h.plan.script.hold * length rows → steps ≤ old + now.plan.script.hold * length (kept_in now)
+frames_held h now kept rows steps old same few law is are ran =
+    let count : length rows ≡ length (kept_in now) = kept_count now rows (are ∙ is.kept ∙ kept_rows_in now few law) in
+    subst (λ n. steps ≤ old + now.plan.script.hold * n) count (subst (λ (x : Held). steps ≤ old + x.plan.script.hold * length rows) same ran)

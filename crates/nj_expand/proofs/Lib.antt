@@ -7,3 +7,6 @@ pub mod Agains
 pub mod Ends
 pub mod Nexts
 pub mod Counts
+pub mod Fronts
+pub mod Runs
+pub mod Filed

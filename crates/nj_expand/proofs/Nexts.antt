@@ -6,7 +6,7 @@ use Rattle.std.proofs.lemmas.List.{get_or-map, length-map}
 use Rattle.std.proofs.lemmas.List.Elements.{All-head, All-tail, All-weaker, All-map}
 use Rattle.nj_search_defs.specs.Game.{Word, Game}
 use Rattle.nj_search_defs.specs.Candidates.{Candidate, word_of}
-use Rattle.nj_search_defs.specs.Pruning.{Mark, forgotten, generation, top_level, raised}
+use Rattle.nj_search_defs.specs.Pruning.{Mark, generation, top_level, raised}
 use Rattle.nj_search_defs.specs.Outcome.{State as Between, seen_of, fresh_of, state_after}
 use Rattle.nj_ines.specs.Cartridge.{IsCartridge}
 use Rattle.nj_machine.specs.State.{State, rom_of, power_on, ram_of, is_jammed}
@@ -22,7 +22,7 @@ use Rattle.nj_expand.specs.Rows.{row_of, judged_at}
 use Rattle.nj_expand.specs.Held.{Held, kept_in}
 use Rattle.nj_expand.specs.Front.{rom_in, size_in, image_at, IsFront}
 use Rattle.nj_expand.specs.Again.{Before, statuses_of, parent_of, birth_of, state_again, image_again, judged_again, pool_again}
-use Rattle.nj_expand.specs.Ending.{top_of_rows, room_of}
+use Rattle.nj_expand.specs.Ending.{top_of_rows}
 use Rattle.nj_expand.proofs.Rising.{IsPlaced, stands}
 use Rattle.nj_expand.proofs.Lifts.{map-map, top-map}
 
@@ -216,7 +216,7 @@ mark_next game ks rows mark step tolerance top level until are is levels untils 
 
 -- the state after the step
 pub state_next : (h : Held) (new : Between) → new.step ≡ h.state.step + 1 → new.front ≡ map word_of (kept_in h)
-    → new.seen ≡ forgotten h.bounds.slots (room_of h) h.state.seen ++ generation (game_of h.plan) (fresh_of (game_of h.plan) h.bounds h.state) ∷ []
+    → new.seen ≡ seen_of h.bounds h.state ++ generation (game_of h.plan) (fresh_of (game_of h.plan) h.bounds h.state) ∷ []
     → new.mark ≡ raised (game_of h.plan) (h.state.step + 1) h.bounds.tolerance (kept_in h) h.state.mark
     → new ≡ state_after (game_of h.plan) h.bounds h.state (kept_in h)
 unfolding state_after seen_of

@@ -36,7 +36,7 @@ from n word (pad ∷ pads) =
     All-cons (λ c. n ≤ c.number) (record { number = n; parent = word; pad = pad }) (extensions (n + 1) word pads) (omega arith)
     (All-weaker (λ c. n + 1 ≤ c.number) (λ c. n ≤ c.number) (λ c h. omega (arith, h)) (extensions (n + 1) word pads) (from (n + 1) word pads))
 
-below : (n m : ℕ) (word : Word) (pads : List ℕ) → n + length pads ≤ m → All (λ c. c.number < m) (extensions n word pads)
+pub below : (n m : ℕ) (word : Word) (pads : List ℕ) → n + length pads ≤ m → All (λ c. c.number < m) (extensions n word pads)
 below n m word [] h = All-nil (λ c. c.number < m)
 below n m word (pad ∷ pads) h =
     All-cons (λ c. c.number < m) (record { number = n; parent = word; pad = pad }) (extensions (n + 1) word pads) (omega (arith, h))

@@ -1,6 +1,9 @@
 -- The state, judgement, key and pool at the start of a search.
-use Rattle.std.proofs.Common.{◌≡◌, ◌+◌, ◌*◌, ℕ, List, [], length, sym, ap, ap₂, ◌∙◌}
-use Rattle.nj_ines.specs.Cartridge.{Cartridge}
+use Rattle.std.proofs.Common.{◌≡◌, ◌≤◌, ◌+◌, ◌*◌, ℕ, false, List, [], ◌∷◌, length, refl, sym, ap, ap₂, subst, ◌∙◌, arith}
+use Rattle.nj_search_defs.specs.Game.{Bounds}
+use Rattle.nj_search_defs.specs.Pruning.{Seen}
+use Rattle.nj_search_defs.specs.Outcome.{opening}
+use Rattle.nj_ines.specs.Cartridge.{Cartridge, IsCartridge}
 use Rattle.nj_machine.specs.State.{State, power_on, ram_of, is_jammed}
 use Rattle.nj_machine.specs.Frame.{frames, play}
 use Rattle.nj_machine.specs.Image.{image_of}
@@ -9,9 +12,10 @@ use Rattle.nj_rules.specs.Rules.{judged_of as judged_in}
 use Rattle.nj_pool.specs.Front.{Front}
 use Rattle.nj_script.specs.Script.{Record}
 use Rattle.nj_game.specs.Plan.{Plan, plan_of}
-use Rattle.nj_game.specs.Words.{state_of, status_of, judged_of, key_of}
+use Rattle.nj_game.specs.Words.{state_of, status_of, judged_of, key_of, game_of}
 use Rattle.nj_expand.specs.Rows.{judged_at, key_at}
-use Rattle.nj_expand.specs.Front.{size_in, image_at, one_state}
+use Rattle.nj_expand.specs.Held.{Held, opened}
+use Rattle.nj_expand.specs.Front.{size_in, image_at, one_state, IsFront}
 
 pub start_state : (cart : Cartridge) (script : Record) (start pads : List ℕ) (begun s : State) → begun ≡ power_on cart → pads ≡ start → s ≡ frames begun pads
     → state_of (plan_of cart script start) [] ≡ play cart start → s ≡ state_of (plan_of cart script start) []
@@ -40,3 +44,18 @@ pub start_pool : (plan : Plan) (most : ℕ) (image : List ℕ) (pool : Front) �
     → pool ≡ one_state (most * (length image + 16)) image → pool ≡ one_state (most * (size_in plan + 16)) (image_at plan [])
 start_pool plan most image pool is long e =
     e ∙ ap (λ x. one_state (most * (length x + 16)) x) is ∙ ap (λ n. one_state (most * (n + 16)) (image_at plan [])) long
+
+-- the front of one state
+pub first_front : (plan : Plan) (most : ℕ) (pool : Front) (judged : List Judged) → IsCartridge plan.cartridge → 1 ≤ most → length (image_at plan []) ≡ size_in plan
+    → pool ≡ one_state (most * (size_in plan + 16)) (image_at plan []) → judged ≡ judged_of plan [] ∷ [] → IsFront plan most pool judged
+unfolding one_state
+first_front plan most pool judged nrom some long is are =
+    subst (λ (p : Front). IsFront plan most p judged) (sym is) (record { nrom = nrom; images = refl; judged_are = are; some = omega arith; few = some; size = long; limit = refl })
+
+-- the search before its first step
+pub opened_is : (plan : Plan) (bounds : Bounds) (pool : Front) (seen : Seen) (level limit : ℕ) → pool ≡ one_state limit (image_at plan [])
+    → seen ≡ (key_of plan [] ∷ []) ∷ [] → level ≡ (let j = judged_of plan [] in j.level)
+    → (let h : Held = record { plan = plan; bounds = bounds; state = record { step = 0; front = pool.words; seen = seen; mark = record { level = level; until = 0 } }; spent = false } in h) ≡ opened plan bounds
+unfolding opened opening game_of one_state
+opened_is plan bounds pool seen level limit is told levels =
+    λ i. record { plan = plan; bounds = bounds; state = record { step = 0; front = (let p : Front = is i in p.words); seen = told i; mark = record { level = levels i; until = 0 } }; spent = false }

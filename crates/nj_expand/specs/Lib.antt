@@ -1,6 +1,9 @@
 pub mod Rows
 pub mod Held
+pub mod Children
+pub mod Closed
 pub mod Step
 pub mod Front
+pub mod Table
 pub mod Again
 pub mod Ending

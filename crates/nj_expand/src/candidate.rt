@@ -1,6 +1,6 @@
 //! A candidate: the state of a parent after one more pad.
 
-ghost use Rattle.std.specs.Prelude.{◌≡◌, ◌≤◌, ◌+◌, ℕ};
+ghost use Rattle.std.specs.Prelude.{◌≡◌, ◌≢◌, ◌≤◌, ◌+◌, ℕ};
 ghost use Rattle.nj_machine.specs.State.{rom_of};
 ghost use Rattle.nj_machine.specs.Image.{of_image, IsImage};
 ghost use Rattle.nj_game.specs.Words.{held};
@@ -75,7 +75,8 @@ fn verdict_of(verdict: Verdict) -> Verdict3
 /// The key of the machine's state, which is judged so.
 #[tactic(auto, unfolding(crate::specs::Rows::key_at))]
 pub(crate) fn key_in(machine: &Machine, judged: Judged, script: &Script) -> u64
-    ensures { result ≡ key_at script.now machine.now judged }
+    ensures key { result ≡ key_at script.now machine.now judged }
+    ensures never_zero { result ≢ 0 }
 {
     key_of(
         script.hash(),
@@ -88,7 +89,8 @@ pub(crate) fn key_in(machine: &Machine, judged: Judged, script: &Script) -> u64
 // The row of the machine's state.
 #[tactic(auto, unfolding(crate::specs::Rows::row_told))]
 fn row_in(machine: &Machine, judged: Judged, pad: Pad, number: u64, script: &Script) -> Row
-    ensures { result ≡ row_told script.now number pad machine.now judged }
+    ensures row { result ≡ row_told script.now number pad machine.now judged }
+    ensures key { result.key ≢ 0 }
 {
     Row {
         number,
@@ -114,6 +116,7 @@ pub fn expand<L: Ledger>(
 ) -> Row
     requires image { IsImage (rom_of machine.old) image.now }
     ensures row { result ≡ row_at script.now status.0 (of_image (rom_of machine.old) image.now) pad number }
+    ensures key { result.key ≢ 0 }
     ensures child { machine.new ≡ held script.now.hold pad (of_image (rom_of machine.old) image.now) }
     ensures cartridge { rom_of machine.new ≡ rom_of machine.old }
     ensures frames { steps.new ≤ steps.old + script.now.hold }

@@ -5,19 +5,22 @@ ghost use Rattle.nj_search_defs.specs.Outcome.{state_after};
 ghost use Rattle.nj_game.specs.Words.{game_of};
 ghost use Rattle.nj_expand.specs.Held.{live_rows, kept_in};
 ghost use Rattle.nj_expand.specs.Step.{IsStep};
-ghost use Rattle.nj_expand.specs.Ending.{top_of_rows, IsChoiceOf, IsKeptOf, AreFew};
+ghost use Rattle.nj_expand.specs.Closed.{AreRowsOf, IsClosedFor};
+ghost use Rattle.nj_expand.specs.Ending.{top_of_rows, IsPrepared, IsKeptOf, IsNewTable, AreNextKeys, AreFew};
 
 use crate::Stepped;
 use crate::again::{Again, run_again};
 use crate::laws::{a_candidate_is_told_by_its_parent, an_image_stands_for_its_word};
 use crate::search::{Mark, Search};
+use crate::tables::{NewTable, Prepared, put};
 use nj_game::a_word_goes_on;
 use nj_machine::Machine;
-use nj_rows::{Row, order_is_preference};
+use nj_rows::{Row, keep, order_is_preference, winner};
 use nj_rules::allowed_pads_come_once;
-use nj_seen::{Choice, Chosen, choose};
+use nj_seen::{SeenKeys, seen_is_told};
 use nj_steps::Steps;
 use std::alloc::{AllocError, Global};
+use std::mem;
 use std::sync::ledger::Ledger;
 
 // The greatest level of rows.
@@ -44,9 +47,10 @@ fn raised(mark: Mark, top: u32, until: u32) -> Mark
 }
 
 impl Search {
-    /// Ends a step by the rows of its live candidates: finds the winner, or makes the kept the front by running them again.
-    /// After want of memory the search is spent.
-    pub fn finish<L: Ledger>(
+    /// Ends a step of one thread, by the rows of all its live candidates by rising number: finds the winner, or makes the
+    /// kept the front by running them again. The new keys go into the search's own table, which is copied only where a
+    /// generation is forgotten. After want of memory the search is spent.
+    pub fn finish_alone<L: Ledger>(
         &mut self,
         alloc: Global,
         rows: Vec<Row>,
@@ -62,7 +66,55 @@ impl Search {
         ensures frames { steps.new ≤ steps.old + self.old.plan.script.hold * length (kept_in self.old) }
         ensures never_falls { steps.old ≤ steps.new }
     {
-        let ended = self.end_step(alloc, rows.as_slice(), steps);
+        let prepared = self.prepare_alone(alloc, rows.as_slice());
+        self.settle(alloc, rows.as_slice(), prepared, steps)
+    }
+
+    /// Ends a step by rows of its live candidates, in any order, and by the table that was opened with room for the step and
+    /// closed after the claims of all of them. After want of memory the search is spent.
+    pub fn finish<L: Ledger>(
+        &mut self,
+        alloc: Global,
+        rows: Vec<Row>,
+        words: Vec<u64>,
+        steps: &mut Steps<L>,
+    ) -> Result<Stepped, AllocError>
+        requires spent { self.old.spent ≡ false }
+        requires step { self.old.state.step < 16777215 }
+        requires rows { AreRowsOf self.old rows.items }
+        requires words { IsClosedFor self.old words.items }
+        ensures next { IfOk result (λ stepped. IsStep self.old stepped self.new) }
+        ensures spent { OnErr result (self.new.spent ≡ true) }
+        ensures plan { self.new.plan ≡ self.old.plan }
+        ensures bounds { self.new.bounds ≡ self.old.bounds }
+        ensures frames { steps.new ≤ steps.old + self.old.plan.script.hold * length (kept_in self.old) }
+        ensures never_falls { steps.old ≤ steps.new }
+    {
+        let prepared = self.prepare_closed(alloc, rows.as_slice(), words);
+        self.settle(alloc, rows.as_slice(), prepared, steps)
+    }
+
+    // The end of a step that is prepared. After want of memory, that of the preparation too, the search is spent.
+    fn settle<L: Ledger>(
+        &mut self,
+        alloc: Global,
+        rows: &[Row],
+        prepared: Result<Prepared, AllocError>,
+        steps: &mut Steps<L>,
+    ) -> Result<Stepped, AllocError>
+        requires step { self.old.state.step < 16777215 }
+        requires prepared { IfOk prepared (IsPrepared self.old rows.now) }
+        ensures next { IfOk result (λ stepped. IsStep self.old stepped self.new) }
+        ensures spent { OnErr result (self.new.spent ≡ true) }
+        ensures plan { self.new.plan ≡ self.old.plan }
+        ensures bounds { self.new.bounds ≡ self.old.bounds }
+        ensures frames { steps.new ≤ steps.old + self.old.plan.script.hold * length (kept_in self.old) }
+        ensures never_falls { steps.old ≤ steps.new }
+    {
+        let ended = match prepared {
+            Ok(prepared) => self.end_step(alloc, rows, prepared, steps),
+            Err(error) => Err(error),
+        };
         if ended.is_err() {
             self.spend();
         }
@@ -74,10 +126,11 @@ impl Search {
         &mut self,
         alloc: Global,
         rows: &[Row],
+        prepared: Prepared,
         steps: &mut Steps<L>,
     ) -> Result<Stepped, AllocError>
         requires step { self.old.state.step < 16777215 }
-        requires rows { rows.now ≡ live_rows self.old }
+        requires prepared { IsPrepared self.old rows.now prepared }
         ensures next { IfOk result (λ stepped. IsStep self.old stepped self.new) }
         ensures plan { self.new.plan ≡ self.old.plan }
         ensures bounds { self.new.bounds ≡ self.old.bounds }
@@ -86,18 +139,24 @@ impl Search {
     {
         self.few_pads();
         order_is_preference();
-        match self.choice(alloc, rows)? {
-            Choice::Won(row) => Ok(Stepped::Won { row }),
-            Choice::Exhausted => Ok(Stepped::Exhausted),
-            Choice::Kept(chosen) => {
-                self.go_on(alloc, chosen, steps)?;
-                Ok(Stepped::Go)
-            }
+        if let Some(row) = winner(rows) {
+            return Ok(Stepped::Won { row });
         }
+        let Prepared {
+            fresh: mut kept,
+            table,
+            keys,
+        } = prepared;
+        keep(&mut kept, self.bounds.front as usize);
+        if kept.is_empty() {
+            return Ok(Stepped::Exhausted);
+        }
+        self.go_on(alloc, kept, table, keys, steps)?;
+        Ok(Stepped::Go)
     }
 
     // How many pads may follow a word.
-    fn few_pads(&self)
+    pub(crate) fn few_pads(&self)
         ensures { AreFew self.now }
     {
         allowed_pads_come_once();
@@ -105,27 +164,19 @@ impl Search {
         let _bounds = &self.bounds;
     }
 
-    // What the step decides of the rows.
-    fn choice(&self, alloc: Global, rows: &[Row]) -> Result<Choice, AllocError>
-        requires rows { rows.now ≡ live_rows self.now }
-        ensures { IfOk result (λ choice. IsChoiceOf self.now choice) }
-    {
-        self.few_pads();
-        let room = self.pool.len() as u64 * self.bounds.inputs;
-        let slots = 1u64 << self.bounds.exponent;
-        let most = self.bounds.front as usize;
-        choose(alloc, rows, &self.seen, room, slots, most)
-    }
-
     // Makes the rows that are kept the front. After want of memory plan and bounds are as before.
     fn go_on<L: Ledger>(
         &mut self,
         alloc: Global,
-        chosen: Chosen,
+        kept: Vec<Row>,
+        table: NewTable,
+        keys: SeenKeys,
         steps: &mut Steps<L>,
     ) -> Result<(), AllocError>
         requires step { self.old.state.step < 16777215 }
-        requires kept { IsKeptOf self.old chosen }
+        requires kept { IsKeptOf self.old kept.items }
+        requires table { IsNewTable self.old table }
+        requires keys { AreNextKeys self.old keys }
         ensures next { OnOk result (self.new ≡ record self.old { state = state_after (game_of self.old.plan) self.old.bounds self.old.state (kept_in self.old) }) }
         ensures plan { self.new.plan ≡ self.old.plan }
         ensures bounds { self.new.bounds ≡ self.old.bounds }
@@ -136,11 +187,7 @@ impl Search {
         order_is_preference();
         a_word_goes_on();
         an_image_stands_for_its_word();
-        let Chosen {
-            gone,
-            generation,
-            kept,
-        } = chosen;
+        seen_is_told();
         let mut machine = Machine::power_on(alloc, &self.cart)?;
         let limit = self.bounds.front * (machine.image_len() as u64 + 16);
         let Again { pool, judged } = run_again(
@@ -153,10 +200,12 @@ impl Search {
             limit,
             steps,
         )?;
-        self.seen.renew(gone, generation)?;
         self.pool.next_front(pool)?;
         self.judged = judged;
         self.step += 1;
+        let own = mem::replace(&mut self.words, Vec::new(alloc));
+        self.words = put(own, table, self.step as u64);
+        self.keys = keys;
         self.mark = raised(
             self.mark,
             top_level(kept.as_slice()),

@@ -1,6 +1,6 @@
 //! Laws of candidates, each the contract of a function that does nothing.
 
-ghost use Rattle.std.specs.Prelude.{◌≡◌, ◌≤◌, ◌++◌, ◌∷◌, [], ◌+◌, ◌*◌, ℕ, All, length, map, filter};
+ghost use Rattle.std.specs.Prelude.{◌≡◌, ◌≢◌, ◌≤◌, ◌<◌, ◌++◌, ◌∷◌, [], ◌+◌, ◌*◌, ℕ, All, length, map, filter};
 ghost use Rattle.nj_search_defs.specs.Game.{Word, Game};
 ghost use Rattle.nj_search_defs.specs.Outcome.{State, Goes};
 ghost use Rattle.nj_search_defs.specs.Laws.{IsChild};
@@ -10,14 +10,16 @@ ghost use Rattle.nj_machine.specs.Image.{of_image, IsImage};
 ghost use Rattle.nj_rules.specs.Pads.{allowed_pads, named_pads};
 ghost use Rattle.nj_game.specs.Plan.{Plan};
 ghost use Rattle.nj_game.specs.Words.{state_of, status_of, judged_of, game_of};
-ghost use Rattle.nj_seen.specs.Rows.{is_live_row};
+ghost use Rattle.nj_seen.specs.Rows.{is_live_row, IsRising};
 ghost use Rattle.nj_expand.specs.Rows.{row_of, row_at};
 ghost use Rattle.nj_expand.specs.Held.{Held, live_rows, candidates_in, kept_in, next_in};
 ghost use Rattle.nj_expand.specs.Front.{rom_in, size_in, image_at};
+ghost use Rattle.nj_expand.specs.Children.{rows_from, runs_from};
+ghost use Rattle.nj_expand.specs.Ending.{AreFew};
 
 use nj_game::{a_word_goes_on, a_word_keeps_the_cartridge};
 use nj_machine::an_image_tells_its_state;
-use nj_rules::allowed_pads_come_once;
+use nj_rules::{allowed_pads_come_once, keys_tell_bytes_and_status};
 use nj_search_defs::{front_is_bounded, parents_stood_before, words_are_equally_long};
 
 /// The image of a word's state is one of its cartridge, and the state is made again from it.
@@ -45,6 +47,25 @@ pub fn a_candidate_is_told_by_its_parent()
 pub fn live_rows_are_live()
     ensures { (held : Held) → live_rows held ≡ filter (is_live_row held.state.mark (held.state.step + 1)) (map (row_of (game_of held.plan)) (candidates_in held)) }
 {}
+
+/// The live rows of a step are those of the words of its front, one word after another; and so are its candidates counted.
+pub fn live_rows_come_by_words()
+    ensures rows { (held : Held) → live_rows held ≡ rows_from held 0 held.state.front }
+    ensures runs { (held : Held) → length (candidates_in held) ≡ runs_from held.plan held.state.front }
+{
+    live_rows_are_live();
+}
+
+/// The live rows can claim: their numbers rise and their keys are not 0.
+pub fn live_rows_can_claim()
+    ensures rising { (held : Held) → AreFew held → IsRising (live_rows held) }
+    ensures keys { (held : Held) → All (λ row. row.key ≢ 0) (live_rows held) }
+    ensures numbers { (held : Held) → AreFew held → All (λ row. row.number < 256 * length held.state.front) (live_rows held) }
+    ensures few { (held : Held) → held.bounds.inputs ≡ length (named_pads held.plan.script.inputs.sets) → held.bounds.inputs ≤ 256 → AreFew held }
+{
+    allowed_pads_come_once();
+    keys_tell_bytes_and_status();
+}
 
 /// A step has at most as many candidates as the front has words, times the pads that the script names; it keeps no more than
 /// a front may have.

@@ -5,16 +5,18 @@
 
 mod again;
 mod candidate;
+mod children;
 mod ending;
 mod laws;
 mod movies;
 mod opening;
 mod search;
+mod tables;
 
 pub use candidate::expand;
 pub use laws::{
     a_candidate_is_told_by_its_parent, a_front_follows_the_one_before, a_step_is_bounded,
-    an_image_stands_for_its_word, live_rows_are_live,
+    an_image_stands_for_its_word, live_rows_are_live, live_rows_can_claim, live_rows_come_by_words,
 };
 pub use nj_machine::{Cart, Machine, Pad};
 pub use nj_movie::Movie;

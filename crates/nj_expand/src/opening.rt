@@ -1,16 +1,20 @@
 //! The start of a search: the start movie is run once, and its state is the first front.
 
-ghost use Rattle.std.specs.Prelude.{◌≡◌, ◌≤◌, ◌+◌, ◌*◌, ◌^◌, [], ◌∷◌, length, IfOk};
+ghost use Rattle.std.specs.Prelude.{◌≡◌, ◌≢◌, ◌≤◌, ◌+◌, ◌*◌, ◌^◌, [], ◌∷◌, length, IfOk};
 ghost use Rattle.nj_ines.specs.Cartridge.{IsCartridge};
 ghost use Rattle.nj_machine.specs.State.{rom_of};
 ghost use Rattle.nj_machine.specs.Image.{image_len, image_of};
 ghost use Rattle.nj_pool.specs.declared.refused.PushRefused.{PushRefused};
+ghost use Rattle.nj_claims.specs.Tables.{IsTable, slot_count};
+ghost use Rattle.nj_seen.specs.Held.{HoldsSeen};
 ghost use Rattle.nj_game.specs.Plan.{plan_of};
 ghost use Rattle.nj_game.specs.Words.{key_of, judged_of};
 ghost use Rattle.nj_expand.specs.Front.{size_in, image_at, one_state};
 
+use crate::Bounds;
 use crate::candidate::{judge_state, key_in};
 use crate::laws::an_image_stands_for_its_word;
+use nj_claims::{empty_table, insert};
 use nj_game::the_empty_word_is_the_start;
 use nj_ines::Cart;
 use nj_machine::Machine;
@@ -18,18 +22,18 @@ use nj_movie::Movie;
 use nj_pool::{FrontPool, PushRefused};
 use nj_rules::{Judged, Status};
 use nj_script::Script;
-use nj_seen::Generations;
+use nj_seen::one_key_is_seen;
 use nj_steps::Steps;
 use std::alloc::{AllocError, Global};
 use std::sync::ledger::Ledger;
 
-/// What a search has before its first step: the start's state, alone in a pool, its judgement, its key as the keys seen,
-/// and its level.
+/// What a search has before its first step: the start's state, alone in a pool, its judgement, a claim table of its key, and
+/// its level.
 #[derive(Drop)]
 pub(crate) struct First {
     pub(crate) pool: FrontPool,
     pub(crate) judged: Vec<Judged>,
-    pub(crate) seen: Generations,
+    pub(crate) words: Vec<u64>,
     pub(crate) level: u32,
 }
 
@@ -85,6 +89,21 @@ fn pool_of(alloc: Global, image: &[u8], most: u64) -> Result<FrontPool, AllocErr
     }
 }
 
+// A table of so many slots for a key that is seen before the first step.
+fn table_of(alloc: Global, exponent: u32, key: u64) -> Result<Vec<u64>, AllocError>
+    requires low { 10 ≤ exponent }
+    requires high { exponent ≤ 25 }
+    requires key { key ≢ 0 }
+    ensures table { IfOk result (λ words. IsTable words.items) }
+    ensures slots { IfOk result (λ words. slot_count words.items ≡ 2 ^ exponent) }
+    ensures seen { IfOk result (λ words. HoldsSeen words.items ((key ∷ []) ∷ []) 0) }
+{
+    one_key_is_seen();
+    let mut words = empty_table(alloc, exponent)?;
+    insert(words.as_mut_slice(), key, 0);
+    Ok(words)
+}
+
 impl First {
     /// The start's state, by its run from power-on.
     pub(crate) fn run<L: Ledger>(
@@ -92,14 +111,17 @@ impl First {
         cart: &Cart,
         script: &Script,
         start: &Movie,
-        most: u64,
+        bounds: Bounds,
         steps: &mut Steps<L>,
     ) -> Result<First, AllocError>
-        requires some { 1 ≤ most }
-        requires few { most ≤ 2 ^ 20 }
-        ensures pool { IfOk result (λ first. let plan = plan_of cart.now script.now start.now in first.pool ≡ one_state (most * (size_in plan + 16)) (image_at plan [])) }
+        requires some { 1 ≤ bounds.front }
+        requires few { bounds.front ≤ 2 ^ 20 }
+        requires exponent { (10 ≤ bounds.exponent) × (bounds.exponent ≤ 25) }
+        ensures pool { IfOk result (λ first. let plan = plan_of cart.now script.now start.now in first.pool ≡ one_state (bounds.front * (size_in plan + 16)) (image_at plan [])) }
         ensures judged { IfOk result (λ first. first.judged.items ≡ judged_of (plan_of cart.now script.now start.now) [] ∷ []) }
-        ensures seen { IfOk result (λ first. first.seen ≡ (key_of (plan_of cart.now script.now start.now) [] ∷ []) ∷ []) }
+        ensures table { IfOk result (λ first. IsTable first.words.items) }
+        ensures slots { IfOk result (λ first. slot_count first.words.items ≡ 2 ^ bounds.exponent) }
+        ensures seen { IfOk result (λ first. HoldsSeen first.words.items ((key_of (plan_of cart.now script.now start.now) [] ∷ []) ∷ []) 0) }
         ensures level { IfOk result (λ first. first.level ≡ (let j = judged_of (plan_of cart.now script.now start.now) [] in j.level)) }
         ensures frames { steps.new ≤ steps.old + length start.now }
         ensures never_falls { steps.old ≤ steps.new }
@@ -112,12 +134,12 @@ impl First {
         let judged = judge_state(&machine, Status(0), script);
         let key = key_in(&machine, judged, script);
         let image = saved(alloc, &mut machine)?;
-        let pool = pool_of(alloc, image.as_slice(), most)?;
-        let seen = Generations::opening(alloc, key)?;
+        let pool = pool_of(alloc, image.as_slice(), bounds.front)?;
+        let words = table_of(alloc, bounds.exponent, key)?;
         Ok(First {
             pool,
             judged: vec![in alloc; judged]?,
-            seen,
+            words,
             level: judged.level,
         })
     }

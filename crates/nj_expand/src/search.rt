@@ -7,7 +7,9 @@ ghost use Rattle.nj_machine.specs.Image.{of_image, IsImage};
 ghost use Rattle.nj_rules.specs.Pads.{named_pads};
 ghost use Rattle.nj_game.specs.Plan.{plan_of, movie_of};
 ghost use Rattle.nj_game.specs.Words.{state_of, status_of, judged_of, key_of};
+ghost use Rattle.nj_claims.specs.Tables.{IsTable, slot_count};
 ghost use Rattle.nj_seen.specs.Rows.{is_live_row};
+ghost use Rattle.nj_seen.specs.Held.{HoldsSeen};
 ghost use Rattle.nj_expand.specs.Held.{bounds_of, opened};
 ghost use Rattle.nj_expand.specs.Front.{rom_in, size_in, image_at, one_state, AreBounds};
 
@@ -22,7 +24,7 @@ use nj_pool::FrontPool;
 use nj_rows::Row;
 use nj_rules::Judged;
 use nj_script::Script;
-use nj_seen::Generations;
+use nj_seen::{SeenKeys, seen_is_told};
 use nj_steps::Steps;
 use std::alloc::{AllocError, Global};
 use std::marker::Model;
@@ -44,7 +46,8 @@ pub struct Search {
     pub(crate) bounds: Bounds,
     pub(crate) pool: FrontPool,
     pub(crate) judged: Vec<Judged>,
-    pub(crate) seen: Generations,
+    pub(crate) words: Vec<u64>,
+    pub(crate) keys: SeenKeys,
     pub(crate) step: u32,
     pub(crate) mark: Mark,
     pub(crate) spent: bool,
@@ -54,17 +57,19 @@ impl Model for Search {
     ghost use Rattle.nj_game.specs.Plan.{plan_of};
     ghost use Rattle.nj_expand.specs.Held.{Held, bounds_of};
     ghost use Rattle.nj_expand.specs.Front.{AreBounds, IsFront};
+    ghost use Rattle.nj_expand.specs.Table.{IsTableAt};
+    ghost use Rattle.nj_seen.specs.Held.{seen_in};
 
     ghost Value = { Held };
 
     ghost view = { λ s. record {
       plan = plan_of s.cart s.script s.start;
       bounds = bounds_of s.bounds s.script;
-      state = record { step = s.step; front = s.pool.words; seen = s.seen; mark = record { level = s.mark.level; until = s.mark.until } };
+      state = record { step = s.step; front = s.pool.words; seen = seen_in s.words.items s.step s.keys.oldest; mark = record { level = s.mark.level; until = s.mark.until } };
       spent = s.spent;
     } };
 
-    ghost invariant = { λ s. AreBounds s.bounds s.script × IsFront (plan_of s.cart s.script s.start) s.bounds.front s.pool s.judged.items };
+    ghost invariant = { λ s. AreBounds s.bounds s.script × IsFront (plan_of s.cart s.script s.start) s.bounds.front s.pool s.judged.items × IsTableAt s.words.items s.keys s.step s.bounds.exponent };
 }
 
 impl Search {
@@ -88,7 +93,7 @@ impl Search {
     {
         is_cartridge(&cart);
         let _inputs = script.input_count();
-        let first = First::run(alloc, &cart, &script, &start, bounds.front, steps)?;
+        let first = First::run(alloc, &cart, &script, &start, bounds, steps)?;
         Ok(Search::begun(cart, script, start, bounds, first))
     }
 
@@ -99,15 +104,18 @@ impl Search {
         requires cartridge { IsCartridge cart }
         requires pool { let plan = plan_of cart script start in first.pool ≡ one_state (bounds.front * (size_in plan + 16)) (image_at plan []) }
         requires judged { first.judged.items ≡ judged_of (plan_of cart script start) [] ∷ [] }
-        requires seen { first.seen ≡ (key_of (plan_of cart script start) [] ∷ []) ∷ [] }
+        requires table { IsTable first.words.items }
+        requires slots { slot_count first.words.items ≡ 2 ^ bounds.exponent }
+        requires seen { HoldsSeen first.words.items ((key_of (plan_of cart script start) [] ∷ []) ∷ []) 0 }
         requires level { first.level ≡ (let j = judged_of (plan_of cart script start) [] in j.level) }
         ensures { result ≡ opened (plan_of cart script start) (bounds_of bounds script) }
     {
         an_image_stands_for_its_word();
+        seen_is_told();
         let First {
             pool,
             judged,
-            seen,
+            words,
             level,
         } = first;
         Search {
@@ -117,7 +125,8 @@ impl Search {
             bounds,
             pool,
             judged,
-            seen,
+            words,
+            keys: SeenKeys { oldest: 0, count: 1 },
             step: 0,
             mark: Mark { level, until: 0 },
             spent: false,
@@ -168,6 +177,15 @@ impl Search {
     {
         let is_low = row.level < self.mark.level && self.mark.until <= self.step;
         !is_low && is_no_fail(row.verdict)
+    }
+
+    /// The claim table of the seen keys: the owner of a key is the step whose generation has it.
+    pub fn words(&self) -> &[u64]
+        ensures table { IsTable result.now }
+        ensures slots { slot_count result.now ≡ self.now.bounds.slots }
+        ensures seen { HoldsSeen result.now self.now.state.seen self.now.state.step }
+    {
+        self.words.as_slice()
     }
 
     /// A machine of the cartridge at power-on.

@@ -1,8 +1,7 @@
 -- Keys in order, where one is found, and which generations are forgotten.
-use Rattle.std.proofs.Common.{◌≡◌, ℕ, zero, suc, ◌+◌, ◌-◌, ◌<◌, ◌≤◌, Bool, true, false, ◌||◌, cond, Ordering, Less, Equal, Greater, List, [], ◌∷◌, length, map, take, drop, get_or, refl, sym, ap, ◌∙◌, subst, arith, ◌⊎◌, inl, inr, ◌==◌, nat_lt, nat_le, ⊎_elim}
-use Rattle.std.specs.Prelude.{Result, Ok, Err, is_ok, MatchResult, sum_by}
+use Rattle.std.proofs.Common.{◌≡◌, ℕ, zero, suc, ◌+◌, ◌-◌, ◌<◌, ◌≤◌, Bool, true, false, ◌||◌, cond, Ordering, Less, Equal, Greater, List, [], ◌∷◌, length, map, take, drop, get_or, refl, sym, ap, ◌∙◌, subst, arith, ◌⊎◌, inl, inr, ◌==◌, nat_lt, ⊎_elim}
+use Rattle.std.specs.Prelude.{Result, Ok, Err, is_ok, MatchResult}
 use Rattle.std.specs.Ordering.{is_lt, nat_cmp}
-use Rattle.std.specs.Cmp.{IsStrictWeakOrder}
 use Rattle.std.specs.List.{All, list_any}
 use Rattle.std.specs.List.Sorted.{IsBinarySearchResult, IsPermutation, IsSorted}
 use Rattle.std.proofs.lemmas.Bool.{cases_lt, eq-eqb, ne_eqb, le-leb, lt-leb, le-ltb, lt-ltb}
@@ -17,7 +16,7 @@ use Rattle.nj_search_defs.specs.Pruning.{Seen, key_count, forgotten, is_seen}
 use Rattle.nj_rows.proofs.Orders.{sorted_in_order}
 use Rattle.nj_rows.specs.declared.Row.{Row}
 use Rattle.nj_seen.specs.Rows.{generation_rows}
-use Rattle.nj_seen.specs.Choices.{AreInOrder}
+use Rattle.nj_seen.specs.Held.{AreInOrder}
 
 -- a binary search tells whether keys in order have a key
 pub found : (keys : List ℕ) (key : ℕ) (r : Result ℕ ℕ) → IsBinarySearchResult (λ y. nat_cmp y key) keys r → AreInOrder keys
@@ -102,7 +101,7 @@ one_has p seen gone place keys le lt is has =
     (ap p (get_or-drop gone seen (place - gone) keys ∙ ap (λ n. get_or seen n keys) at ∙ sym is) ∙ has)
 
 -- a number compares as less where it is
-less_is : (x y : ℕ) → is_lt (nat_cmp x y) ≡ nat_lt x y
+pub less_is : (x y : ℕ) → is_lt (nat_cmp x y) ≡ nat_lt x y
 less_is x y = by_order (nat_cmp x y) refl where
   by_order : (o : Ordering) → o ≡ nat_cmp x y → is_lt o ≡ nat_lt x y
   by_order Less e = sym (lt-ltb x y (ranked x y Less e))

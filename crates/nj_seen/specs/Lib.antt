@@ -1,3 +1,3 @@
 pub mod Verdicts
 pub mod Rows
-pub mod Choices
+pub mod Held

@@ -1,6 +1,6 @@
 -- What a step does with its rows: which are live, which is the winner, which are fresh and which are kept. Each
 -- word is that of the search's candidates, read off their rows.
-use Rattle.std.specs.Prelude.{◌≡◌, ℕ, Bool, not, ◌&&◌, ◌==◌, ◌<◌, nat_lt, List, [], ◌∷◌, map, take, filter, Option, slice_get}
+use Rattle.std.specs.Prelude.{ℕ, Bool, not, ◌&&◌, ◌==◌, ◌<◌, nat_lt, List, [], ◌∷◌, map, take, filter, Option, slice_get}
 use Rattle.std.specs.List.{All, list_any}
 use Rattle.nj_search_defs.specs.Game.{Judged}
 use Rattle.nj_search_defs.specs.Order.{in_order}

@@ -1,12 +1,27 @@
-//! The rows of a step against the seen keys: which generations of keys are forgotten, which rows are
-//! fresh, and what the step decides, a winner, nothing that is kept, or the rows that are kept and
-//! their generation.
+//! The keys that a search has seen, in a claim table: the owner of a key is the step whose generation
+//! has it. Before a step the oldest generations are forgotten until the keys of the step have room.
+//!
+//! One thread finds the fresh rows of a step by looking its keys up ([`unseen`]) and adds their keys
+//! with the new step as their owner ([`add_keys`]); nothing is copied unless something is forgotten.
+//! Several threads claim the keys of a step in a table that was opened with room ([`room`]) for numbers
+//! from [`FIRST_CLAIM`] on; once it is closed a row is fresh where it owns its key ([`fresh`]), and
+//! [`publish`] makes the claimed keys the new generation. The laws say that both find the same.
+//!
+//! The definition to read first is `HoldsSeen` in `specs/Held.antt`: what it is that a table holds the
+//! seen keys of a search.
 #![tactic(auto)]
 
-mod choice;
-mod fresh;
-mod generations;
+mod adding;
+mod forgetting;
+mod laws;
+mod publishing;
 
-pub use choice::{Choice, Chosen, choose};
-pub use generations::Generations;
+pub use adding::{add_keys, keys_of, unseen};
+pub use forgetting::{SeenKeys, left, room};
+pub use laws::{
+    added_keys_are_seen, claims_are_of_rows, fresh_keys_are_new, fresh_keys_are_seen,
+    one_key_is_seen, owned_is_fresh, room_is_enough, rows_in_any_order, seen_is_told,
+    seen_keys_stand,
+};
 pub use nj_rows::{Row, Verdict3};
+pub use publishing::{FIRST_CLAIM, fresh, owned, publish};

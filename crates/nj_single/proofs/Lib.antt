@@ -1,4 +1,2 @@
-pub mod Lifts
 pub mod Fronts
 pub mod Frames
-pub mod Runs

@@ -1,7 +1,8 @@
-//! One step of a search by one thread: the rows of all live candidates, and then the step's end.
+//! One step of a search by one thread. The words of the front are taken one after another, so that the rows of the live
+//! candidates come by rising number, and the search ends its step by them. First the contract of [`next_single`]: its words
+//! are those of nj_expand's `IsStep`.
 #![tactic(auto)]
 
-mod children;
 mod step;
 #[cfg(test)]
 mod tests;

@@ -1,4 +1,5 @@
-use Rattle.std.proofs.Common.{arith, [], ◌∷◌, length, ap, ◌∙◌}
+use Rattle.std.proofs.Common.{ℕ, arith, [], ◌∷◌, length, ap, subst, ◌∙◌}
+use Rattle.nj_seen.specs.Held.{HoldsSeen}
 use Rattle.nj_game.specs.Plan.{plan_of}
 use Rattle.nj_expand.proofs.Starts.{start_state, start_judged, start_key, start_image, start_pool}
 use Rattle.nj_expand.proofs.opening.First.run.Goals as goal
@@ -20,7 +21,7 @@ returns-clause-pool g c =
     c.in_ok-machine.ensures.begun c.pads.ensures.pads c.play.ensures.played (c.the_empty_word_is_the_start.ensures.state plan) in
     let is = start_image plan c.play.new.self c.as_slice.result.now ran (c.as_slice.ensures.value ∙ c.in_ok-image.ensures) in
     c.pool.view_is
-    ∙ start_pool plan c.args.most c.as_slice.result.now c.in_ok-pool.pool is (c.an_image_stands_for_its_word.ensures.len plan [] c.is_cartridge.ensures) c.in_ok-pool.ensures
+    ∙ start_pool plan c.args.bounds.front c.as_slice.result.now c.in_ok-pool.pool is (c.an_image_stands_for_its_word.ensures.len plan [] c.is_cartridge.ensures) c.in_ok-pool.ensures
 
 pub returns-clause-judged : goal.returns-clause-judged
 returns-clause-judged g c =
@@ -40,8 +41,8 @@ returns-clause-seen g c =
     let key =
     start_key plan c.play.new.self c.judge_state-judged.result c.key_in-key.result ran
     (start_judged plan c.play.new.self c.judge_state-judged.result ran c.judge_state-judged.ensures (c.the_empty_word_is_the_start.ensures.judged plan))
-    c.key_in-key.ensures in
-    c.in_ok-seen.ensures ∙ ap (λ k. (k ∷ []) ∷ []) key
+    c.key_in-key.ensures.key in
+    subst (λ (k : ℕ). HoldsSeen c.in_ok-words.words.items ((k ∷ []) ∷ []) 0) key c.in_ok-words.ensures.seen
 
 pub returns-clause-level : goal.returns-clause-level
 returns-clause-level g c =

@@ -1,23 +1,41 @@
-use Rattle.std.proofs.Common.{◌<◌, length, arith, subst, ◌∙◌}
-use Rattle.nj_expand.specs.Held.{kept_in}
-use Rattle.nj_expand.specs.Ending.{IsChoiceOf}
-use Rattle.nj_expand.proofs.Ends.{won_step, exhausted_step, goes_step, kept_count, kept_rows_in}
+-- The winner, nothing that is kept, or the next state.
+use Rattle.std.proofs.Common.{◌≡◌, ◌<◌, ◌≤◌, ℕ, [], length, sym, ap, arith, ◌∙◌}
+use Rattle.std.specs.Prelude.{Option, Some, None}
+use Rattle.nj_rows.specs.declared.Row.{Row}
+use Rattle.nj_seen.specs.Rows.{kept_rows}
+use Rattle.nj_expand.specs.Held.{Held, kept_in}
+use Rattle.nj_expand.specs.Ending.{fresh_rows_in}
+use Rattle.nj_expand.proofs.Ends.{won_step, exhausted_step, goes_step, kept_count, kept_rows_in, winner_found, kept_found, none_found, some_found}
 use Rattle.nj_expand.proofs.search.Search.end_step.Goals as goal
 
-pub returns-in-Won-clause-next : goal.returns-in-Won-clause-next
-returns-in-Won-clause-next g c =
-    won_step c.args.self.now c.in-Won.row c.few_pads.ensures c.order_is_preference.ensures (subst (IsChoiceOf c.args.self.now) c.in-Won.is c.in_ok-row.ensures)
+pub returns-in-Some-clause-next : goal.returns-in-Some-clause-next
+returns-in-Some-clause-next g c =
+    won_step c.args.self.now c.in-Some.row c.few_pads.ensures c.order_is_preference.ensures
+    (winner_found c.args.self.now c.args.rows.now (Some c.in-Some.row) c.requires.prepared.winner c.in-Some.ensures.first)
 
-pub returns-in-Exhausted-clause-next : goal.returns-in-Exhausted-clause-next
-returns-in-Exhausted-clause-next g c =
-    let choice = subst (IsChoiceOf c.args.self.now) c.in-Exhausted.is c.in_ok-row.ensures in
-    exhausted_step c.args.self.now c.few_pads.ensures c.order_is_preference.ensures choice.0 choice.1
+pub returns-then-is_empty-clause-next : goal.returns-then-is_empty-clause-next
+returns-then-is_empty-clause-next g c =
+    let now : Held = c.args.self.now in
+    let kept : c.keep.new.rows.items ≡ kept_rows now.bounds.most (fresh_rows_in now) =
+    kept_found now c.self.inside.bounds.front c.args.prepared.fresh.items c.keep.new.rows.items (ap (λ (h : Held). h.bounds.most) c.self.view_is) c.requires.prepared.fresh c.keep.ensures in
+    exhausted_step now c.few_pads.ensures c.order_is_preference.ensures
+    (winner_found now c.args.rows.now None c.requires.prepared.winner c.in_default.ensures.first)
+    (sym kept ∙ none_found c.keep.new.rows.items c.keep.new.rows.len c.keep.new.rows.ok.0 (sym c.is_empty.ensures ∙ c.if-is_empty.true))
 
-pub returns-in_ok-go_on-in-Kept-clause-next : goal.returns-in_ok-go_on-in-Kept-clause-next
-returns-in_ok-go_on-in-Kept-clause-next g c =
-    let choice = subst (IsChoiceOf c.args.self.now) c.in-Kept.is c.in_ok-row.ensures in
-    let count =
-    kept_count c.args.self.now c.in-Kept.chosen.kept.items
-    (choice.1.kept ∙ kept_rows_in c.args.self.now c.few_pads.ensures c.order_is_preference.ensures) in
-    let some : 0 < length (kept_in c.args.self.now) = omega (arith, choice.1.some, count) in
-    goes_step c.args.self.now c.go_on.new.self c.few_pads.ensures c.order_is_preference.ensures choice.0 some c.in_ok-go_on-in-Kept.ensures.next
+pub go_on-requires-clause-kept : goal.go_on-requires-clause-kept
+go_on-requires-clause-kept g c =
+    let now : Held = c.args.self.now in record {
+      kept = kept_found now c.self.inside.bounds.front c.args.prepared.fresh.items c.keep.new.rows.items (ap (λ (h : Held). h.bounds.most) c.self.view_is) c.requires.prepared.fresh c.keep.ensures;
+      some = some_found c.keep.new.rows.items c.keep.new.rows.len c.keep.new.rows.ok.0 (sym c.is_empty.ensures ∙ c.if-is_empty.false);
+    }
+
+pub returns-clause-next : goal.returns-clause-next
+returns-clause-next g c =
+    let now : Held = c.args.self.now in
+    let kept : c.keep.new.rows.items ≡ kept_rows now.bounds.most (fresh_rows_in now) =
+    kept_found now c.self.inside.bounds.front c.args.prepared.fresh.items c.keep.new.rows.items (ap (λ (h : Held). h.bounds.most) c.self.view_is) c.requires.prepared.fresh c.keep.ensures in
+    let count = kept_count now c.keep.new.rows.items (kept ∙ kept_rows_in now c.few_pads.ensures c.order_is_preference.ensures) in
+    let some : 0 < length c.keep.new.rows.items = some_found c.keep.new.rows.items c.keep.new.rows.len c.keep.new.rows.ok.0 (sym c.is_empty.ensures ∙ c.if-is_empty.false) in
+    let more : 0 < length (kept_in now) = omega (arith, some, count) in
+    goes_step now c.go_on.new.self c.few_pads.ensures c.order_is_preference.ensures
+    (winner_found now c.args.rows.now None c.requires.prepared.winner c.in_default.ensures.first) more c.in_ok-go_on.ensures.next
