@@ -1,24 +1,22 @@
 -- What all workers bring back together.
-use Rattle.std.proofs.Common.{◌≡◌, ℕ, ◌+◌, ◌-◌, ◌*◌, ◌≤◌, List, [], ◌∷◌, ◌++◌, length, get_or, Result, Ok, Err, length-append, false, true, refl, sym, ap, ◌∙◌, subst, arith, append_assoc, append-nil}
-use Rattle.std.specs.Prelude.{map, flat_map, sum, OnOk, IsOk}
+use Rattle.std.proofs.Common.{◌≡◌, ℕ, ◌+◌, ◌-◌, ◌*◌, ◌≤◌, List, [], ◌∷◌, ◌++◌, length, Result, Ok, Err, length-append, false, true, refl, sym, ap, ◌∙◌, subst, arith, append_assoc, append-nil}
+use Rattle.std.specs.Prelude.{map, sum, OnOk, IsOk}
 use Rattle.std.specs.List.{All, sum_by}
-use Rattle.std.specs.List.Sorted.{IsPermutation}
 use Rattle.std.proofs.Math.Nat.{mul-add}
 use Rattle.std.proofs.lemmas.List.{map-append, get_or_append_left}
 use Rattle.std.proofs.lemmas.List.Concat.{flat_map-append}
 use Rattle.std.proofs.lemmas.List.Elements.{All-head, All-tail, All-append, All-weaker, Contains-append_left, Contains-append_right}
 use Rattle.std.proofs.lemmas.List.Sums.{sum_by-append, sum_by-cons}
-use Rattle.nj_claims.specs.Passes.{TableView, PassView, joined_pass, first_pass}
+use Rattle.nj_claims.specs.Passes.{TableView, PassView, joined_pass}
 use Rattle.nj_pieces.specs.declared.parts.Pieces.{Pieces}
 use Rattle.nj_pieces.specs.declared.parts.Taker.{Taker}
 use Rattle.nj_pieces.specs.Takers.{taken_of}
 use Rattle.nj_rows.specs.declared.Row.{Row}
-use Rattle.nj_seen.specs.Held.{first_claim, claim_of}
+use Rattle.nj_seen.specs.Held.{claim_of}
 use Rattle.nj_expand.specs.Held.{Held}
 use Rattle.nj_workers.specs.declared.hand.WorkEnd.{WorkEnd}
-use Rattle.nj_workers.specs.Claimed.{SawLess, MayBeDropped, AreClaimed, AddsClaimed}
+use Rattle.nj_workers.specs.Claimed.{MayBeDropped, AreClaimed}
 use Rattle.nj_workers.specs.Shares.{piece_rows, piece_runs, rows_of, runs_of}
-use Rattle.nj_workers.specs.Hands.{HasWorked}
 use Rattle.nj_workers.specs.Desks.{IsSeated, Served, AllServed, joined_all, rows_all, taken_all}
 use Rattle.nj_workers.proofs.Claims.{claimed_none, parts_more}
 
@@ -129,8 +127,11 @@ pub taken_weigh : (h : ℕ → ℕ) (ends : List WorkEnd) → sum_by h (taken_al
 taken_weigh h [] = refl
 taken_weigh h (end ∷ ends) =
     let rest = taken_weigh h ends in
-    omega (arith, sum_by-append h (taken_all ends) (taken_of end.hand.taker),
-    sum_by-cons (λ (taker : Taker). sum_by h (taken_of taker)) end.hand.taker (map (λ (end : WorkEnd). end.hand.taker) ends))
+    omega (
+      arith,
+      sum_by-append h (taken_all ends) (taken_of end.hand.taker),
+      sum_by-cons (λ (taker : Taker). sum_by h (taken_of taker)) end.hand.taker (map (λ (end : WorkEnd). end.hand.taker) ends),
+    )
 
 -- a worker that goes before the others
 pub joined_front : (root : PassView) (end : WorkEnd) (ends : List WorkEnd) → joined_all root (ends ++ end ∷ []) ≡ joined_all (joined_pass root end.hand.pass) ends

@@ -1,11 +1,11 @@
 -- How claims of rows go together.
-use Rattle.std.proofs.Common.{◌≡◌, ◌≢◌, ℕ, ◌+◌, ◌<◌, ◌≤◌, Bool, true, false, List, [], ◌∷◌, ◌++◌, length, take, get_or, refl, sym, ap, ◌∙◌, subst, arith, append_assoc, append-nil}
+use Rattle.std.proofs.Common.{◌≡◌, ℕ, ◌+◌, ◌<◌, ◌≤◌, false, List, [], ◌∷◌, ◌++◌, length, take, get_or, refl, sym, ap, ◌∙◌, subst, append_assoc, append-nil}
 use Rattle.std.specs.Prelude.{map}
 use Rattle.std.specs.List.{All, Contains}
 use Rattle.std.specs.List.Sorted.{IsPermutation}
 use Rattle.std.proofs.lemmas.List.{map-append, take_more, take_all}
 use Rattle.std.proofs.lemmas.List.Elements.{All-append, All-weaker, All-nil, All-cons, Contains-append_left, Contains-push}
-use Rattle.std.proofs.lemmas.List.Sorted.{IsPermutation-refl, IsPermutation-trans, IsPermutation-sym, IsPermutation-append, IsPermutation-append_comm}
+use Rattle.std.proofs.lemmas.List.Sorted.{IsPermutation-refl, IsPermutation-trans, IsPermutation-append, IsPermutation-append_comm}
 use Rattle.nj_claims.specs.Passes.{PassView}
 use Rattle.nj_claims.specs.Answers.{after_claim, IsTold}
 use Rattle.nj_claims.specs.declared.claimed.Claimed.{Claimed}
@@ -13,7 +13,7 @@ use Rattle.nj_claims.specs.declared.claimed.Claimed.TheVariants.{Before, Least, 
 use Rattle.nj_rows.specs.declared.Row.{Row}
 use Rattle.nj_rows.specs.Order.{is_win_row}
 use Rattle.nj_seen.specs.Held.{first_claim, claim_of}
-use Rattle.nj_workers.specs.Claimed.{SawLess, MayBeDropped, IsSamePass, AreClaimed, AddsClaimed, IsBeaten}
+use Rattle.nj_workers.specs.Claimed.{MayBeDropped, IsSamePass, AreClaimed, AddsClaimed, IsBeaten}
 
 -- two lists, each in two parts, part by part
 four : (w x y z : List Row) → IsPermutation ((w ++ x) ++ (y ++ z)) ((w ++ y) ++ (x ++ z))
@@ -139,11 +139,14 @@ claimed_dropped row p q owner is less no_win = record {
   seen = ap (λ v. v.seen) is;
   dropped = row ∷ [];
   choice = IsPermutation-refl (row ∷ []);
-  dropped_may = All-cons (MayBeDropped q.seen) row [] (no_win, record {
-    number = owner;
-    stands = subst (λ s. Contains s (row.key, owner)) (sym (ap (λ v. v.seen) is)) (Contains-push p.seen (row.key, owner));
-    less = less;
-  }) (All-nil (MayBeDropped q.seen));
+  dropped_may = All-cons (MayBeDropped q.seen) row [] (
+    no_win,
+    record {
+      number = owner;
+      stands = subst (λ s. Contains s (row.key, owner)) (sym (ap (λ v. v.seen) is)) (Contains-push p.seen (row.key, owner));
+      less = less;
+    },
+  ) (All-nil (MayBeDropped q.seen));
 }
 
 pub same_after : (key number : ℕ) (p q : PassView) (answer : Claimed) → q ≡ after_claim key number answer p → IsSamePass p q

@@ -1,12 +1,12 @@
 -- The counters of all workers, before and after.
-use Rattle.std.proofs.Common.{◌≡◌, ℕ, zero, suc, ◌+◌, ◌*◌, ◌<◌, ◌≤◌, List, [], ◌∷◌, length, drop, get_or, set, refl, sym, ap, ◌∙◌, subst, arith}
+use Rattle.std.proofs.Common.{◌≡◌, ℕ, zero, suc, ◌+◌, ◌≤◌, List, [], ◌∷◌, length, drop, get_or, set, refl, sym, ◌∙◌, subst, arith}
 use Rattle.std.specs.Prelude.{sum}
-use Rattle.std.specs.List.{All, AllZip, sum_by}
+use Rattle.std.specs.List.{AllZip}
 use Rattle.std.proofs.lemmas.List.Sums.{sum_by-cons}
 use Rattle.nj_claims.specs.Passes.{TableView}
 use Rattle.nj_pieces.specs.declared.parts.Pieces.{Pieces}
 use Rattle.nj_workers.specs.declared.hand.WorkEnd.{WorkEnd}
-use Rattle.nj_workers.specs.Desks.{Served, AllServed}
+use Rattle.nj_workers.specs.Desks.{AllServed}
 use Rattle.nj_workers.specs.Counted.{AreCounted}
 
 -- nothing was counted

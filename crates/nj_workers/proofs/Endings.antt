@@ -1,5 +1,5 @@
 -- What all hands bring back serves the end of the step.
-use Rattle.std.proofs.Common.{◌≡◌, ◌≢◌, ℕ, suc, ◌+◌, ◌*◌, ◌/◌, ◌<◌, ◌≤◌, ◌==◌, ◌⊎◌, inl, inr, ⊎_elim, Bool, true, false, List, [], ◌∷◌, ◌++◌, length, get_or, Option, Some, None, refl, sym, ap, ◌∙◌, subst, arith, if◌then◌else◌, append-nil}
+use Rattle.std.proofs.Common.{◌≡◌, ◌≢◌, ℕ, suc, ◌+◌, ◌*◌, ◌/◌, ◌<◌, ◌≤◌, ◌==◌, ⊎_elim, Bool, true, false, List, [], ◌∷◌, ◌++◌, length, get_or, refl, sym, ap, ◌∙◌, subst, arith, if◌then◌else◌, append-nil}
 use Rattle.std.specs.Prelude.{map}
 use Rattle.std.specs.List.{All, AllPairs, Contains, sum_by}
 use Rattle.std.specs.List.Sorted.{IsPermutation}
@@ -11,11 +11,10 @@ use Rattle.std.proofs.lemmas.List.Kept.{AllPairs-cons}
 use Rattle.std.proofs.lemmas.List.Sorted.{IsPermutation-trans, IsPermutation-sym, IsPermutation-map, Contains-permutation, length_permutation, sum_by-IsPermutation}
 use Rattle.std.proofs.lemmas.List.Sums.{sum_by-append, sum_by-cons, get_or-le-sum_by}
 use Rattle.nj_claims.specs.Tables.{IsTable, entries_in, owner_in, owner_after, slot_count}
-use Rattle.nj_claims.specs.Passes.{PassView, WasOwner, HadNoRoom, first_pass}
+use Rattle.nj_claims.specs.Passes.{PassView, WasOwner, HadNoRoom}
 use Rattle.nj_search_defs.specs.Outcome.{seen_of}
 use Rattle.nj_search_defs.specs.Pruning.{Seen}
 use Rattle.nj_rows.specs.declared.Row.{Row}
-use Rattle.nj_rows.specs.Order.{is_win_row}
 use Rattle.nj_seen.specs.Rows.{IsRising, is_fresh_row}
 use Rattle.nj_seen.specs.Held.{first_claim, claim_of, is_owner, is_owned, HoldsSeen, AreClaims}
 use Rattle.nj_expand.specs.Held.{Held, live_rows}
@@ -46,15 +45,15 @@ rising_once : (number : ℕ) (rows : List Row) → IsRising rows → sum_by (one
 rising_once number [] rising = omega arith
 rising_once number (row ∷ rows) rising = by_test (row.number == number) refl (rising_once number rows rising.1)
   where
-  by_test : (b : Bool) → (row.number == number) ≡ b → sum_by (one_at number) rows ≤ 1 → sum_by (one_at number) (row ∷ rows) ≤ 1
-  by_test true e rest =
-      let same = eqb-true row.number number e in
-      let here = one_there number row same in
-      let none = none_later number rows (subst (λ (n : ℕ). All (λ later. n < later.number) rows) same rising.0) in
-      omega (arith, sum_by-cons (one_at number) row rows)
-  by_test false e rest =
-      let here = one_not number row (eqb-false row.number number e) in
-      omega (arith, sum_by-cons (one_at number) row rows)
+    by_test : (b : Bool) → (row.number == number) ≡ b → sum_by (one_at number) rows ≤ 1 → sum_by (one_at number) (row ∷ rows) ≤ 1
+    by_test true e rest =
+        let same = eqb-true row.number number e in
+        let here = one_there number row same in
+        let none = none_later number rows (subst (λ (n : ℕ). All (λ later. n < later.number) rows) same rising.0) in
+        omega (arith, sum_by-cons (one_at number) row rows)
+    by_test false e rest =
+        let here = one_not number row (eqb-false row.number number e) in
+        omega (arith, sum_by-cons (one_at number) row rows)
 
 once_apart : (rows : List Row) → ((number : ℕ) → sum_by (one_at number) rows ≤ 1) → AllPairs (λ a b. a.number ≢ b.number) rows
 once_apart [] once = λ i j d low high. absurd (omega arith)
@@ -98,10 +97,13 @@ rows_serve held opening closed claims seen rows dropped moved may were owned ris
 } where
   back : IsPermutation (rows ++ dropped) (live_rows held)
   back = IsPermutation-sym (live_rows held) (rows ++ dropped) moved
+
   here : (k : ℕ) (d : Row) → k < length (live_rows held) → Contains (live_rows held) (get_or (live_rows held) k d)
   here k d within = All-contains_itself (live_rows held) k d within
+
   absurd_win : {b : Bool} → b ≡ false → b ≡ true → ⊥
   absurd_win {b} is_false is_true = cc
+
   place : (row : Row) → Contains (live_rows held) row → (MayBeDropped seen row → ⊥) → Contains rows row
   place row there kept = ⊎_elim (λ stays. stays) (λ gone. absurd (kept (All-contains (MayBeDropped seen) dropped row may gone)))
       (Contains-append_cases rows dropped row (Contains-permutation (live_rows held) (rows ++ dropped) row moved there))
@@ -118,12 +120,12 @@ keys_there : (rows others : List Row) → All (Contains others) rows → All (λ
 keys_there rows others there =
     All-weaker (Contains others) (λ row. Contains (map (λ other. other.key) others) row.key) (λ row is. one_key row others is) rows there
   where
-  one_key : (row : Row) (others : List Row) → Contains others row → Contains (map (λ other. other.key) others) row.key
-  one_key row others is = (
-    is.0,
-    (let many = length-map others (λ (other : Row). other.key) in let within = is.1 in omega arith),
-    get_or-map (λ (other : Row). other.key) others is.0 row ∙ ap (λ (other : Row). other.key) is.2,
-  )
+    one_key : (row : Row) (others : List Row) → Contains others row → Contains (map (λ other. other.key) others) row.key
+    one_key row others is = (
+      is.0,
+      (let many = length-map others (λ (other : Row). other.key) in let within = is.1 in omega arith),
+      get_or-map (λ (other : Row). other.key) others is.0 row ∙ ap (λ (other : Row). other.key) is.2,
+    )
 
 -- the laws of the crate below that are used
 pub record Laws : Type 0 where
@@ -163,18 +165,23 @@ no_refusal laws held opening closed root pass lives rows opened few moved no_cla
     (subst (λ f. All (Contains keys) f) (sym full_is) (All-map (Contains keys) (λ (row : Row). row.key) claimed.refused (keys_there claimed.refused all in_right)))
     after.full)
   where
-  all : List Row
-  all = claimed.placed ++ claimed.refused
-  keys : List ℕ
-  keys = map (λ row. row.key) all
-  claims_are : pass.claims ≡ map claim_of claimed.placed
-  claims_are = claimed.claims ∙ ap (λ c. c ++ map claim_of claimed.placed) no_claims
-  full_is : pass.full ≡ map (λ row. row.key) claimed.refused
-  full_is = claimed.full ∙ ap (λ f. f ++ map (λ row. row.key) claimed.refused) no_full
-  in_left : All (Contains all) claimed.placed
-  in_left = All-weaker (Contains claimed.placed) (Contains all) (λ row is. Contains-append_left claimed.placed claimed.refused row is) claimed.placed (All-contains_itself claimed.placed)
-  in_right : All (Contains all) claimed.refused
-  in_right = All-weaker (Contains claimed.refused) (Contains all) (λ row is. Contains-append_right claimed.placed claimed.refused row is) claimed.refused (All-contains_itself claimed.refused)
+    all : List Row
+    all = claimed.placed ++ claimed.refused
+
+    keys : List ℕ
+    keys = map (λ row. row.key) all
+
+    claims_are : pass.claims ≡ map claim_of claimed.placed
+    claims_are = claimed.claims ∙ ap (λ c. c ++ map claim_of claimed.placed) no_claims
+
+    full_is : pass.full ≡ map (λ row. row.key) claimed.refused
+    full_is = claimed.full ∙ ap (λ f. f ++ map (λ row. row.key) claimed.refused) no_full
+
+    in_left : All (Contains all) claimed.placed
+    in_left = All-weaker (Contains claimed.placed) (Contains all) (λ row is. Contains-append_left claimed.placed claimed.refused row is) claimed.placed (All-contains_itself claimed.placed)
+
+    in_right : All (Contains all) claimed.refused
+    in_right = All-weaker (Contains claimed.refused) (Contains all) (λ row is. Contains-append_right claimed.placed claimed.refused row is) claimed.refused (All-contains_itself claimed.refused)
 
 -- the rows and the closed table serve the end of the step
 pub all_serves : (laws : Laws) (held : Held) (opening closed : List ℕ) (root pass : PassView) (lives rows : List Row) → IsOpenFor held opening → held.state.step < first_claim
@@ -196,11 +203,14 @@ all_serves laws held opening closed root pass lives rows opened step rising few 
 ) where
   none : claimed.refused ≡ []
   none = no_refusal laws held opening closed root pass lives rows opened few moved no_claims no_full claimed after
+
   placed : IsPermutation (live_rows held) claimed.placed
   placed = IsPermutation-trans (live_rows held) lives claimed.placed moved
       (subst (λ r. IsPermutation lives r) (ap (λ r. claimed.placed ++ r) none ∙ append-nil claimed.placed) claimed.parts)
+
   claims_are : pass.claims ≡ map claim_of claimed.placed
   claims_are = claimed.claims ∙ ap (λ c. c ++ map claim_of claimed.placed) no_claims
+
   are_claims : AreClaims (live_rows held) pass.claims
   are_claims = subst (λ c. AreClaims (live_rows held) c) (sym claims_are)
       (laws.moved (live_rows held) (map claim_of (live_rows held)) (map claim_of claimed.placed) (IsPermutation-map claim_of (live_rows held) claimed.placed placed) (laws.own (live_rows held)))

@@ -1,5 +1,5 @@
 -- All pieces of a front, in whatever order they were taken.
-use Rattle.std.proofs.Common.{◌≡◌, ℕ, zero, suc, ◌+◌, ◌*◌, ◌/◌, ◌<◌, ◌≤◌, ◌==◌, Bool, true, false, List, [], ◌∷◌, ◌++◌, length, take, drop, refl, sym, ap, ◌∙◌, subst, arith, append_assoc, append-nil, if◌then◌else◌}
+use Rattle.std.proofs.Common.{◌≡◌, ℕ, zero, suc, ◌+◌, ◌*◌, ◌<◌, ◌≤◌, ◌==◌, Bool, true, false, List, [], ◌∷◌, ◌++◌, length, take, refl, sym, ap, ◌∙◌, subst, arith, append_assoc, append-nil, if◌then◌else◌}
 use Rattle.std.specs.Prelude.{flat_map}
 use Rattle.std.specs.List.{sum_by, range_with_len}
 use Rattle.std.specs.List.Sorted.{IsPermutation}
@@ -88,8 +88,10 @@ has x [] some = absurd (omega arith)
 has x (y ∷ ys) some = by_test (y == x) refl (λ more. has x ys more) where
   one : ℕ
   one = one_for x y
+
   parts : sum_by (one_for x) (y ∷ ys) ≡ one + sum_by (one_for x) ys
   parts = sum_by-cons (one_for x) y ys
+
   by_test : (b : Bool) → (y == x) ≡ b → (0 < sum_by (one_for x) ys → Has ys x) → Has (y ∷ ys) x
   by_test true e rest = record { before = []; after = ys; is = ap (λ z. z ∷ ys) (eqb-true y x e) }
   by_test false e rest =

@@ -1,11 +1,11 @@
 -- Workers and counters on their way to the desks and back.
-use Rattle.std.proofs.Common.{◌≡◌, ℕ, suc, ◌+◌, ◌<◌, List, [], ◌∷◌, ◌++◌, length, take, get_or, refl, sym, ap, ◌∙◌, subst, arith, append_assoc, append-nil}
+use Rattle.std.proofs.Common.{◌≡◌, ℕ, suc, ◌<◌, List, [], ◌∷◌, ◌++◌, length, take, get_or, refl, sym, ap, ◌∙◌, subst, arith, append_assoc, append-nil}
 use Rattle.std.specs.Prelude.{map, reverse}
 use Rattle.std.specs.List.{All, AllZip}
 use Rattle.std.proofs.lemmas.List.Elements.{All-nil, All-cons, All-head, All-tail}
 use Rattle.std.proofs.lemmas.List.{map-append, reverse-append, reverse-reverse}
 use Rattle.std.proofs.Math.Seq.{take-append_seam}
-use Rattle.nj_claims.specs.Passes.{TableView, PassView, joined_pass}
+use Rattle.nj_claims.specs.Passes.{TableView}
 use Rattle.nj_pieces.specs.declared.parts.Pieces.{Pieces}
 use Rattle.nj_workers.specs.declared.hand.WorkEnd.{WorkEnd}
 use Rattle.nj_workers.specs.Desks.{EachPair, Served, AllServed}

@@ -1,5 +1,5 @@
 -- All hands of a step, before they work and after.
-use Rattle.std.proofs.Common.{◌≡◌, ℕ, suc, ◌+◌, ◌*◌, ◌<◌, ◌≤◌, false, List, [], ◌∷◌, ◌++◌, length, get_or, refl, sym, ap, ◌∙◌, subst, arith}
+use Rattle.std.proofs.Common.{◌≡◌, ℕ, ◌+◌, ◌*◌, ◌≤◌, false, List, [], ◌∷◌, ◌++◌, length, get_or, refl, sym, ap, ◌∙◌, subst, arith}
 use Rattle.std.specs.Prelude.{map, filter}
 use Rattle.std.specs.List.{All, sum_by, range_with_len}
 use Rattle.std.specs.List.Sorted.{IsPermutation}
@@ -20,10 +20,10 @@ use Rattle.nj_expand.specs.Held.{Held, live_rows, candidates_in}
 use Rattle.nj_expand.specs.Front.{rom_in}
 use Rattle.nj_workers.specs.declared.hand.WorkEnd.{WorkEnd}
 use Rattle.nj_workers.specs.Claimed.{AreClaimed}
-use Rattle.nj_workers.specs.Shares.{pieces_in, piece_rows, piece_runs, rows_of, runs_of}
+use Rattle.nj_workers.specs.Shares.{pieces_in}
 use Rattle.nj_workers.specs.Hands.{MayWork}
-use Rattle.nj_workers.specs.Desks.{IsSeated, Served, AllServed, taken_all}
-use Rattle.nj_workers.proofs.Fronts.{SameSums, rows_moved}
+use Rattle.nj_workers.specs.Desks.{IsSeated, AllServed, taken_all}
+use Rattle.nj_workers.proofs.Fronts.{SameSums}
 use Rattle.nj_workers.proofs.Backs.{taken_weigh}
 
 -- a worker's taker
@@ -99,6 +99,7 @@ takers_back table pieces olds news counts afters takers back served same are bac
 }) where
   numbers_are : map number_of (map taker_of news) ≡ map number_of takers
   numbers_are = same_numbers table pieces olds news counts afters served ∙ ap (map number_of) same
+
   as_many : length (map taker_of news) ≡ length takers
   as_many = sym (length-map (map taker_of news) number_of) ∙ ap length numbers_are ∙ length-map takers number_of
 

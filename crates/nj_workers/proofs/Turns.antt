@@ -1,6 +1,5 @@
 -- A hand that works on.
-use Rattle.std.proofs.Common.{◌≡◌, ℕ, ◌+◌, ◌*◌, ◌≤◌, List, [], ◌∷◌, ◌++◌, length, drop, refl, sym, ap, ◌∙◌, subst, arith, append_assoc, append-nil}
-use Rattle.std.specs.Prelude.{flat_map}
+use Rattle.std.proofs.Common.{◌≡◌, ℕ, ◌+◌, ◌*◌, ◌≤◌, List, [], ◌∷◌, ◌++◌, length, drop, sym, ap, ◌∙◌, subst, arith, append_assoc, append-nil}
 use Rattle.std.specs.List.{sum_by}
 use Rattle.std.proofs.Math.Nat.{mul-add}
 use Rattle.std.proofs.Math.Seq.{drop-append_seam}
@@ -8,11 +7,9 @@ use Rattle.std.proofs.lemmas.List.Concat.{flat_map-append}
 use Rattle.std.proofs.lemmas.List.Sums.{sum_by-append, sum_by-cons}
 use Rattle.nj_claims.specs.Passes.{TableView, PassView}
 use Rattle.nj_pieces.specs.declared.parts.Pieces.{Pieces}
-use Rattle.nj_pieces.specs.Takers.{number_of, taken_of, IsTakerOf}
-use Rattle.nj_machine.specs.State.{rom_of}
+use Rattle.nj_pieces.specs.Takers.{number_of, taken_of}
 use Rattle.nj_rows.specs.declared.Row.{Row}
 use Rattle.nj_expand.specs.Held.{Held}
-use Rattle.nj_expand.specs.Front.{rom_in}
 use Rattle.nj_workers.specs.declared.hand.Hand.{Hand}
 use Rattle.nj_workers.specs.Claimed.{IsSamePass, AreClaimed, AddsClaimed}
 use Rattle.nj_workers.specs.Shares.{piece_rows, piece_runs, rows_of, runs_of}

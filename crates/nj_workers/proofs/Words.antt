@@ -1,10 +1,9 @@
 -- The words of a piece, one after another.
-use Rattle.std.proofs.Common.{◌≡◌, ℕ, suc, ◌+◌, ◌-◌, ◌*◌, ◌/◌, ◌<◌, ◌≤◌, min, Bool, true, false, leb, List, [], ◌∷◌, ◌++◌, length, take, drop, get_or, refl, sym, ap, ◌∙◌, subst, arith, append_assoc, append-nil}
-use Rattle.std.specs.List.{sum_by}
+use Rattle.std.proofs.Common.{◌≡◌, ℕ, ◌+◌, ◌-◌, ◌*◌, ◌<◌, ◌≤◌, min, Bool, true, false, leb, List, [], ◌∷◌, ◌++◌, length, take, drop, get_or, refl, sym, ap, ◌∙◌, subst, arith, append_assoc, append-nil}
 use Rattle.std.proofs.Math.Nat.{mul-add, add-mul, mul-le-mul_right}
 use Rattle.std.proofs.lemmas.List.{take_more, take_all, get_or-drop, length-take-le, length-drop}
 use Rattle.std.proofs.lemmas.Bool.{leb-true, leb-false}
-use Rattle.std.proofs.lemmas.List.Sums.{sum_by-append, sum_by_push}
+use Rattle.std.proofs.lemmas.List.Sums.{sum_by_push}
 use Rattle.nj_search_defs.specs.Game.{Word}
 use Rattle.nj_claims.specs.Passes.{PassView}
 use Rattle.nj_machine.specs.State.{State, rom_of}
@@ -14,7 +13,7 @@ use Rattle.nj_expand.specs.Held.{Held}
 use Rattle.nj_expand.specs.Front.{rom_in}
 use Rattle.nj_expand.specs.Children.{word_rows, rows_from, runs_from}
 use Rattle.nj_workers.specs.Claimed.{AddsClaimed}
-use Rattle.nj_workers.specs.Shares.{words_in, piece_rows, piece_runs}
+use Rattle.nj_workers.specs.Shares.{piece_rows, piece_runs}
 use Rattle.nj_workers.proofs.Claims.{adds_none, adds_more}
 
 -- the rows of words, and of words behind them
@@ -87,22 +86,30 @@ one_done held first place p q s xs ys zs from to after long now then machine nex
 } where
   n : ℕ
   n = place - first
+
   words : List Word
   words = drop first held.state.front
+
   word : Word
   word = get_or held.state.front place []
+
   count : n + 1 ≡ place + 1 - first
   count = omega arith
+
   here : first + n ≡ place
   here = omega arith
+
   long_enough : n < length words
   long_enough = let e = length-drop first held.state.front in omega arith
+
   same : get_or words n [] ≡ word
   same = get_or-drop first held.state.front n [] ∙ ap (λ m. get_or held.state.front m []) here
+
   rows_are : rows_from held first (words_before held first (place + 1)) ≡ rows_from held first (take n words) ++ word_rows held place word
   rows_are = ap (λ m. rows_from held first (take m words)) (sym count) ∙ rows_next held first n words long_enough
       ∙ ap (λ m. rows_from held first (take n words) ++ word_rows held m (get_or words n [])) here
       ∙ ap (λ w. rows_from held first (take n words) ++ word_rows held place w) same
+
   runs_are : runs_from held.plan (words_before held first (place + 1)) ≡ runs_from held.plan (take n words) + length (allowed_of held.plan word)
   runs_are = ap (λ m. runs_from held.plan (take m words)) (sym count) ∙ ap (runs_from held.plan) (take_more words n [] long_enough)
       ∙ sum_by_push (λ w. length (allowed_of held.plan w)) (take n words) (get_or words n [])
@@ -127,10 +134,13 @@ all_done held piece place p q xs ys from to long now machine end low high done =
 ) where
   front : List Word
   front = held.state.front
+
   rest : List Word
   rest = drop (16 * piece) front
+
   many : length rest ≡ length front - 16 * piece
   many = length-drop (16 * piece) front
+
   by_test : (b : Bool) → leb (length front) place ≡ b → take (place - 16 * piece) rest ≡ take 16 rest
   by_test true e =
       let past = leb-true (length front) place e in
@@ -138,5 +148,6 @@ all_done held piece place p q xs ys from to long now machine end low high done =
   by_test false e =
       let before = leb-false (length front) place e in
       ap (λ n. take n rest) (let is : place - 16 * piece ≡ 16 = omega arith in is)
+
   whole : take (place - 16 * piece) rest ≡ take 16 rest
   whole = by_test (leb (length front) place) refl

@@ -1,5 +1,5 @@
 -- All workers of a step, and what they bring back together. All of it is this project's own.
-use Rattle.std.specs.Prelude.{◌≡◌, ℕ, false, ◌-◌, ◌<◌, List, [], ◌∷◌, ◌++◌, length, slice_index_or}
+use Rattle.std.specs.Prelude.{◌≡◌, ℕ, ◌<◌, List, [], ◌∷◌, ◌++◌, length, slice_index_or}
 use Rattle.nj_claims.specs.Passes.{TableView, PassView, joined_pass}
 use Rattle.nj_pieces.specs.declared.parts.Pieces.{Pieces}
 use Rattle.nj_pieces.specs.Takers.{taken_of}
@@ -8,7 +8,7 @@ use Rattle.nj_rows.specs.declared.Row.{Row}
 use Rattle.nj_expand.specs.Held.{Held}
 use Rattle.nj_expand.specs.Front.{rom_in}
 use Rattle.nj_workers.specs.declared.hand.WorkEnd.{WorkEnd}
-use Rattle.nj_workers.specs.Hands.{MayWork, HasWorked}
+use Rattle.nj_workers.specs.Hands.{HasWorked}
 
 -- a worker's hand before it works: a machine of the cartridge, and a pass of the table that knows nothing; no row is there
 pub record IsSeated (table : TableView) (held : Held) (end : WorkEnd) : Type 0 where

@@ -1,14 +1,13 @@
 -- What a worker has, and what it has done. All of it is this project's own.
-use Rattle.std.specs.Prelude.{◌≡◌, ℕ, Bool, true, false, ◌+◌, ◌*◌, ◌≤◌, ◌<◌, List, ◌++◌, drop, length}
-use Rattle.nj_claims.specs.Passes.{TableView, PassView}
+use Rattle.std.specs.Prelude.{◌≡◌, ℕ, false, ◌+◌, ◌*◌, ◌≤◌, List, ◌++◌, drop, length}
+use Rattle.nj_claims.specs.Passes.{TableView}
 use Rattle.nj_pieces.specs.declared.parts.Pieces.{Pieces}
-use Rattle.nj_pieces.specs.Takers.{count_of, number_of, taken_of, is_done, IsTakerOf}
+use Rattle.nj_pieces.specs.Takers.{count_of, number_of, taken_of, IsTakerOf}
 use Rattle.nj_machine.specs.State.{rom_of}
 use Rattle.nj_rows.specs.declared.Row.{Row}
-use Rattle.nj_expand.specs.Held.{Held}
 use Rattle.nj_expand.specs.Front.{rom_in}
 use Rattle.nj_workers.specs.declared.hand.Hand.{Hand}
-use Rattle.nj_workers.specs.Claimed.{IsSamePass, AddsClaimed}
+use Rattle.nj_workers.specs.Claimed.{AddsClaimed}
 use Rattle.nj_workers.specs.Shares.{pieces_in, rows_of, runs_of}
 
 -- a hand may work: its search is not spent, its machine is of the search's cartridge, its pass is of the table, and its

@@ -3,7 +3,7 @@
 ghost use Rattle.std.specs.Prelude.{true, ◌≡◌, ◌≢◌, ◌<◌, ◌≤◌, ◌+◌, ◌^◌, ◌∷◌, [], All, length, vec_len, vec_capacity};
 ghost use Rattle.nj_workers.specs.Claimed.{AddsClaimed, IsBeaten};
 
-use nj_claims::{Claimed, ClaimTable, Pass};
+use nj_claims::{ClaimTable, Claimed, Pass};
 use nj_expand::{Row, Verdict3};
 use nj_seen::FIRST_CLAIM;
 

@@ -78,7 +78,17 @@ fn serve_all<'a, R: Threads + Wait + Sync, G: Gate, L: Ledger + Send>(
         &|_at: usize, desk: &mut Desk<L>|
             requires { MayWork table.now pieces.now desk.old.end.hand }
             ensures { Served table.entry.now pieces.entry.now desk.old.end desk.new.end desk.old.steps desk.new.steps }
-        { serve(rt, alloc, table, pieces, gate, &mut desk.end, &mut desk.steps) },
+        {
+            serve(
+                rt,
+                alloc,
+                table,
+                pieces,
+                gate,
+                &mut desk.end,
+                &mut desk.steps,
+            )
+        },
     );
 }
 

@@ -49,7 +49,9 @@ pub(crate) fn do_piece<L: Ledger>(
     let first = WORDS * piece;
     let last = words.min(first + WORDS);
     for place in first..last {
-        do_word(search, place, table, machine, pass, image, found, rows, steps);
+        do_word(
+            search, place, table, machine, pass, image, found, rows, steps,
+        );
     }
 }
 

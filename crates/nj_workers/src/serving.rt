@@ -65,7 +65,16 @@ pub(crate) fn serve<'a, R: Wait, G: Gate, L: Ledger>(
     ensures worked { HasWorked table.now pieces.now end.old.hand end.new.hand end.old.rows.items end.new.rows.items steps.old steps.new }
     ensures done { end.new.refused ≡ false → is_done end.new.hand.taker ≡ true }
 {
-    let taken = take_all(rt, alloc, table, pieces, gate, &mut end.hand, &mut end.rows, steps);
+    let taken = take_all(
+        rt,
+        alloc,
+        table,
+        pieces,
+        gate,
+        &mut end.hand,
+        &mut end.rows,
+        steps,
+    );
     end.refused = taken.is_err();
 }
 
@@ -90,7 +99,9 @@ fn take_all<'a, R: Wait, G: Gate, L: Ledger>(
     let mut found = Vec::with_capacity(alloc, inputs)?;
     for _ in rt.forever() {
         rows.reserve(WORDS * inputs)?;
-        if !take_one(rt, table, pieces, gate, hand, image, &mut found, rows, steps) {
+        if !take_one(
+            rt, table, pieces, gate, hand, image, &mut found, rows, steps,
+        ) {
             return Ok(());
         }
     }

@@ -17,9 +17,9 @@ use nj_expand::{
     Row, Search, a_step_is_bounded, live_rows_are_live, live_rows_can_claim,
     live_rows_come_by_words,
 };
-use nj_seen::{claims_are_of_rows, owned_is_fresh, room_is_enough};
 use nj_outside::Gate;
 use nj_pieces::Pieces;
+use nj_seen::{claims_are_of_rows, owned_is_fresh, room_is_enough};
 use nj_steps::Steps;
 use std::alloc::{AllocError, Global};
 use std::sync::Wait;

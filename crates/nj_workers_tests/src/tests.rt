@@ -5,6 +5,7 @@ use nj_outside::{Gate, OpenGate};
 use nj_workers::next_shared;
 use std::alloc::Global;
 use std::marker::Brand;
+use std::process::Abort;
 use std::sync::Wait;
 use std::sync::atomic::{AtomicU64, Ordering};
 use std::sync::ledger::{Blank, Ledger};
@@ -132,19 +133,20 @@ fn ended<R: Threads + Wait + Sync, L: Ledger + Send>(
     Ok((last, search.step(), counted(&steps), others))
 }
 
-// Whether the word at each place, as movies tell it, holds Right in that many steps, the last ones, and nothing before.
-fn holds_right_at_last(alloc: Global, search: &Search) -> Result<bool, Fail> {
-    let mut holds = true;
-    for place in 0..search.front_len() {
-        let movie = search.movie(alloc, place)?;
-        holds &= movie
+// Whether the movie of the word at a place holds Right in that many frames, the last ones, and nothing before.
+fn holds_right_at_last(alloc: Global, search: &Search, place: usize) -> Result<bool, Fail> {
+    if search.spent() || place >= search.front_len() {
+        return Err("no word there".into());
+    }
+    let movie = search.movie(alloc, place)?;
+    Ok(
+        movie
             .pads()
             .iter()
             .rev()
             .enumerate()
-            .all(|(back, pad)| pad.0 == if back < place { 0x80 } else { 0 });
-    }
-    Ok(holds)
+            .all(|(back, pad)| pad.0 == if back < place { 0x80 } else { 0 }),
+    )
 }
 
 // Sixteen steps by two workers, and the seventeenth, whose front is of two pieces, with a meeting: how often one met the
@@ -166,29 +168,42 @@ fn met<R: Threads + Wait + Sync, L: Ledger + Send>(
         met: AtomicU64::new(0),
     };
     step(rt, alloc, &mut search, 2, &gate, &mut steps)?;
+    let mut holds = true;
+    for place in 0..search.front_len() {
+        holds &= holds_right_at_last(alloc, &search, place)?;
+    }
     Ok((
         gate.met.load(Ordering::SeqCst),
         search.front_len(),
-        holds_right_at_last(alloc, &search)?,
+        holds,
         counted(&steps),
     ))
 }
 
+// Asks that so many workers end the search for the goal as one thread does.
+fn win<R: Threads + Wait + Sync + Abort>(rt: &R, alloc: Global, workers: u32) -> Result<(), Fail>
+    requires { (1 ≤ workers) × (workers ≤ 64) }
+{
+    let (last, made, frames, others) = ended::<R, Brand>(rt, alloc, Blank::new(1), workers)?;
+    match last {
+        Stepped::Won { row } => {
+            assert_eq!(rt; row.number, 1);
+            assert_eq!(rt; row.reward, 118);
+            assert_eq!(rt; row.verdict, Verdict3::Win);
+            assert_eq!(rt; row.pad, 0x80);
+        }
+        Stepped::Exhausted | Stepped::Go => assert!(rt; false),
+    }
+    assert_eq!(rt; (made, frames, others), (17, 515, 0));
+    Ok(())
+}
+
 #[test]
 fn any_number_of_workers_wins_as_one_thread(rt: HostRuntime) -> Result<(), Fail> {
-    for workers in [1, 2, 3, 64] {
-        let (last, made, frames, others) = ended::<HostRuntime, Brand>(&rt, rt.alloc(), Blank::new(1), workers)?;
-        match last {
-            Stepped::Won { row } => {
-                assert_eq!(rt; row.number, 1);
-                assert_eq!(rt; row.reward, 118);
-                assert_eq!(rt; row.verdict, Verdict3::Win);
-                assert_eq!(rt; row.pad, 0x80);
-            }
-            Stepped::Exhausted | Stepped::Go => assert!(rt; false),
-        }
-        assert_eq!(rt; (made, frames, others), (17, 515, 0));
-    }
+    win(&rt, rt.alloc(), 1)?;
+    win(&rt, rt.alloc(), 2)?;
+    win(&rt, rt.alloc(), 3)?;
+    win(&rt, rt.alloc(), 64)?;
     Ok(())
 }
 

@@ -1,5 +1,5 @@
 -- One worker more stands up.
-use Rattle.std.proofs.Common.{◌≡◌, ◌≤◌, ◌+◌, length, refl, ap, ◌∙◌, arith, ℕ}
+use Rattle.std.proofs.Common.{length, refl, ap, ◌∙◌, arith}
 use Rattle.nj_workers.specs.declared.desks.Desk.{Desk}
 use Rattle.nj_workers.proofs.Sitting.{still_back, begun_back, over_back}
 use Rattle.nj_workers.proofs.desks.stand_up.Goals as goal

@@ -1,5 +1,5 @@
 -- One word more.
-use Rattle.std.proofs.Common.{◌≤◌, ◌+◌, ◌-◌, ◌*◌, arith, refl, sym, subst, ◌∙◌, min}
+use Rattle.std.proofs.Common.{◌≤◌, ◌+◌, ◌-◌, ◌*◌, arith, refl, ◌∙◌}
 use Rattle.std.specs.Prelude.{vec_len}
 use Rattle.nj_workers.proofs.Words.{none_done, one_done, still_room, all_done}
 use Rattle.nj_workers.proofs.piece.do_piece.Goals as goal

@@ -1,8 +1,6 @@
 -- One piece more.
-use Rattle.std.proofs.Common.{refl, rules, ap, ◌∙◌, ◌≡◌, ◌≤◌, length, arith}
+use Rattle.std.proofs.Common.{refl, rules, ap, ◌∙◌, ◌≡◌, arith}
 use Rattle.nj_search_defs.specs.Game.{Bounds}
-use Rattle.std.specs.Prelude.{vec_capacity}
-use Rattle.nj_expand.specs.Front.{size_in}
 use Rattle.nj_workers.proofs.Turns.{took_none, took_next}
 use Rattle.nj_workers.proofs.serving.take_all.Goals as goal
 

@@ -1,8 +1,7 @@
 -- One worker more is back.
-use Rattle.std.proofs.Common.{◌≡◌, ◌≤◌, ◌+◌, ◌++◌, [], length, refl, sym, ap, subst, ◌∙◌, arith, ℕ, Ok, Err}
-use Rattle.std.specs.Prelude.{OnOk}
+use Rattle.std.proofs.Common.{◌++◌, length, refl, ap, ◌∙◌, arith}
 use Rattle.nj_claims.specs.Passes.{PassView}
-use Rattle.nj_workers.specs.Desks.{joined_all, rows_all}
+use Rattle.nj_workers.specs.Desks.{rows_all}
 use Rattle.nj_workers.proofs.Together.{taker_of}
 use Rattle.nj_workers.proofs.Sitting.{still_back, begun_back, over_back}
 use Rattle.nj_workers.proofs.Backs.{joined_next, rows_next, own_next, joined_end, rows_end}

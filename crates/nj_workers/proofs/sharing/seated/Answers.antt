@@ -1,6 +1,5 @@
 -- One hand more.
-use Rattle.std.proofs.Common.{◌≡◌, ◌≤◌, ◌+◌, length, refl, sym, ap, subst, ◌∙◌, arith, rules}
-use Rattle.std.specs.Prelude.{vec_len}
+use Rattle.std.proofs.Common.{length, refl, sym, ap, ◌∙◌, arith, rules}
 use Rattle.nj_claims.specs.Passes.{first_pass}
 use Rattle.nj_workers.proofs.Seating.{of_cartridge, seated_none, blank_given, seated_more, lent_more}
 use Rattle.nj_workers.proofs.sharing.seated.Goals as goal

@@ -1,6 +1,5 @@
 -- All that the workers bring back.
-use Rattle.std.proofs.Common.{◌≡◌, ◌≤◌, ◌*◌, refl, sym, ap, subst, ◌∙◌, arith, length, List, ℕ, rules}
-use Rattle.std.specs.Prelude.{vec_len, vec_capacity}
+use Rattle.std.proofs.Common.{◌≡◌, ◌*◌, sym, subst, arith, length, ℕ}
 use Rattle.nj_expand.specs.Held.{candidates_in}
 use Rattle.nj_workers.specs.Counted.{AreCounted}
 use Rattle.nj_workers.proofs.Counters.{counted_none}
@@ -37,8 +36,15 @@ returned-added-requires-clause-others g c =
 
 pub returned-added-requires-clause-room : goal.returned-added-requires-clause-room
 returned-added-requires-clause-room g c =
-    let many : length c.work_all.new.ends.items ≡ c.args.workers = many_news c.args.table.now c.in_ok-pieces.pieces c.args.search.now c.args.workers c.in_ok-ends.ends.items c.work_all.new.ends.items c.args.steps.now.items c.work_all.new.steps.items c.in_ok-pieces.takers.items (record { count = count_is c.args.search.now c.front_len-words.result c.in_ok-pieces.pieces c.front_len-words.ensures.len c.in_ok-pieces.ensures.count; many = c.in_ok-pieces.ensures.workers; are = c.in_ok-pieces.ensures.takers; none = c.in_ok-pieces.ensures.none_taken; seated = c.in_ok-ends.ensures.seated;
-    same = c.in_ok-ends.ensures.takers; served = c.in_ok-work_all.ensures.served }) in
+    let many : length c.work_all.new.ends.items ≡ c.args.workers = many_news c.args.table.now c.in_ok-pieces.pieces c.args.search.now c.args.workers c.in_ok-ends.ends.items c.work_all.new.ends.items c.args.steps.now.items c.work_all.new.steps.items c.in_ok-pieces.takers.items (record {
+      count = count_is c.args.search.now c.front_len-words.result c.in_ok-pieces.pieces c.front_len-words.ensures.len c.in_ok-pieces.ensures.count;
+      many = c.in_ok-pieces.ensures.workers;
+      are = c.in_ok-pieces.ensures.takers;
+      none = c.in_ok-pieces.ensures.none_taken;
+      seated = c.in_ok-ends.ensures.seated;
+      same = c.in_ok-ends.ensures.takers;
+      served = c.in_ok-work_all.ensures.served;
+    }) in
     let long = c.work_all.new.ends.ok.0 in
     let dealt = c.in_ok-pieces.ensures.takers.many in
     let asked = c.in_ok-pieces.ensures.workers in
@@ -56,45 +62,94 @@ pub returns-in_err-added-clause-frames : goal.returns-in_err-added-clause-frames
 returns-in_err-added-clause-frames g c =
     counted_after c.args.table.now c.in_ok-pieces.pieces c.args.search.now c.args.workers c.in_ok-ends.ends.items c.work_all.new.ends.items c.args.steps.now.items c.work_all.new.steps.items c.in_ok-pieces.takers.items
     c.returned-added.new.takers.items c.gather-left.result.items (c.live_rows_come_by_words.ensures.runs c.args.search.now)
-    (record { count = count_is c.args.search.now c.front_len-words.result c.in_ok-pieces.pieces c.front_len-words.ensures.len c.in_ok-pieces.ensures.count; many = c.in_ok-pieces.ensures.workers; are = c.in_ok-pieces.ensures.takers; none = c.in_ok-pieces.ensures.none_taken; seated = c.in_ok-ends.ensures.seated;
-    same = c.in_ok-ends.ensures.takers; served = c.in_ok-work_all.ensures.served }) c.returned-added.ensures.takers c.gather-left.ensures.whole
+    (record {
+      count = count_is c.args.search.now c.front_len-words.result c.in_ok-pieces.pieces c.front_len-words.ensures.len c.in_ok-pieces.ensures.count;
+      many = c.in_ok-pieces.ensures.workers;
+      are = c.in_ok-pieces.ensures.takers;
+      none = c.in_ok-pieces.ensures.none_taken;
+      seated = c.in_ok-ends.ensures.seated;
+      same = c.in_ok-ends.ensures.takers;
+      served = c.in_ok-work_all.ensures.served;
+    }) c.returned-added.ensures.takers c.gather-left.ensures.whole
 
 pub returns-then-not-is_empty-clause-frames : goal.returns-then-not-is_empty-clause-frames
 returns-then-not-is_empty-clause-frames g c =
     counted_after c.args.table.now c.in_ok-pieces.pieces c.args.search.now c.args.workers c.in_ok-ends.ends.items c.work_all.new.ends.items c.args.steps.now.items c.work_all.new.steps.items c.in_ok-pieces.takers.items
     c.returned-added.new.takers.items c.gather-left.result.items (c.live_rows_come_by_words.ensures.runs c.args.search.now)
-    (record { count = count_is c.args.search.now c.front_len-words.result c.in_ok-pieces.pieces c.front_len-words.ensures.len c.in_ok-pieces.ensures.count; many = c.in_ok-pieces.ensures.workers; are = c.in_ok-pieces.ensures.takers; none = c.in_ok-pieces.ensures.none_taken; seated = c.in_ok-ends.ensures.seated;
-    same = c.in_ok-ends.ensures.takers; served = c.in_ok-work_all.ensures.served }) c.returned-added.ensures.takers c.gather-left.ensures.whole
+    (record {
+      count = count_is c.args.search.now c.front_len-words.result c.in_ok-pieces.pieces c.front_len-words.ensures.len c.in_ok-pieces.ensures.count;
+      many = c.in_ok-pieces.ensures.workers;
+      are = c.in_ok-pieces.ensures.takers;
+      none = c.in_ok-pieces.ensures.none_taken;
+      seated = c.in_ok-ends.ensures.seated;
+      same = c.in_ok-ends.ensures.takers;
+      served = c.in_ok-work_all.ensures.served;
+    }) c.returned-added.ensures.takers c.gather-left.ensures.whole
 
 pub returns-clause-frames : goal.returns-clause-frames
 returns-clause-frames g c =
     counted_after c.args.table.now c.in_ok-pieces.pieces c.args.search.now c.args.workers c.in_ok-ends.ends.items c.work_all.new.ends.items c.args.steps.now.items c.work_all.new.steps.items c.in_ok-pieces.takers.items
     c.returned-added.new.takers.items c.gather-left.result.items (c.live_rows_come_by_words.ensures.runs c.args.search.now)
-    (record { count = count_is c.args.search.now c.front_len-words.result c.in_ok-pieces.pieces c.front_len-words.ensures.len c.in_ok-pieces.ensures.count; many = c.in_ok-pieces.ensures.workers; are = c.in_ok-pieces.ensures.takers; none = c.in_ok-pieces.ensures.none_taken; seated = c.in_ok-ends.ensures.seated;
-    same = c.in_ok-ends.ensures.takers; served = c.in_ok-work_all.ensures.served }) c.returned-added.ensures.takers c.gather-left.ensures.whole
+    (record {
+      count = count_is c.args.search.now c.front_len-words.result c.in_ok-pieces.pieces c.front_len-words.ensures.len c.in_ok-pieces.ensures.count;
+      many = c.in_ok-pieces.ensures.workers;
+      are = c.in_ok-pieces.ensures.takers;
+      none = c.in_ok-pieces.ensures.none_taken;
+      seated = c.in_ok-ends.ensures.seated;
+      same = c.in_ok-ends.ensures.takers;
+      served = c.in_ok-work_all.ensures.served;
+    }) c.returned-added.ensures.takers c.gather-left.ensures.whole
 
 pub returns-clause-claimed : goal.returns-clause-claimed
 returns-clause-claimed g c =
     claimed_after c.args.table.now c.in_ok-pieces.pieces c.args.search.now c.args.workers c.in_ok-ends.ends.items c.work_all.new.ends.items c.args.steps.now.items c.work_all.new.steps.items c.in_ok-pieces.takers.items
     c.returned-added.new.takers.items c.gather-left.result.items c.seated.new.pass c.returned-added.new.pass _ c.returned-added.new.rows.items (c.live_rows_come_by_words.ensures.rows c.args.search.now)
-    (record { count = count_is c.args.search.now c.front_len-words.result c.in_ok-pieces.pieces c.front_len-words.ensures.len c.in_ok-pieces.ensures.count; many = c.in_ok-pieces.ensures.workers; are = c.in_ok-pieces.ensures.takers; none = c.in_ok-pieces.ensures.none_taken; seated = c.in_ok-ends.ensures.seated;
-    same = c.in_ok-ends.ensures.takers; served = c.in_ok-work_all.ensures.served }) c.returned-added.ensures.takers c.gather-left.ensures.whole
+    (record {
+      count = count_is c.args.search.now c.front_len-words.result c.in_ok-pieces.pieces c.front_len-words.ensures.len c.in_ok-pieces.ensures.count;
+      many = c.in_ok-pieces.ensures.workers;
+      are = c.in_ok-pieces.ensures.takers;
+      none = c.in_ok-pieces.ensures.none_taken;
+      seated = c.in_ok-ends.ensures.seated;
+      same = c.in_ok-ends.ensures.takers;
+      served = c.in_ok-work_all.ensures.served;
+    }) c.returned-added.ensures.takers c.gather-left.ensures.whole
     (empty_list c.gather-left.result.items _ c.is_empty.result c.gather-left.result.ok.0 c.is_empty.ensures c.if-not-is_empty.false) c.in_ok-ends.ensures.pass c.returned-added.ensures.pass c.in_ok-added.ensures.rows
 
 pub returns-clause-own : goal.returns-clause-own
 returns-clause-own g c =
     (pass_after c.args.table.now c.in_ok-pieces.pieces c.args.search.now c.args.workers c.in_ok-ends.ends.items c.work_all.new.ends.items c.args.steps.now.items c.work_all.new.steps.items c.in_ok-pieces.takers.items
-    c.seated.new.pass c.returned-added.new.pass (record { count = count_is c.args.search.now c.front_len-words.result c.in_ok-pieces.pieces c.front_len-words.ensures.len c.in_ok-pieces.ensures.count; many = c.in_ok-pieces.ensures.workers; are = c.in_ok-pieces.ensures.takers; none = c.in_ok-pieces.ensures.none_taken; seated = c.in_ok-ends.ensures.seated;
-    same = c.in_ok-ends.ensures.takers; served = c.in_ok-work_all.ensures.served }) c.in_ok-ends.ensures.pass c.returned-added.ensures.pass).0
+    c.seated.new.pass c.returned-added.new.pass (record {
+      count = count_is c.args.search.now c.front_len-words.result c.in_ok-pieces.pieces c.front_len-words.ensures.len c.in_ok-pieces.ensures.count;
+      many = c.in_ok-pieces.ensures.workers;
+      are = c.in_ok-pieces.ensures.takers;
+      none = c.in_ok-pieces.ensures.none_taken;
+      seated = c.in_ok-ends.ensures.seated;
+      same = c.in_ok-ends.ensures.takers;
+      served = c.in_ok-work_all.ensures.served;
+    }) c.in_ok-ends.ensures.pass c.returned-added.ensures.pass).0
 
 pub returns-clause-root : goal.returns-clause-root
 returns-clause-root g c =
     (pass_after c.args.table.now c.in_ok-pieces.pieces c.args.search.now c.args.workers c.in_ok-ends.ends.items c.work_all.new.ends.items c.args.steps.now.items c.work_all.new.steps.items c.in_ok-pieces.takers.items
-    c.seated.new.pass c.returned-added.new.pass (record { count = count_is c.args.search.now c.front_len-words.result c.in_ok-pieces.pieces c.front_len-words.ensures.len c.in_ok-pieces.ensures.count; many = c.in_ok-pieces.ensures.workers; are = c.in_ok-pieces.ensures.takers; none = c.in_ok-pieces.ensures.none_taken; seated = c.in_ok-ends.ensures.seated;
-    same = c.in_ok-ends.ensures.takers; served = c.in_ok-work_all.ensures.served }) c.in_ok-ends.ensures.pass c.returned-added.ensures.pass).1
+    c.seated.new.pass c.returned-added.new.pass (record {
+      count = count_is c.args.search.now c.front_len-words.result c.in_ok-pieces.pieces c.front_len-words.ensures.len c.in_ok-pieces.ensures.count;
+      many = c.in_ok-pieces.ensures.workers;
+      are = c.in_ok-pieces.ensures.takers;
+      none = c.in_ok-pieces.ensures.none_taken;
+      seated = c.in_ok-ends.ensures.seated;
+      same = c.in_ok-ends.ensures.takers;
+      served = c.in_ok-work_all.ensures.served;
+    }) c.in_ok-ends.ensures.pass c.returned-added.ensures.pass).1
 
 pub returns-clause-joined : goal.returns-clause-joined
 returns-clause-joined g c =
     (pass_after c.args.table.now c.in_ok-pieces.pieces c.args.search.now c.args.workers c.in_ok-ends.ends.items c.work_all.new.ends.items c.args.steps.now.items c.work_all.new.steps.items c.in_ok-pieces.takers.items
-    c.seated.new.pass c.returned-added.new.pass (record { count = count_is c.args.search.now c.front_len-words.result c.in_ok-pieces.pieces c.front_len-words.ensures.len c.in_ok-pieces.ensures.count; many = c.in_ok-pieces.ensures.workers; are = c.in_ok-pieces.ensures.takers; none = c.in_ok-pieces.ensures.none_taken; seated = c.in_ok-ends.ensures.seated;
-    same = c.in_ok-ends.ensures.takers; served = c.in_ok-work_all.ensures.served }) c.in_ok-ends.ensures.pass c.returned-added.ensures.pass).2
+    c.seated.new.pass c.returned-added.new.pass (record {
+      count = count_is c.args.search.now c.front_len-words.result c.in_ok-pieces.pieces c.front_len-words.ensures.len c.in_ok-pieces.ensures.count;
+      many = c.in_ok-pieces.ensures.workers;
+      are = c.in_ok-pieces.ensures.takers;
+      none = c.in_ok-pieces.ensures.none_taken;
+      seated = c.in_ok-ends.ensures.seated;
+      same = c.in_ok-ends.ensures.takers;
+      served = c.in_ok-work_all.ensures.served;
+    }) c.in_ok-ends.ensures.pass c.returned-added.ensures.pass).2

@@ -1,5 +1,5 @@
 -- The live candidates are no more than the candidates.
-use Rattle.std.proofs.Common.{◌≡◌, ◌≤◌, ap, sym, ◌∙◌, arith}
+use Rattle.std.proofs.Common.{ap, sym, ◌∙◌}
 use Rattle.nj_search_defs.specs.Game.{Bounds}
 use Rattle.nj_workers.proofs.Together.{few_live}
 use Rattle.nj_workers.proofs.step.lives_are_few.Goals as goal

@@ -1,5 +1,5 @@
 -- The rows and the table serve the end of the step.
-use Rattle.std.proofs.Common.{◌≡◌, ◌<◌, refl, arith, ap, ◌∙◌}
+use Rattle.std.proofs.Common.{refl, arith}
 use Rattle.std.proofs.lemmas.List.Sorted.{IsPermutation-refl}
 use Rattle.nj_claims.specs.Passes.{first_pass}
 use Rattle.nj_expand.specs.Held.{live_rows}
