@@ -4,6 +4,7 @@
 mod laws;
 mod planning;
 mod searching;
+mod sharing;
 #[cfg(test)]
 mod tests;
 
@@ -12,5 +13,7 @@ pub use nj_ines::Cart;
 pub use nj_movie::Movie;
 pub use nj_script::Script;
 pub use nj_steps::Steps;
+pub use nj_workers::Gate;
 pub use planning::{Limits, Plan, PlanRefused, cost};
 pub use searching::{Outcome, search_plain};
+pub use sharing::search_shared;
