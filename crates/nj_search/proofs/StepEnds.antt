@@ -20,7 +20,7 @@ use Rattle.nj_expand.specs.Held.{Held, next_in}
 use Rattle.nj_expand.specs.Step.{IsStepBy, IsStep}
 use Rattle.nj_search.specs.Ends.{told_of}
 use Rattle.nj_search.specs.Rests.{rest_of, IsFurther}
-use Rattle.nj_search.specs.Starts.{CanEnd, IsEnded}
+use Rattle.nj_search.specs.Starts.{CanEnd, EndsIn, IsEnded}
 use Rattle.nj_search.specs.declared.searching.Outcome.{Outcome}
 use Rattle.nj_search.specs.declared.searching.Outcome.TheVariants.{Won, Exhausted}
 
@@ -239,14 +239,14 @@ can_end old new Go h = tt
 
 -- what a step ends the search with is told of the search before it
 pub told_step : (old new : Held) (stepped : Stepped) (told : Option Outcome) → IsStep old stepped new → IsEnded stepped new told
-    → IfSome told (λ outcome. (steps : ℕ) → told_of old.plan (rest_of old (steps + 1)) ≡ outcome)
+    → IfSome told (EndsIn old)
 told_step old new (WonRow row) None h e = tt
 told_step old new (WonRow row) (Some outcome) h e = told_before old new outcome (winner_in old row new h).0 e
 told_step old new NothingKept told h e =
-    subst (λ (t : Option Outcome). IfSome t (λ outcome. (steps : ℕ) → told_of old.plan (rest_of old (steps + 1)) ≡ outcome)) (sym e)
+    subst (λ (t : Option Outcome). IfSome t (EndsIn old)) (sym e)
     (exhausted_told old new new.state.step h refl)
 told_step old new Go told h e =
-    subst (λ (t : Option Outcome). IfSome t (λ outcome. (steps : ℕ) → told_of old.plan (rest_of old (steps + 1)) ≡ outcome)) (sym e) tt
+    subst (λ (t : Option Outcome). IfSome t (EndsIn old)) (sym e) tt
 
 -- and where it ends nothing the search is one step further
 pub further_step : StepsAreCounted → (old new : Held) (stepped : Stepped) (told : Option Outcome) → old.spent ≡ false → IsStep old stepped new

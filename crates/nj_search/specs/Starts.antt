@@ -32,9 +32,13 @@ CanEnd (Won row) held = IsStep held (Won row) held
 CanEnd Exhausted held = Unit {0}
 CanEnd Go held = Unit {0}
 
--- what is told of a step: of a winner what is told however many steps may follow, that nothing was kept, or nothing
+-- the next step ends the search with this outcome, however many steps may follow
+abbrev pub EndsIn : Held → Outcome → Type 0
+EndsIn held outcome = (steps : ℕ) → told_of held.plan (rest_of held (steps + 1)) ≡ outcome
+
+-- what is told of a step: the outcome of a step that was won, that nothing was kept, or nothing
 abbrev pub IsEnded : Stepped → Held → Option Outcome → Type 0
-IsEnded (Won row) held (Some outcome) = (steps : ℕ) → told_of held.plan (rest_of held (steps + 1)) ≡ outcome
+IsEnded (Won row) held (Some outcome) = EndsIn held outcome
 IsEnded (Won row) held None = ⊥
 IsEnded Exhausted held told = told ≡ Some (ToldExhausted (held.state.step + 1))
 IsEnded Go held told = told ≡ None

@@ -6,7 +6,7 @@ ghost use Rattle.nj_expand.specs.declared.Stepped.{Stepped};
 ghost use Rattle.nj_expand.specs.Step.{IsStep};
 ghost use Rattle.nj_search.specs.Ends.{outcome_of, told_of, frames_most};
 ghost use Rattle.nj_search.specs.Rests.{rest_of, frames_a_step, IsFurther};
-ghost use Rattle.nj_search.specs.Starts.{IsBegun, CanEnd, IsEnded};
+ghost use Rattle.nj_search.specs.Starts.{CanEnd, EndsIn, IsBegun, IsEnded};
 
 use crate::{Movie, Plan, Steps};
 use nj_expand::{Judged, Row, Search, Stepped};
@@ -88,7 +88,7 @@ fn won(alloc: Global, search: &Search, row: &Row) -> Result<Outcome, AllocError>
     requires spent { search.now.spent ≡ false }
     requires row { IsStep search.now (Stepped.Won row.now) search.now }
     requires step { search.now.state.step ≤ 16777215 }
-    ensures { IfOk result (λ outcome. (steps : ℕ) → told_of search.now.plan (rest_of search.now (steps + 1)) ≡ outcome) }
+    ensures { IfOk result (EndsIn search.now) }
 {
     winners_tell_parents();
     allowed_pads_come_once();
@@ -138,7 +138,7 @@ fn step_on<L: Ledger>(
 ) -> Result<Option<Outcome>, AllocError>
     requires spent { search.old.spent ≡ false }
     requires step { search.old.state.step < 16777215 }
-    ensures ended { IfOk result (λ told. IfSome told (λ outcome. (steps : ℕ) → told_of search.old.plan (rest_of search.old (steps + 1)) ≡ outcome)) }
+    ensures ended { IfOk result (λ told. IfSome told (EndsIn search.old)) }
     ensures further { IfOk result (λ told. IfNone told (IsFurther search.old search.new)) }
     ensures frames { steps.new ≤ steps.old + frames_a_step search.old }
     ensures never_falls { steps.old ≤ steps.new }

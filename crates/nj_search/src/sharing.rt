@@ -5,7 +5,7 @@ ghost use Rattle.nj_expand.specs.Held.{candidates_in, kept_in};
 ghost use Rattle.nj_workers.specs.Counted.{AreCounted};
 ghost use Rattle.nj_search.specs.Ends.{outcome_of, told_of, frames_most};
 ghost use Rattle.nj_search.specs.Rests.{rest_of, frames_a_step, IsFurther};
-ghost use Rattle.nj_search.specs.Starts.{IsBegun};
+ghost use Rattle.nj_search.specs.Starts.{EndsIn, IsBegun};
 
 use crate::searching::{Begun, at_limit, begin, ended};
 use crate::{Gate, Outcome, Plan, Steps};
@@ -32,7 +32,8 @@ fn begin_first<L: Ledger>(
 
 // Candidates and those that are kept cost no more frames than a full front's.
 fn frames_are_bounded(search: &Search)
-    ensures { search.now.plan.script.hold * (length (candidates_in search.now) + length (kept_in search.now)) ≤ frames_a_step search.now }
+    ensures { search.now.plan.script.hold * (length (candidates_in search.now) + length (kept_in search.now))
+        ≤ frames_a_step search.now }
 {
     a_step_is_bounded();
     let _bounds = search.bounds();
@@ -52,7 +53,7 @@ fn step_shared<R: Threads + Wait + Sync, G: Gate, L: Ledger + Send>(
     requires step { search.old.state.step < 16777215 }
     requires workers { (1 ≤ workers) × (workers ≤ 64) }
     requires counters { workers ≤ length steps.old.items }
-    ensures ended { IfOk result (λ told. IfSome told (λ outcome. (steps : ℕ) → told_of search.old.plan (rest_of search.old (steps + 1)) ≡ outcome)) }
+    ensures ended { IfOk result (λ told. IfSome told (EndsIn search.old)) }
     ensures further { IfOk result (λ told. IfNone told (IsFurther search.old search.new)) }
     ensures frames { AreCounted workers steps.old.items steps.new.items (frames_a_step search.old) }
 {

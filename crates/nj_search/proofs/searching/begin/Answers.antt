@@ -1,4 +1,4 @@
-use Rattle.std.proofs.Common.{◌≡◌, sym, ◌∙◌}
+use Rattle.std.proofs.Common.{sym, ◌∙◌}
 use Rattle.nj_search.proofs.Going.{begun, going, start_wins, start_fails}
 use Rattle.nj_search.proofs.searching.begin.Goals as goal
 

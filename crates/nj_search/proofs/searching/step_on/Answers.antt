@@ -1,9 +1,7 @@
-use Rattle.std.proofs.Common.{◌≡◌, ℕ, ◌+◌}
 use Rattle.std.specs.Prelude.{IfSome, IfNone}
 use Rattle.std.proofs.lemmas.Result.{IfOk-weaker}
-use Rattle.nj_search.specs.Ends.{told_of}
-use Rattle.nj_search.specs.Rests.{rest_of, IsFurther}
-use Rattle.nj_search.specs.Starts.{IsEnded}
+use Rattle.nj_search.specs.Rests.{IsFurther}
+use Rattle.nj_search.specs.Starts.{EndsIn, IsEnded}
 use Rattle.nj_search.proofs.StepEnds.{unspent_after, step_after, can_end, told_step, further_step}
 use Rattle.nj_search.proofs.searching.step_on.Goals as goal
 
@@ -20,7 +18,7 @@ pub returns-clause-ended : goal.returns-clause-ended
 returns-clause-ended g c =
     let old = c.args.search.now in
     IfOk-weaker c.ended.result (λ told. IsEnded c.in_ok-stepped.stepped c.next_single.new.search told)
-    (λ told. IfSome told (λ outcome. (steps : ℕ) → told_of old.plan (rest_of old (steps + 1)) ≡ outcome))
+    (λ told. IfSome told (EndsIn old))
     (λ told h. told_step _ _ _ told c.in_ok-stepped.ensures.next h) c.ended.ensures
 
 pub returns-clause-further : goal.returns-clause-further

@@ -4,7 +4,7 @@ use Rattle.nj_search_defs.specs.Outcome.{LimitAt}
 use Rattle.nj_search.specs.Ends.{told_of}
 use Rattle.nj_search.specs.Rests.{rest_of, frames_a_step}
 use Rattle.nj_search.proofs.Going.{none_made, one_more_made, same_frames, told_at_end, told_at_limit}
-use Rattle.nj_search.proofs.Counters.{none_counted, step_counted, steps_counted, last_counted}
+use Rattle.nj_search.proofs.Counters.{none_counted, step_counted, last_counted}
 use Rattle.nj_search.proofs.sharing.share_on.Goals as goal
 
 pub loop-made-init : goal.loop-made-init
