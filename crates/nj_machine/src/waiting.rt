@@ -1,6 +1,7 @@
 //! Loops that wait: their turns are passed over.
 
-ghost use Rattle.std.specs.Prelude.{◌≡◌, ◌<◌, ◌≤◌, ℕ};
+ghost use Rattle.std.specs.Prelude.{◌≡◌, ◌<◌, ◌≤◌, ℕ, None};
+ghost use Rattle.nj_dots.specs.Screen.{nmi_line_of};
 ghost use Rattle.nj_banked.specs.Banked.{pattern_of};
 ghost use Rattle.nj_turns.specs.Dry.{begun};
 ghost use Rattle.nj_turns.specs.Turn.{IsTurn};
@@ -14,6 +15,7 @@ use nj_catchup::CatchUp;
 use nj_cpu::Cpu;
 use nj_dots::Picture;
 use nj_ppu::DotPicture;
+use nj_turns::{turn_cycles, turns_are_the_same_on_each_resting_bus};
 
 /// A picture by which a machine knows whether it is to pass over the turns of loops that wait. The answer changes no
 /// frame, only how fast it is run.
@@ -37,6 +39,7 @@ impl Waiting for DotPicture {
 }
 
 /// What a frame keeps to find loops that wait. It decides nothing but where turns are looked for.
+#[derive(Drop)]
 pub(crate) struct Watch {
     // The processor after the last jump back.
     anchor: Cpu,
@@ -81,6 +84,7 @@ impl<P: Picture + Drop + Waiting> Console<P> {
         if cycles == 0 {
             return false;
         }
+        turns_are_the_same_on_each_resting_bus::<Cells<P>>();
         let before_event = self.recorder.cells.picture.dots_to_event() - 1;
         let dots = before_event / (6 * cycles) * (6 * cycles);
         self.recorder.cells.picture.run(dots, self.recorder.cells.board.pattern());
@@ -109,7 +113,8 @@ impl<P: Picture + Drop + Waiting> Console<P> {
         ensures ready { IsReady self.new }
         ensures cartridge { rom_of self.new ≡ rom_of self.old }
     {
-        if P::passes_turns() && self.cpu.pc <= before && watch.barred != Some(self.cpu.pc) {
+        let pc = self.cpu.pc;
+        if P::passes_turns() && pc <= before && watch.barred != Some(pc) {
             self.look_back(watch);
         }
     }
