@@ -10,7 +10,8 @@ use Rattle.nj_expand.specs.Front.{rom_in}
 use Rattle.nj_workers.specs.declared.hand.WorkEnd.{WorkEnd}
 use Rattle.nj_workers.specs.Hands.{HasWorked}
 
--- a worker's hand before it works: a machine of the cartridge, and a pass of the table that knows nothing; no row is there
+-- a worker's hand before it works: a machine of the cartridge, and a pass of the table that knows nothing; no row is
+-- there
 pub record IsSeated (table : TableView) (held : Held) (end : WorkEnd) : Type 0 where
   pub search : end.hand.search.now ≡ held
   pub cartridge : rom_of end.hand.machine ≡ rom_in held.plan
@@ -28,7 +29,8 @@ EachPair {X} R xs ys = (k : ℕ) (d : X) → k < length xs → R (slice_index_or
 abbrev pub Served : TableView → Pieces → WorkEnd → WorkEnd → ℕ → ℕ → Type 0
 Served table pieces old new from to = HasWorked table pieces old.hand new.hand old.rows.items new.rows.items from to
 
--- what all workers bring back, each with the counter at its place, the counters past the last worker's being as they were
+-- what all workers bring back, each with the counter at its place, the counters past the last worker's being as they
+-- were
 abbrev pub AllServed : TableView → Pieces → List WorkEnd → List WorkEnd → List ℕ → List ℕ → Type 0
 AllServed table pieces [] [] from to = to ≡ from
 AllServed table pieces (old ∷ olds) (new ∷ news) (count ∷ counts) (after ∷ afters) =

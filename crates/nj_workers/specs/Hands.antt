@@ -23,6 +23,14 @@ pub record MayWork (table : TableView) (pieces : Pieces) (hand : Hand) : Type 0 
 abbrev pub taken_between : Hand → Hand → List ℕ
 taken_between before after = drop (length (taken_of before.taker)) (taken_of after.taker)
 
+-- the rows of the live candidates of the pieces that were taken between two moments
+abbrev pub rows_between : Hand → Hand → List Row
+rows_between before after = rows_of before.search.now (taken_between before after)
+
+-- the most frames that the candidates of these pieces cost
+abbrev pub frames_between : Hand → Hand → ℕ
+frames_between before after = before.search.now.plan.script.hold * runs_of before.search.now (taken_between before after)
+
 -- the hand of the same worker after these pieces too: it may go on; the keys of their live candidates were claimed, and
 -- their rows kept; and each of their candidates cost at most the frames of a step
 pub record HasWorked (table : TableView) (pieces : Pieces) (before after : Hand) (old new : List Row) (from to : ℕ) : Type 0 where

@@ -17,10 +17,10 @@ use std::sync::Wait;
 use std::sync::ledger::Ledger;
 use std::thread::Threads;
 
-/// Makes the next step by so many workers, from 1 to 64: they run the candidates of the front's pieces, each in a thread
-/// where one can be made, and claim their keys in one table; the step ends as one thread would end it. Each worker counts
-/// frames by the counter at its place, and the first one those of the end as well. After want of memory the search is
-/// spent.
+/// Makes the next step by so many workers, from 1 to 64: they run the candidates of the front's pieces, each in a
+/// thread where one can be made, and claim their keys in one table; the step ends as one thread would end it. Each
+/// worker counts frames by the counter at its place, and the first one those of the end as well. After want of memory
+/// the search is spent.
 pub fn next_shared<R: Threads + Wait + Sync, G: Gate, L: Ledger + Send>(
     rt: &R,
     search: &mut Search,

@@ -4,8 +4,7 @@ ghost use Rattle.std.specs.Prelude.{◌≡◌, ◌≤◌, ◌+◌, ◌*◌, ◌+
 ghost use Rattle.nj_expand.specs.Front.{size_in};
 ghost use Rattle.nj_pieces.specs.Takers.{number_of, taken_of, is_done};
 ghost use Rattle.nj_workers.specs.Claimed.{IsSamePass, AreClaimed};
-ghost use Rattle.nj_workers.specs.Shares.{rows_of, runs_of};
-ghost use Rattle.nj_workers.specs.Hands.{MayWork, HasWorked, taken_between};
+ghost use Rattle.nj_workers.specs.Hands.{MayWork, HasWorked, taken_between, rows_between, frames_between};
 
 use crate::hand::{Hand, WorkEnd};
 use crate::piece::{WORDS, do_piece};
@@ -18,9 +17,9 @@ use std::alloc::{AllocError, Global};
 use std::sync::Wait;
 use std::sync::ledger::Ledger;
 
-/// Takes pieces, until none is left or memory is wanted, which is told before one is taken; so each piece that was taken is
-/// done. The key of each live candidate of these pieces is claimed once. A row is dropped only where a smaller number was
-/// seen for its key and it does not win.
+/// Takes pieces, until none is left or memory is wanted, which is told before one is taken; so each piece that was
+/// taken is done. The key of each live candidate of these pieces is claimed once. A row is dropped only where a smaller
+/// number was seen for its key and it does not win.
 pub fn work<'a, R: Wait, G: Gate, L: Ledger>(
     rt: &R,
     alloc: Global,
@@ -32,9 +31,9 @@ pub fn work<'a, R: Wait, G: Gate, L: Ledger>(
 ) -> WorkEnd<'a>
     requires { MayWork table.now pieces.now hand }
     ensures pieces { taken_of result.hand.taker ≡ taken_of hand.entry.taker ++ taken_between hand.entry result.hand }
-    ensures claimed { AreClaimed (rows_of hand.entry.search.now (taken_between hand.entry result.hand)) hand.entry.pass result.hand.pass result.rows.items }
+    ensures claimed { AreClaimed (rows_between hand.entry result.hand) hand.entry.pass result.hand.pass result.rows.items }
     ensures pass { IsSamePass hand.entry.pass result.hand.pass }
-    ensures frames { steps.new ≤ steps.old + hand.entry.search.now.plan.script.hold * runs_of hand.entry.search.now (taken_between hand.entry result.hand) }
+    ensures frames { steps.new ≤ steps.old + frames_between hand.entry result.hand }
     ensures never_falls { steps.old ≤ steps.new }
     ensures may { MayWork table.now pieces.now result.hand }
     ensures worker { result.hand.worker ≡ hand.entry.worker }

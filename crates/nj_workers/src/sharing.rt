@@ -1,7 +1,7 @@
 //! What comes before the workers' work, and after it.
 
 ghost use Rattle.std.specs.Prelude.{◌≡◌, ◌≤◌, ◌<◌, ◌+◌, ◌++◌, false, true, [], All, length, map, reverse, vec_len, vec_capacity, IsOk, IfOk, OnOk, OnErr};
-ghost use Rattle.nj_claims.specs.Passes.{first_pass};
+ghost use Rattle.nj_claims.specs.Passes.{first_pass, joined_pass};
 ghost use Rattle.nj_workers.specs.Desks.{IsSeated, joined_all, rows_all};
 
 use crate::hand::{Hand, WorkEnd};
@@ -68,24 +68,37 @@ pub(crate) fn returned<'a>(
     let mut ends = ends;
     let mut added = Ok(());
     while let Some(end) = ends.pop() {
-        let WorkEnd {
-            hand,
-            rows: found,
-            refused: _,
-        } = end;
-        let Hand {
-            worker: _,
-            machine: _,
-            taker,
-            pass: other,
-            search: _,
-        } = hand;
-        table.join(pass, other);
+        let (taker, found) = join_end(table, pass, end);
         takers.push_reserved(taker);
         added = add_rows(added, found.as_slice(), rows);
     }
     takers.reverse();
     added
+}
+
+// Joins the pass of a worker to the first one, and gives its taker and its rows.
+fn join_end<'a>(table: &ClaimTable, pass: &mut Pass, end: WorkEnd<'a>) -> (Taker, Vec<Row>)
+    requires own { pass.old.table ≡ table.now.id }
+    requires root { pass.old.is_root ≡ true }
+    requires other { end.hand.pass.table ≡ table.now.id }
+    ensures pass { pass.new ≡ joined_pass pass.old end.entry.hand.pass }
+    ensures taker { result.0 ≡ end.entry.hand.taker }
+    ensures rows { result.1.items ≡ end.entry.rows.items }
+{
+    let WorkEnd {
+        hand,
+        rows,
+        refused: _,
+    } = end;
+    let Hand {
+        worker: _,
+        machine: _,
+        taker,
+        pass: other,
+        search: _,
+    } = hand;
+    table.join(pass, other);
+    (taker, rows)
 }
 
 // Adds rows, unless memory was wanted before.

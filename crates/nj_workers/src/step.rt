@@ -26,8 +26,8 @@ use std::sync::Wait;
 use std::sync::ledger::Ledger;
 use std::thread::Threads;
 
-// Claims the keys of all live candidates of a step by so many workers, and gives the rows that were kept. All passes have
-// come back to the first one. Where a worker wanted memory and left a piece, or the rows do, it is want of memory.
+// Claims the keys of all live candidates of a step by so many workers, and gives the rows that were kept. All passes
+// have come back to the first one. Where a worker wanted memory and left a piece, or the rows do, it is want of memory.
 fn claimed_rows<R: Threads + Wait + Sync, G: Gate, L: Ledger + Send>(
     rt: &R,
     alloc: Global,

@@ -110,8 +110,8 @@ fn counted<L: Ledger>(steps: &[Steps<L>]) -> u64 {
         .fold(0u64, |sum, counter| sum.wrapping_add(counter.count()))
 }
 
-// How the search for the goal ends within twenty steps by so many workers, the steps that were made, the frames that were
-// run, and those that counters past the workers' counted.
+// How the search for the goal ends within twenty steps by so many workers, the steps that were made, the frames that
+// were run, and those that counters past the workers' counted.
 fn ended<R: Threads + Wait + Sync, L: Ledger + Send>(
     rt: &R,
     alloc: Global,
@@ -149,8 +149,8 @@ fn holds_right_at_last(alloc: Global, search: &Search, place: usize) -> Result<b
     )
 }
 
-// Sixteen steps by two workers, and the seventeenth, whose front is of two pieces, with a meeting: how often one met the
-// other, the words of the front, whether they are those of one thread, and the frames that were run.
+// Sixteen steps by two workers, and the seventeenth, whose front is of two pieces, with a meeting: how often one met
+// the other, the words of the front, whether they are those of one thread, and the frames that were run.
 fn met<R: Threads + Wait + Sync, L: Ledger + Send>(
     rt: &R,
     alloc: Global,

@@ -1,5 +1,5 @@
 -- One worker more is back.
-use Rattle.std.proofs.Common.{◌++◌, length, refl, ap, ◌∙◌, arith}
+use Rattle.std.proofs.Common.{◌++◌, length, refl, sym, ap, ◌∙◌, arith}
 use Rattle.nj_claims.specs.Passes.{PassView}
 use Rattle.nj_workers.specs.Desks.{rows_all}
 use Rattle.nj_workers.proofs.Together.{taker_of}
@@ -28,12 +28,12 @@ loop-end-preserved c =
     let more = c.push_reserved.ensures.len in
     let same = c.push_reserved.ensures.capacity in
     let room = was.6 in (
-      joined_next c.loop-end.pass c.join.new.pass c.loop-end.ends.items c.pop.new.self.items c.in-Some.end _ c.in-Some.ensures.items c.join.ensures was.0,
-      still_back taker_of c.loop-end.ends.items c.pop.new.self.items c.in-Some.end _ c.loop-end.takers.items c.push_reserved.new.self.items _ refl c.in-Some.ensures.items c.push_reserved.ensures.items was.1,
+      joined_next c.loop-end.pass c.join_end-taker.new.pass c.loop-end.ends.items c.pop.new.self.items c.in-Some.end _ c.in-Some.ensures.items c.join_end-taker.ensures.pass was.0,
+      still_back taker_of c.loop-end.ends.items c.pop.new.self.items c.in-Some.end _ c.loop-end.takers.items c.push_reserved.new.self.items _ (sym c.join_end-taker.ensures.taker) c.in-Some.ensures.items c.push_reserved.ensures.items was.1,
       rows_next c.loop-end.added c.add_rows-added.result c.loop-end.rows.items c.add_rows-added.new.rows.items c.as_slice.result.now c.loop-end.ends.items c.pop.new.self.items c.in-Some.end _
-          c.in-Some.ensures.items c.as_slice.ensures.value c.add_rows-added.ensures.before c.add_rows-added.ensures.rows was.2,
-      ap (λ (p : PassView). p.table) c.join.ensures ∙ was.3,
-      ap (λ (p : PassView). p.is_root) c.join.ensures ∙ was.4,
+          c.in-Some.ensures.items (c.as_slice.ensures.value ∙ c.join_end-taker.ensures.rows) c.add_rows-added.ensures.before c.add_rows-added.ensures.rows was.2,
+      ap (λ (p : PassView). p.table) c.join_end-taker.ensures.pass ∙ was.3,
+      ap (λ (p : PassView). p.is_root) c.join_end-taker.ensures.pass ∙ was.4,
       own_next c.args.table.now c.loop-end.ends.items c.pop.new.self.items c.in-Some.end c.in-Some.ensures.items was.5,
       omega arith,
     )
