@@ -20,7 +20,7 @@ fn zero_page<B: Bus>(cpu: &mut Cpu, rises: &mut Rises, bus: &mut B, op: Op) -> u
 }
 
 /// The address of a zero page operand with an index, which never leaves the page.
-#[inline]
+#[inline(always)]
 fn zero_page_by<B: Bus>(cpu: &mut Cpu, rises: &mut Rises, bus: &mut B, op: Op, index: Index) -> u16
     ensures ends { EndsAs (walk B.acts op (fetched ToLow ∷ access InZero Ignores Stay ∷ []) (begun cpu.old (B.held bus.old) rises.old)) cpu.new (B.held bus.new) rises.new }
     ensures place { result ≡ address_of (InZeroBy index) (walk B.acts op (fetched ToLow ∷ access InZero Ignores Stay ∷ []) (begun cpu.old (B.held bus.old) rises.old)) }
@@ -31,7 +31,7 @@ fn zero_page_by<B: Bus>(cpu: &mut Cpu, rises: &mut Rises, bus: &mut B, op: Op, i
 }
 
 /// The high and the low byte of an absolute operand.
-#[inline]
+#[inline(always)]
 fn absolute_bytes<B: Bus>(cpu: &mut Cpu, rises: &mut Rises, bus: &mut B, op: Op) -> (u8, u8)
     ensures ends { EndsAs (walk B.acts op (fetched ToLow ∷ fetched ToHigh ∷ []) (begun cpu.old (B.held bus.old) rises.old)) cpu.new (B.held bus.new) rises.new }
     ensures high { result.0 ≡ (walk B.acts op (fetched ToLow ∷ fetched ToHigh ∷ []) (begun cpu.old (B.held bus.old) rises.old)).high }
@@ -43,7 +43,7 @@ fn absolute_bytes<B: Bus>(cpu: &mut Cpu, rises: &mut Rises, bus: &mut B, op: Op)
 }
 
 /// The high and the low byte at a pointer in zero page; the second place never leaves the page.
-#[inline]
+#[inline(always)]
 fn bytes_at<B: Bus>(cpu: &mut Cpu, rises: &mut Rises, bus: &mut B, op: Op, pointer: u8) -> (u8, u8)
     ensures ends { EndsAs (walk B.acts op (access AtPointer ToLow Stay ∷ access AfterPointer ToHigh Stay ∷ []) (record (begun cpu.old (B.held bus.old) rises.old) { pointer = pointer })) cpu.new (B.held bus.new) rises.new }
     ensures high { result.0 ≡ (walk B.acts op (access AtPointer ToLow Stay ∷ access AfterPointer ToHigh Stay ∷ []) (record (begun cpu.old (B.held bus.old) rises.old) { pointer = pointer })).high }
@@ -88,7 +88,7 @@ fn indirect_by_x<B: Bus>(cpu: &mut Cpu, rises: &mut Rises, bus: &mut B, op: Op) 
 }
 
 /// Reads at a word with an index, and once more where the index carries into the high byte.
-#[inline]
+#[inline(always)]
 fn read_indexed<B: Bus>(
     cpu: &mut Cpu,
     rises: &mut Rises,
@@ -116,7 +116,7 @@ fn read_indexed<B: Bus>(
 }
 
 /// Writes what an operation stores at a word with an index, after a read without the carry.
-#[inline]
+#[inline(always)]
 fn write_indexed<B: Bus>(
     cpu: &mut Cpu,
     rises: &mut Rises,
@@ -179,7 +179,7 @@ fn change_indexed<B: Bus>(
 }
 
 /// Writes what an operation stores.
-#[inline]
+#[inline(always)]
 fn write_at<B: Bus>(cpu: &mut Cpu, rises: &mut Rises, bus: &mut B, op: Op, at: u16)
     ensures ends { EndsAs (walk B.acts op (end_on (At at) WriteKind) (begun cpu.old (B.held bus.old) rises.old)) cpu.new (B.held bus.new) rises.new }
 {

@@ -44,7 +44,7 @@ pub(crate) fn enter<B: Bus>(
 
 /// An instruction that goes by its mode.
 #[tactic(auto, unfolding(crate::specs::Unit::rest_by))]
-#[inline]
+#[inline(always)]
 fn run_by_mode<B: Bus>(cpu: &mut Cpu, rises: &mut Rises, bus: &mut B, row: OpRow)
     ensures { EndsAs (rest_by B.acts ByModeClass row (begun cpu.old (B.held bus.old) rises.old)) cpu.new (B.held bus.new) rises.new }
 {

@@ -10,6 +10,7 @@ mod frames;
 mod images;
 mod laws;
 mod seeing;
+mod waiting;
 #[cfg(test)]
 mod tests;
 
@@ -26,6 +27,7 @@ pub use nj_pad::Pad;
 use nj_ppu::DotPicture;
 pub use nj_steps::Steps;
 pub use seeing::{UnitKind, UnitSeen, UnitStep};
+pub use waiting::Waiting;
 
 /// The machine, over the picture that lets dots stay pending until something asks what they did.
 pub type Machine = Console<CatchUp>;
