@@ -61,7 +61,7 @@ pub fn machine<P: Picture + Drop + Waiting>(alloc: Global, code: &[u8], nmi: u8)
 }
 
 // Plays these pads; how many steps were counted.
-pub fn played<P: Picture + Drop, L: Ledger>(blank: Blank, machine: &mut Console<P>, pads: &[u8]) -> u64
+pub fn played<P: Picture + Drop + Waiting, L: Ledger>(blank: Blank, machine: &mut Console<P>, pads: &[u8]) -> u64
     requires { blank.name ≡ L.name }
     ensures { rom_of machine.new ≡ rom_of machine.old }
 {
