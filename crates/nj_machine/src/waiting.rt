@@ -92,6 +92,8 @@ impl<P: Picture + Drop + Waiting> Console<P> {
     }
 
     // Looks for a loop that waits after a unit that went back, and passes over turns of it.
+    #[cold]
+    #[inline(never)]
     fn look_back(&mut self, watch: &mut Watch)
         ensures same { (pad : ℕ) → frame self.new pad ≡ frame self.old pad }
         ensures fewer { dots_left self.new ≤ dots_left self.old }

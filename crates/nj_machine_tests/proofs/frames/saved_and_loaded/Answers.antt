@@ -3,7 +3,7 @@ use Rattle.std.proofs.Common.{sym, ap, ◌∙◌, subst}
 use Rattle.std.proofs.lemmas.List.{take_at}
 use Rattle.nj_machine.specs.State.{rom_of}
 use Rattle.nj_machine.specs.Image.{IsImage}
-use Rattle.nj_machine.proofs.tests.saved_and_loaded.Goals as goal
+use Rattle.nj_machine_tests.proofs.frames.saved_and_loaded.Goals as goal
 
 pub load-requires : goal.load-requires
 load-requires g c =

@@ -1,5 +1,5 @@
 -- The ledger of each call is the one that its blank names.
-use Rattle.nj_machine.proofs.tests.saved_and_loaded.Given as goal
+use Rattle.nj_machine_tests.proofs.frames.a_program_in_the_registers.Given as goal
 
 abbrev pub ghosts-played : goal.ghosts-played
 ghosts-played g a = record { name = a.blank.name; parts = a.blank.parts }
