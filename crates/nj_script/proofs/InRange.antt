@@ -99,4 +99,4 @@ ok_script_in d =
     ok_then (natural_or (codes "tolerance") 0 1048576 0 d) _ (λ n. (0 ≤ n) × (n ≤ 1048576)) IsInRange (ok_natural_or (codes "tolerance") 0 1048576 0 d (omega arith) (omega arith)) (λ tolerance tolerance_range.
     ok_then (sets_in named d) _ AreSetsInRange IsInRange (ok_sets_in named d placed.0) (λ sets set_ranges.
     ok_then (rules_in named d) _ AreRulesInRange IsInRange (ok_rules_in named d placed.0) (λ rules rule_ranges.
-    record { properties = placed.1; hash = item_ranges; hold_low = hold_range.0; hold_high = hold_range.1; tolerance = tolerance_range.1; inputs = set_ranges; rules = rule_ranges })))))))
+    record { properties = omega (arith, placed.1, length-map named (λ n. n.property)); placed = All-map IsPlaced (λ n. n.property) named placed.0; hash = item_ranges; hold_low = hold_range.0; hold_high = hold_range.1; tolerance = tolerance_range.1; inputs = set_ranges; rules = rule_ranges })))))))

@@ -5,6 +5,8 @@ use Rattle.std.specs.Ordering.{int_eq}
 use Rattle.serde_json.specs.Data.{Data}
 use Rattle.serde_json.specs.Find.{as_object, as_number, as_i64}
 use Rattle.serde_json.specs.Read.{read}
+use Rattle.nj_property.specs.declared.Property.{Property}
+use Rattle.nj_property.specs.Property.{IsPlaced}
 use Rattle.nj_rules.specs.declared.record.Rule.{Rule}
 use Rattle.nj_rules.specs.declared.record.Rules.{Rules}
 use Rattle.nj_rules.specs.declared.record.InputSet.{InputSet}
@@ -22,9 +24,9 @@ use Rattle.nj_script.specs.Lists.{each, collected}
 use Rattle.nj_script.specs.Names.{number_of}
 use Rattle.nj_script.specs.Kinds.{property_in, item_in, set_in, rule_in}
 
--- what a script says; names are gone
+-- what a script says; names are gone, and the properties stand in order
 pub record Record : Type 0 where
-  pub property_count : ℕ
+  pub properties : List Property
   pub hash : HashItems
   pub hold : ℕ
   pub tolerance : ℕ
@@ -33,7 +35,8 @@ pub record Record : Type 0 where
 
 -- the numbers of a script are in their ranges
 pub record IsInRange (script : Record) : Type 0 where
-  pub properties : script.property_count ≤ 64
+  pub properties : length script.properties ≤ 64
+  pub placed : All IsPlaced script.properties
   pub hash : AreItemsInRange script.hash.items
   pub hold_low : 1 ≤ script.hold
   pub hold_high : script.hold ≤ 60
@@ -103,7 +106,7 @@ script_in d =
     then_read (natural_or (codes "tolerance") 0 1048576 0 d) (λ tolerance.
     then_read (sets_in named d) (λ sets.
     then_read (rules_in named d) (λ rules.
-    Ok (record { property_count = length named; hash = record { items = items }; hold = hold; tolerance = tolerance; inputs = record { sets = sets }; rules = record { rules = rules } }))))))))
+    Ok (record { properties = map (λ n. n.property) named; hash = record { items = items }; hold = hold; tolerance = tolerance; inputs = record { sets = sets }; rules = record { rules = rules } }))))))))
 
 -- the JSON value of a text of bytes, where it is one
 unfoldable pub json_of : List ℕ → Option Data

@@ -13,7 +13,7 @@ use crate::naming::rules_in;
 use crate::properties::{ItemMember, PropertyMember};
 use crate::refusal::ScriptRefused;
 use crate::sets::SetMember;
-use nj_rules::{HashItem, HashItems, InputSet, InputSets, Rules, pad_count};
+use nj_rules::{HashItem, HashItems, InputSet, InputSets, Property, Rules, pad_count};
 use nj_seq::Seq;
 use serde_json::Value;
 use std::alloc::Global;
@@ -123,7 +123,7 @@ fn json_in(alloc: Global, bytes: &[u8]) -> Result<Value, ScriptRefused>
 /// A script: what a search is told of a game.
 #[derive(Drop)]
 pub struct Script {
-    property_count: u32,
+    properties: Seq<Property>,
     hash: HashItems,
     hold: u32,
     tolerance: u32,
@@ -136,9 +136,19 @@ impl Model for Script {
 
     ghost Value = { Record };
 
-    ghost view = { λ s. record { property_count = s.property_count; hash = s.hash; hold = s.hold; tolerance = s.tolerance; inputs = s.inputs; rules = s.rules } };
+    ghost view = { λ s. record { properties = s.properties; hash = s.hash; hold = s.hold; tolerance = s.tolerance; inputs = s.inputs; rules = s.rules } };
 
-    ghost invariant = { λ s. IsInRange (record { property_count = s.property_count; hash = s.hash; hold = s.hold; tolerance = s.tolerance; inputs = s.inputs; rules = s.rules }) };
+    ghost invariant = { λ s. IsInRange (record { properties = s.properties; hash = s.hash; hold = s.hold; tolerance = s.tolerance; inputs = s.inputs; rules = s.rules }) };
+}
+
+fn without_names(alloc: Global, properties: &[Named]) -> Result<Seq<Property>, ScriptRefused>
+    ensures { MatchResult result (λ ps. ps ≡ map (λ n. n.property) properties.now) (λ e. e ≡ ScriptRefused.NoMemory) }
+{
+    let mut bare = Seq::new(alloc);
+    for named in properties {
+        bare.push(named.property)?;
+    }
+    Ok(bare)
 }
 
 #[tactic(auto, unfolding(crate::specs::Script::script_in))]
@@ -152,8 +162,9 @@ fn script_in(alloc: Global, value: &Value) -> Result<Script, ScriptRefused>
     let tolerance = natural_or(alloc, value, "tolerance", 0, 1_048_576, 0)?;
     let sets = sets_in(alloc, value, named.as_slice())?;
     let rules = rules_in(alloc, value, named.as_slice())?;
+    let properties = without_names(alloc, named.as_slice())?;
     Ok(Script {
-        property_count: named.len() as u32,
+        properties,
         hash: HashItems {
             items: Seq::from_vec(items),
         },
@@ -216,11 +227,20 @@ impl Script {
         self.tolerance
     }
 
+    /// The properties in the script's order, without their names.
+    pub fn properties(&self) -> &[Property]
+        ensures value { result.now ≡ self.now.properties }
+        ensures placed { All IsPlaced result.now }
+        ensures few { length result.now ≤ 64 }
+    {
+        self.properties.as_slice()
+    }
+
     pub fn property_count(&self) -> u32
-        ensures value { result ≡ self.now.property_count }
+        ensures value { result ≡ length self.now.properties }
         ensures within { result ≤ 64 }
     {
-        self.property_count
+        self.properties.len() as u32
     }
 
     pub fn rule_count(&self) -> u32
