@@ -67,7 +67,13 @@ impl<P: Picture + Drop> Cells<P> {
         if self.page.is_some() {
             return 0;
         }
-        turn_cycles(cpu, &self.ram, &self.board, self.picture.nmi_line(), self.bus_byte)
+        turn_cycles(
+            cpu,
+            &self.ram,
+            &self.board,
+            self.picture.nmi_line(),
+            self.bus_byte,
+        )
     }
 }
 
@@ -87,7 +93,10 @@ impl<P: Picture + Drop + Waiting> Console<P> {
         turns_are_the_same_on_each_resting_bus::<Cells<P>>();
         let before_event = self.recorder.cells.picture.dots_to_event() - 1;
         let dots = before_event / (6 * cycles) * (6 * cycles);
-        self.recorder.cells.picture.run(dots, self.recorder.cells.board.pattern());
+        self.recorder
+            .cells
+            .picture
+            .run(dots, self.recorder.cells.board.pattern());
         true
     }
 

@@ -55,13 +55,21 @@ pub fn file_of(
 }
 
 // A machine with this code at $8000, where it begins, and this low byte of the NMI vector.
-pub fn machine<P: Picture + Drop + Waiting>(alloc: Global, code: &[u8], nmi: u8) -> Result<Console<P>, Fail> {
+pub fn machine<P: Picture + Drop + Waiting>(
+    alloc: Global,
+    code: &[u8],
+    nmi: u8,
+) -> Result<Console<P>, Fail> {
     let cart = cartridge(alloc, HEADER, code, nmi, [0x00, 0x80])?.ok_or("no cartridge")?;
     Ok(Console::<P>::power_on(alloc, &cart)?)
 }
 
 // Plays these pads; how many steps were counted.
-pub fn played<P: Picture + Drop + Waiting, L: Ledger>(blank: Blank, machine: &mut Console<P>, pads: &[u8]) -> u64
+pub fn played<P: Picture + Drop + Waiting, L: Ledger>(
+    blank: Blank,
+    machine: &mut Console<P>,
+    pads: &[u8],
+) -> u64
     requires { blank.name ≡ L.name }
     ensures { rom_of machine.new ≡ rom_of machine.old }
 {

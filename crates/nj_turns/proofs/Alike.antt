@@ -1,5 +1,5 @@
 -- A unit on a resting bus is the one on the dry bus, as long as the dry one is not past.
-use Rattle.std.proofs.Common.{◌≡◌, ℕ, zero, suc, ◌+◌, ◌<◌, ◌≤◌, Bool, true, false, true≢false, cond, nat_lt, unwrap_or, List, [], ◌∷◌, Option, Some, None, ◌⊎◌, inl, inr, refl, sym, ap, ◌∙◌, subst, arith}
+use Rattle.std.proofs.Common.{◌≡◌, ℕ, suc, ◌+◌, ◌<◌, ◌≤◌, Bool, true, false, cond, nat_lt, unwrap_or, List, [], ◌∷◌, Option, Some, None, ◌⊎◌, inl, inr, refl, sym, ap, ◌∙◌, subst, arith}
 use Rattle.std.proofs.lemmas.Bool.{cases_lt}
 use Rattle.nj_banked.specs.Banks.{Banks}
 use Rattle.nj_isa.specs.Bus.{Acts}
@@ -19,7 +19,7 @@ use Rattle.nj_cpu.specs.Walk.{Walk, begun, address_of, is_made, risen, read_at, 
 use Rattle.nj_cpu.specs.Unit.{Unit, no_rise, opened, settled, rest_by, rest_of, instruction, entered, on_note, on_page, active, noted, unit_of}
 use Rattle.nj_cpu.proofs.Lower.{Lower, held-moved, held-opened, walk-lower}
 use Rattle.nj_turns.specs.declared.dry.TheConstants.{MOST_CYCLES}
-use Rattle.nj_turns.specs.Dry.{Dry, memory_byte, one_more, read_of, after_read, dry}
+use Rattle.nj_turns.specs.Dry.{Dry, memory_byte, read_of, after_read, dry}
 use Rattle.nj_turns.specs.Turn.{Rests}
 use Rattle.nj_turns.proofs.Past.{IsPast, Lost, Late, nothing_left, dry-lowers}
 
@@ -68,15 +68,15 @@ module _ {Held : Type 0} (acts : Acts Held) (place : ℕ → ℕ → Held) (ram 
   same-more h at byte true fits e = elim (cases_lt limit (offset + suc h.cycles)) [
     | inl late ↦ inl (Late late)
     | inr within ↦ (
-      let below : offset + h.cycles < limit = omega (arith, within) in
-      let next : suc (offset + h.cycles) ≡ offset + suc h.cycles = omega arith in
-      let after : acts.after_read (placed h) at ≡ place (offset + suc h.cycles) byte = rests.after (offset + h.cycles) h.bus_byte at byte below e ∙ ap (λ c. place c byte) next in
-      inr (record {
-        byte_is = rests.byte (offset + h.cycles) h.bus_byte at byte below e;
-        held_is = after;
-        line_is = ap acts.line after ∙ rests.line_is (offset + suc h.cycles) byte within ∙ sym fits.line_is;
-        fits = record { ram_is = fits.ram_is; board_is = fits.board_is; line_is = fits.line_is; within = within };
-      }))
+        let below : offset + h.cycles < limit = omega (arith, within) in
+        let next : suc (offset + h.cycles) ≡ offset + suc h.cycles = omega arith in
+        let after : acts.after_read (placed h) at ≡ place (offset + suc h.cycles) byte = rests.after (offset + h.cycles) h.bus_byte at byte below e ∙ ap (λ c. place c byte) next in
+        inr (record {
+          byte_is = rests.byte (offset + h.cycles) h.bus_byte at byte below e;
+          held_is = after;
+          line_is = ap acts.line after ∙ rests.line_is (offset + suc h.cycles) byte within ∙ sym fits.line_is;
+          fits = record { ram_is = fits.ram_is; board_is = fits.board_is; line_is = fits.line_is; within = within };
+        }))
   ]
 
   same-read-of : (h : Dry) (at : ℕ) (byte : Option ℕ) → Fits h → memory_byte ram board at ≡ byte →
@@ -257,7 +257,7 @@ module _ {Held : Type 0} (acts : Acts Held) (place : ℕ → ℕ → Held) (ram 
   goes-instruction cpu h fits = elim (same-read h cpu.pc fits) [
     | inl past ↦ inl (past-row (row_of (dry_byte h cpu.pc)) (read_at dry cpu.pc (begun cpu h no_rise)) past)
     | inr same ↦ goes-row (dry_byte h cpu.pc) (acts.byte (placed h) cpu.pc) (read_at dry cpu.pc (begun cpu h no_rise)) (read_at acts cpu.pc (begun cpu (placed h) no_rise)) same.byte_is
-      (goes-transferred Nop Ignores cpu.pc (begun cpu h no_rise) fits)
+        (goes-transferred Nop Ignores cpu.pc (begun cpu h no_rise) fits)
   ]
 
   goes-entered : (cpu : Cpu) (h : Dry) → Fits h → Goes (entered dry cpu h) (entered acts cpu (placed h))

@@ -1,10 +1,10 @@
 -- What the search for a turn has found.
-use Rattle.std.proofs.Common.{◌≡◌, ℕ, suc, ◌≤◌, Bool, true, false, cond, nat_lt, Option, Some, None, refl, sym, ap, ◌∙◌, subst, arith}
+use Rattle.std.proofs.Common.{◌≡◌, ℕ, suc, ◌≤◌, Bool, true, false, cond, nat_lt, Option, Some, None, refl, ap, subst, arith}
 use Rattle.std.proofs.lemmas.Bool.Decides.{nat_tests}
 use Rattle.nj_alu.specs.declared.flags.Flags.{Flags}
 use Rattle.nj_cpu.specs.declared.state.Cpu.{Cpu}
 use Rattle.nj_cpu.specs.declared.state.UnitEnd.TheVariants.{Done}
-use Rattle.nj_cpu.specs.Unit.{Unit, unit_of}
+use Rattle.nj_cpu.specs.Unit.{unit_of}
 use Rattle.nj_cpu.proofs.Lower.{Lower, Lowers, unit-lower}
 use Rattle.nj_turns.specs.declared.dry.TheConstants.{MOST_CYCLES}
 use Rattle.nj_turns.specs.Dry.{Dry, memory_byte, read_of, after_read, dry}

@@ -1,11 +1,11 @@
 -- A dry bus that is lost, or past the cycles for which another bus rests, stays so.
-use Rattle.std.proofs.Common.{◌≡◌, ℕ, suc, ◌+◌, ◌-◌, ◌<◌, ◌≤◌, Bool, true, false, true≢false, cond, nat_lt, Option, Some, None, ◌⊎◌, inl, inr, refl, sym, ap, ◌∙◌, subst, arith}
+use Rattle.std.proofs.Common.{◌≡◌, ℕ, suc, ◌+◌, ◌<◌, Bool, true, false, true≢false, cond, nat_lt, Option, Some, None, refl, sym, ap, ◌∙◌, arith}
 use Rattle.nj_cpu.specs.declared.state.Cpu.{Cpu}
 use Rattle.nj_cpu.specs.declared.state.UnitEnd.TheVariants.{Done, Jammed}
 use Rattle.nj_cpu.specs.Unit.{Unit, active, noted, unit_of}
 use Rattle.nj_cpu.proofs.Lower.{Lower, Lowers, unit-lower}
 use Rattle.nj_turns.specs.declared.dry.TheConstants.{MOST_CYCLES}
-use Rattle.nj_turns.specs.Dry.{Dry, memory_byte, one_more, read_of, after_read, dry}
+use Rattle.nj_turns.specs.Dry.{Dry, memory_byte, read_of, after_read, dry}
 
 -- it is lost, or this many cycles further another bus rests no more
 pub data IsPast (limit offset : ℕ) (h : Dry) : Type 0 where

@@ -1,16 +1,16 @@
 -- Turn after turn.
-use Rattle.std.proofs.Common.{◌≡◌, ℕ, zero, suc, ◌+◌, ◌*◌, ◌<◌, ◌≤◌, Bool, true, false, true≢false, List, Option, Some, None, ◌⊎◌, inl, inr, refl, sym, ap, ◌∙◌, subst, arith}
+use Rattle.std.proofs.Common.{◌≡◌, ℕ, zero, suc, ◌+◌, ◌*◌, ◌≤◌, Bool, false, true≢false, List, inl, inr, refl, sym, ap, ◌∙◌, subst, arith}
 use Rattle.std.proofs.lemmas.Bool.{cases_lt}
 use Rattle.std.proofs.Math.Nat.{suc-mul}
 use Rattle.nj_banked.specs.Banks.{Banks}
 use Rattle.nj_isa.specs.Bus.{Acts}
 use Rattle.nj_cpu.specs.declared.state.Cpu.{Cpu}
 use Rattle.nj_cpu.specs.declared.state.UnitEnd.TheVariants.{Done}
-use Rattle.nj_cpu.specs.Unit.{Unit, unit_of}
+use Rattle.nj_cpu.specs.Unit.{unit_of}
 use Rattle.nj_turns.specs.Dry.{Dry, begun, dry}
-use Rattle.nj_turns.specs.Turn.{Stands, OneMore, Leads, IsDry, IsTurn, Rests, IsPlace, Turns}
+use Rattle.nj_turns.specs.Turn.{Leads, IsDry, IsTurn, Rests, IsPlace, Turns}
 use Rattle.nj_turns.proofs.Past.{IsPast, Lost, Late, runs, unit-past}
-use Rattle.nj_turns.proofs.Alike.{Fits, placed, unit_onto, TiedUnit, unit-goes}
+use Rattle.nj_turns.proofs.Alike.{Fits, placed, unit_onto, unit-goes}
 
 -- units after units
 pub leads-then : {Held : Type 0} (acts : Acts Held) (In : Held → Type 0) (m n : ℕ) (a b c : Cpu) (h k l : Held) →
@@ -47,17 +47,17 @@ module _ {Held : Type 0} (acts : Acts Held) (place : ℕ → ℕ → Held) (ram 
   led-step offset n cpu h c k last kept unit d e before = elim (unit-goes acts place ram board line limit offset rests c k before.fits) [
     | inl past ↦ absurd (not-past offset kept d e (subst (IsPast limit offset) (ap (λ u. u.held) unit) past))
     | inr tied ↦ (
-      let fits : At offset kept = subst (At offset) (ap (λ u. u.held) unit) tied.fits in
-      record {
-        fits = fits;
-        run = record {
-          cpu = c;
-          held = there offset k;
-          before = before.run;
-          unit = tied.same ∙ ap (unit_onto acts place ram board line limit offset rests) unit;
-          stays = record { after_cycles = offset + kept.cycles; last = kept.bus_byte; within = fits.within; at_ = refl };
-        };
-      })
+        let fits : At offset kept = subst (At offset) (ap (λ u. u.held) unit) tied.fits in
+        record {
+          fits = fits;
+          run = record {
+            cpu = c;
+            held = there offset k;
+            before = before.run;
+            unit = tied.same ∙ ap (unit_onto acts place ram board line limit offset rests) unit;
+            stays = record { after_cycles = offset + kept.cycles; last = kept.bus_byte; within = fits.within; at_ = refl };
+          };
+        })
   ]
 
   -- a unit's end is within the rest where the next one's is
@@ -65,8 +65,8 @@ module _ {Held : Type 0} (acts : Acts Held) (place : ℕ → ℕ → Held) (ram 
       offset + kept.cycles ≤ limit → offset + k.cycles ≤ limit
   within-before offset c k last kept unit d e = elim (cases_lt limit (offset + k.cycles)) [
     | inl late ↦ (
-      let running : c.jammed ≡ false = runs c.jammed c k refl (ap (λ u. u.end_) unit) in
-      absurd (not-past offset kept d e (subst (IsPast limit offset) (ap (λ u. u.held) unit) (unit-past limit offset c k running (Late late)))))
+        let running : c.jammed ≡ false = runs c.jammed c k refl (ap (λ u. u.end_) unit) in
+        absurd (not-past offset kept d e (subst (IsPast limit offset) (ap (λ u. u.held) unit) (unit-past limit offset c k running (Late late)))))
     | inr within ↦ within
   ]
 

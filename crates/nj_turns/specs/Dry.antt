@@ -1,5 +1,5 @@
 -- A bus that has working and program memory alone: the turn of a loop is tried on it.
-use Rattle.std.specs.Prelude.{◌≡◌, ℕ, zero, suc, ◌%◌, nat_lt, Bool, true, false, if◌then◌else◌, List, slice_index, Option, Some, None, unwrap_or}
+use Rattle.std.specs.Prelude.{ℕ, suc, ◌%◌, nat_lt, Bool, true, false, if◌then◌else◌, List, slice_index, Option, Some, None, unwrap_or}
 use Rattle.nj_banked.specs.Banks.{Banks}
 use Rattle.nj_banked.specs.Banked.{byte_at}
 use Rattle.nj_isa.specs.Bus.{Acts}

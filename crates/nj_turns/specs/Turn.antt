@@ -1,5 +1,5 @@
 -- Turns of a loop, and the buses on which they are as on the dry one (this project's own).
-use Rattle.std.specs.Prelude.{◌≡◌, ℕ, zero, suc, ◌+◌, ◌<◌, ◌≤◌, Bool, false, List, Option, Some, None}
+use Rattle.std.specs.Prelude.{◌≡◌, ℕ, zero, suc, ◌<◌, ◌≤◌, Bool, false, List, Some, None}
 use Rattle.nj_banked.specs.Banks.{Banks}
 use Rattle.nj_isa.specs.Bus.{Acts}
 use Rattle.nj_cpu.specs.declared.state.Cpu.{Cpu}

@@ -43,16 +43,18 @@ fn is_same(one: &Cpu, other: &Cpu) -> bool
     has_same_flags(one.flags, other.flags)
 }
 
+// The processor, and the last byte on the data bus, are again what they were.
+fn is_back(now: &Cpu, cpu: &Cpu, last: u8, bus_byte: u8) -> bool
+    ensures cpu { result ≡ true → now.now ≡ cpu.now }
+    ensures byte { result ≡ true → last ≡ bus_byte }
+{
+    last == bus_byte && is_same(now, cpu)
+}
+
 /// How many cycles one turn takes, at most 255, of a loop that reads working and program memory alone, from the
 /// processor as it stands, with this level of the NMI line and this last byte on the data bus. 0 where no such turn was
 /// found within a few instructions.
-pub fn turn_cycles(
-    cpu: &Cpu,
-    ram: &[u8; 2048],
-    board: &Banked,
-    line: bool,
-    bus_byte: u8,
-) -> u32
+pub fn turn_cycles(cpu: &Cpu, ram: &[u8; 2048], board: &Banked, line: bool, bus_byte: u8) -> u32
     ensures turn { 0 < result → IsTurn cpu.now (begun ram.now board.now line bus_byte) result }
     ensures few { result ≤ 255 }
 {
@@ -69,7 +71,7 @@ pub fn turn_cycles(
         if !dry.run_unit(&mut now) {
             return 0;
         }
-        if dry.bus_byte == bus_byte && is_same(&now, cpu) {
+        if is_back(&now, cpu, dry.bus_byte, bus_byte) {
             return dry.cycles;
         }
     }

@@ -11,15 +11,15 @@ loop-preserved c =
     let dry = c.if-not-run_unit.false in
     rw add-one (ran-more _ _ _ _ _ _ _ c.loop.invariant (c.run_unit.ensures.unit dry) (c.run_unit.ensures.kept dry))
 
-pub returns-then-is_same-clause-turn : goal.returns-then-is_same-clause-turn
-returns-then-is_same-clause-turn c = λ some.
+pub returns-then-is_back-clause-turn : goal.returns-then-is_back-clause-turn
+returns-then-is_back-clause-turn c = λ some.
     let dry = c.if-not-run_unit.false in
     let kept = c.run_unit.ensures.kept dry in
     let more = ran-more _ _ _ _ _ _ _ c.loop.invariant (c.run_unit.ensures.unit dry) kept in
-    found _ _ _ _ _ more (c.is_same.ensures c.if-is_same.true) c.if-dry-bus_byte.true kept.kept
+    found _ _ _ _ _ more (c.is_back.ensures.cpu c.if-is_back.true) (c.is_back.ensures.byte c.if-is_back.true) kept.kept
 
-pub returns-then-is_same-clause-few : goal.returns-then-is_same-clause-few
-returns-then-is_same-clause-few c =
+pub returns-then-is_back-clause-few : goal.returns-then-is_back-clause-few
+returns-then-is_back-clause-few c =
     let dry = c.if-not-run_unit.false in
     let more = ran-more _ _ _ _ _ _ _ c.loop.invariant (c.run_unit.ensures.unit dry) (c.run_unit.ensures.kept dry) in
     more.keeps.few
