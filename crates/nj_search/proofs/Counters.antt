@@ -66,7 +66,7 @@ pub last_counted : (begun now : Held) (limit made workers : ℕ) (old mid new : 
 last_counted begun now limit made workers old mid new within are_made first second =
     steps_counted workers old new (frames_a_step begun) (made + 1) limit (omega arith)
     (step_counted workers old mid new (frames_a_step begun) (frames_a_step now) made
-        (same_frames begun now are_made.plan are_made.bounds) first second)
+    (same_frames begun now are_made.plan are_made.bounds) first second)
 
 -- the first counter alone
 pub first_counted : (xs : List ℕ) (other before after most : ℕ) → 0 < length xs → before ≡ get_or xs 0 other
