@@ -162,7 +162,11 @@ fn words_that_ask_for_workers(rt: HostRuntime) -> Result<(), Fail> {
         ("play L M", false),
     ] {
         let words = words_in(rt.alloc(), line)?;
-        assert_eq!(rt; asks_workers(rt.alloc(), words.as_slice())?, asks, "of {line:?}");
+        assert_eq!(rt;
+            asks_workers(rt.alloc(), words.as_slice())?,
+            asks,
+            "of {line:?}"
+        );
     }
     Ok(())
 }
