@@ -15,7 +15,6 @@ use Rattle.nj_dots.specs.Registers.{read_byte, after_read as screen_after_read}
 use Rattle.nj_catchup.specs.Fixed.{IsFixed}
 use Rattle.nj_pad.specs.Port.{bit_read}
 use Rattle.nj_catchup.proofs.Calm.{nmi_line-after, ended-after}
-use Rattle.nj_dots.proofs.Events.{to_event-positive}
 use Rattle.nj_turns.specs.Dry.{is_status, told_byte, begun}
 use Rattle.nj_turns.specs.Turn.{Leads, IsTurn, Rests, IsPlace, Turns}
 use Rattle.nj_machine.specs.State.{Cells, State, rom_of}
@@ -177,11 +176,11 @@ page-later pad s c last page = page
 
 -- the machine's bus rests
 machine-rests : (pad : ℕ) (s : State) (status : Option ℕ) (dots limit : ℕ) → IsScreen s.cells.screen → s.cells.page ≡ None → 3 * limit < to_event s.cells.screen →
-    Holds status dots (pattern_of s.cells.board) s.cells.screen → (0 < limit → 3 * limit < dots) →
+    Holds status dots (pattern_of s.cells.board) s.cells.screen → 3 * limit < dots →
     Rests wires (later pad s) s.cells.ram s.cells.board status (nmi_line_of s.cells.screen) limit
 machine-rests pad s status dots limit fits page below holds known = record {
-  byte = λ c last at byte within m. byte-later pad s status c last at byte (stays-later pad s status dots c last holds (omega (arith, within, known (omega (arith, within))))) m;
-  after = λ c last at byte within m. read-later pad s status c last at byte (stays-later pad s status dots c last holds (omega (arith, within, known (omega (arith, within))))) m;
+  byte = λ c last at byte within m. byte-later pad s status c last at byte (stays-later pad s status dots c last holds (omega (arith, within, known))) m;
+  after = λ c last at byte within m. read-later pad s status c last at byte (stays-later pad s status dots c last holds (omega (arith, within, known))) m;
   line_is = λ c last within. line-later pad s c last fits (omega (arith, within, below));
   no_page = λ c last within. page-later pad s c last page;
 }
@@ -278,25 +277,32 @@ DryTurnsAreTurns =
     (place : ℕ → ℕ → Wired) (ram : List ℕ) (board : Banks) (status : Option ℕ) (line : Bool) (limit : ℕ) → Rests wires place ram board status line limit → (cpu : Cpu) (last cycles n : ℕ) →
     IsTurn cpu (begun ram board status line last) cycles → n * cycles ≤ limit → Turns wires place limit cpu last (n * cycles)
 
--- an event is to come
-some-event : (s : State) → IsReady s → 0 < to_event s.cells.screen
-some-event s h = to_event-positive s.cells.screen h.sized.screen.placed
+-- no turn was passed over
+no-dots : (pad n : ℕ) (s : State) → IsReady s → n ≡ 0 → Waited pad s (dots-on n s)
+unfolding dots-on after_dots
+no-dots pad n s h none =
+    subst (λ k. Waited pad s (dots-on k s)) (sym none) (record { ready = h; of_rom = refl; same = refl; fewer = omega arith })
 
-waits : (pad : ℕ) (s : State) (q cycles dots : ℕ) → DryTurnsAreTurns → IsReady s → IsWait s.cpu s.cells cycles dots → (0 < q * (6 * cycles) → q * (6 * cycles) < dots) →
+some-turns : (pad : ℕ) (s : State) (q cycles dots : ℕ) → DryTurnsAreTurns → IsReady s → IsWait s.cpu s.cells cycles dots → 0 < q * (6 * cycles) → q * (6 * cycles) < dots →
     Waited pad s (dots-on (q * (6 * cycles)) s)
-waits pad s q cycles dots law h wait within =
+some-turns pad s q cycles dots law h wait some within =
     let limit : ℕ = 2 * q * cycles in
     let twice : 2 * q * cycles ≡ 2 * (q * cycles) = mul_assoc 2 q cycles in
     let six : q * (6 * cycles) ≡ 6 * (q * cycles) = mul_left_comm q 6 cycles in
-    let known : 0 < limit → 3 * limit < dots = λ some. (let some_dots : 0 < q * (6 * cycles) = omega (arith, twice, six, some) in omega (arith, twice, six, within some_dots)) in
-    let early : q * (6 * cycles) < to_event s.cells.screen = elim (cases_lt 0 (q * (6 * cycles))) [
-      | inl some ↦ omega (arith, within some, wait.before_event)
-      | inr none ↦ omega (arith, none, some-event s h)
-    ] in
-    let below : 3 * limit < to_event s.cells.screen = omega (arith, twice, six, early) in
+    let known : 3 * limit < dots = omega (arith, twice, six, within) in
+    let early : q * (6 * cycles) < to_event s.cells.screen = omega (arith, within, wait.before_event) in
+    let below : 3 * limit < to_event s.cells.screen = omega (arith, known, wait.before_event) in
     let rests : Rests wires (later pad s) s.cells.ram s.cells.board wait.status (nmi_line_of s.cells.screen) limit =
     machine-rests pad s wait.status dots limit h.sized.screen wait.no_page below wait.holds known in
-    turns-wait pad s q cycles h early (law (later pad s) s.cells.ram s.cells.board wait.status (nmi_line_of s.cells.screen) limit rests s.cpu s.cells.bus_byte cycles (2 * q) wait.turn (omega arith))
+    turns-wait pad s q cycles h early
+    (law (later pad s) s.cells.ram s.cells.board wait.status (nmi_line_of s.cells.screen) limit rests s.cpu s.cells.bus_byte cycles (2 * q) (wait.turn (omega (arith, some, within))) (omega arith))
+
+waits : (pad : ℕ) (s : State) (q cycles dots : ℕ) → DryTurnsAreTurns → IsReady s → IsWait s.cpu s.cells cycles dots → (0 < q * (6 * cycles) → q * (6 * cycles) < dots) →
+    Waited pad s (dots-on (q * (6 * cycles)) s)
+waits pad s q cycles dots law h wait within = elim (cases_lt 0 (q * (6 * cycles))) [
+  | inl some ↦ some-turns pad s q cycles dots law h wait some (within some)
+  | inr none ↦ no-dots pad (q * (6 * cycles)) s h (omega (arith, none))
+]
 
 -- turns were passed over: each frame is the same, whatever its pad
 pub record PassedOver (s t : State) : Type 0 where

@@ -16,10 +16,11 @@ Holds None dots pattern s = Unit {0}
 Holds (Some status) dots pattern s = IsFixed status dots pattern s
 
 -- the processor is in a loop whose turn takes so many cycles and reads memory alone, and $2002 while its status stays;
--- for so many dots at most, which end with the picture's next event at the latest, each turn does the same
+-- for so many dots at most, which end with the picture's next event at the latest, each turn does the same. Where there
+-- are no such dots nothing is said of the loop
 pub record IsWait (cpu : Cpu) (c : Cells) (cycles dots : ℕ) : Type 0 where
   pub status : Option ℕ
-  pub turn : IsTurn cpu (begun c.ram c.board status (nmi_line_of c.screen) c.bus_byte) cycles
+  pub turn : 0 < dots → IsTurn cpu (begun c.ram c.board status (nmi_line_of c.screen) c.bus_byte) cycles
   pub before_event : dots ≤ to_event c.screen
   pub holds : Holds status dots (pattern_of c.board) c.screen
   pub no_page : c.page ≡ None

@@ -56,6 +56,8 @@ impl Waiting for DotPicture {
 pub(crate) struct Watch {
     // The processor after the last jump back.
     anchor: Cpu,
+    // The loop that it is in was found to wait by reading $2002.
+    polls: bool,
     // Where the last loop began that was found not to wait.
     barred: Option<u16>,
 }
@@ -65,10 +67,14 @@ impl Watch {
     pub fn new(cpu: &Cpu) -> Watch {
         Watch {
             anchor: *cpu,
+            polls: false,
             barred: None,
         }
     }
 }
+
+// So many dots are worth the trial of a turn that reads $2002.
+const LEAST_DOTS: u32 = 64;
 
 // A turn of a loop that waits: its cycles, and within how many dots turns are known.
 #[derive(Clone, Copy)]
@@ -90,8 +96,9 @@ impl Turn {
 }
 
 impl<P: Picture + Drop + Waiting> Cells<P> {
-    // A turn of the loop that the processor is in, if it waits.
-    fn turn(&self, cpu: &Cpu) -> Option<Turn>
+    // A turn of the loop that the processor is in, if it waits. Where it is known to poll $2002 and the status stays for a
+    // few dots alone, no turn is tried, and none is known.
+    fn turn(&self, cpu: &Cpu, polls: &mut bool) -> Option<Turn>
         ensures { IfSome result (λ turn. IsWait cpu.now (⟦<Cells<P> as Bus>⟧.held self.now).cells turn.cycles turn.dots) }
     {
         if self.page.is_some() {
@@ -99,37 +106,42 @@ impl<P: Picture + Drop + Waiting> Cells<P> {
         }
         let line = self.picture.nmi_line();
         let event = self.picture.dots_to_event();
-        let cycles = turn_cycles(cpu, &self.ram, &self.board, None, line, self.bus_byte);
-        if cycles > 0 {
-            return Some(Turn {
-                cycles,
-                dots: event,
-            });
+        if !*polls {
+            let cycles = turn_cycles(cpu, &self.ram, &self.board, None, line, self.bus_byte);
+            if cycles > 0 {
+                return Some(Turn {
+                    cycles,
+                    dots: event,
+                });
+            }
         }
         let fixed = self.picture.steady_status();
+        if *polls && fixed.dots < LEAST_DOTS {
+            return Some(Turn { cycles: 1, dots: 0 });
+        }
         let status = Some(fixed.status);
         let cycles = turn_cycles(cpu, &self.ram, &self.board, status, line, self.bus_byte);
-        if cycles > 0 {
-            Some(Turn {
-                cycles,
-                dots: fixed.dots.min(event),
-            })
-        } else {
-            None
+        if cycles == 0 {
+            return None;
         }
+        *polls = true;
+        Some(Turn {
+            cycles,
+            dots: fixed.dots.min(event),
+        })
     }
 }
 
 impl<P: Picture + Drop + Waiting> Console<P> {
     // Passes over turns of the loop that the processor is in, as many as are known, an even number of them. Tells
     // whether the loop waits.
-    fn pass_turns(&mut self) -> bool
+    fn pass_turns(&mut self, polls: &mut bool) -> bool
         ensures same { (pad : ℕ) → frame self.new pad ≡ frame self.old pad }
         ensures fewer { dots_left self.new ≤ dots_left self.old }
         ensures ready { IsReady self.new }
         ensures cartridge { rom_of self.new ≡ rom_of self.old }
     {
-        let Some(turn) = self.recorder.cells.turn(&self.cpu) else {
+        let Some(turn) = self.recorder.cells.turn(&self.cpu, polls) else {
             return false;
         };
         turns_are_the_same_on_each_resting_bus::<Cells<P>>();
@@ -152,7 +164,8 @@ impl<P: Picture + Drop + Waiting> Console<P> {
     {
         if watch.anchor != self.cpu {
             watch.anchor = self.cpu;
-        } else if !self.pass_turns() {
+            watch.polls = false;
+        } else if !self.pass_turns(&mut watch.polls) {
             watch.barred = Some(self.cpu.pc);
         }
     }
