@@ -65,12 +65,15 @@ fixed fallen pending dots p s fits was steady = record { byte = byte; same = sam
   where
     at : (d : ℕ) → d < dots - pending → after_dots d p (after_dots pending p s) ≡ after_dots (d + pending) p s
     at d below = dots-sum (d + pending) d pending p s refl
+
     here : (d : ℕ) → d < dots - pending → IsSteady (d + pending) p s
     here d below = steady-less fallen (d + pending) dots p s fits (omega (arith, below)) (steady (omega (arith, below)))
+
     byte : (d : ℕ) → d < dots - pending → read_byte 2 (after_dots d p (after_dots pending p s)) ≡ s.latch
     byte d below =
         ap (read_byte 2) (at d below) ∙ byte-two 2 (after_dots (d + pending) p s) refl
         ∙ status_byte-after (d + pending) p s fits (here d below) ∙ sym was.latch
+
     same : (d : ℕ) → d < dots - pending → after_read 2 p (after_dots d p (after_dots pending p s)) ≡ after_dots d p (after_dots pending p s)
     same d below =
         let e : Screen = after_dots (d + pending) p s in
