@@ -1,9 +1,10 @@
 pub mod Bytes
-pub mod Chains
+pub mod Counters
 pub mod Digits
-pub mod Judging
-pub mod Limits
-pub mod Planned
+pub mod Lines
 pub mod Readers
+pub mod Searching
 pub mod Serving
 pub mod Statuses
+pub mod Workers
+pub mod Works

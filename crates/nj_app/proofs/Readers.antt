@@ -1,78 +1,74 @@
--- What a file's reading says of the work that reads it.
-use Rattle.std.proofs.Common.{◌≡◌, ◌<◌, ℕ, List, length, option_and_then, IsSomeAnd, Some, Result, Ok, Err, refl, sym, ap, ◌∙◌, subst, inl, inr}
+-- What the reader of a file says of the work that reads it.
+use Rattle.std.proofs.Common.{◌≡◌, ◌<◌, ◌≤◌, ℕ, List, length, false, true, nat_lt, map, Contains, option_and_then, IsSomeAnd, Option, Some, None, Result, Ok, Err, refl, sym, ap, ◌∙◌, subst, inl, inr, arith}
+use Rattle.std.proofs.lemmas.Bool.Decides.{nat_tests}
 use Rattle.nj_outside.specs.Fnv.{fnv_of}
 use Rattle.nj_outside.specs.Told.{Files}
-use Rattle.nj_outside.specs.declared.reading.ReadRefused.{ReadRefused}
-use Rattle.nj_outside.specs.declared.reading.ReadRefused.TheVariants as reads
-use Rattle.nj_app.specs.Loading.{IsRefusal, Reads, StopsUnread}
-use Rattle.nj_app.specs.Refusals.{refusal_line, too_long}
-use Rattle.nj_app.specs.Stops.{Ends, Leads, Loads}
-use Rattle.nj_app.specs.Work.{Work, given, Reaches, refused, accepted, loaded}
+use Rattle.nj_app.specs.Formats.{FileFormat, loaded, made, names_of, reading_of}
+use Rattle.nj_app.specs.Refusals.{too_long}
+use Rattle.nj_app.specs.Stops.{Ends, IsRefusal, Leads, Loads, Reads}
+use Rattle.nj_app.specs.Work.{Work, Reaches, given}
 use Rattle.nj_app.specs.declared.stops.Stop.{Stop}
-use Rattle.nj_app.specs.declared.stops.Stop.TheVariants.{ReadFault, NoMemory}
+use Rattle.nj_app.specs.declared.stops.Stop.TheVariants as stops
+use Rattle.nj_app.proofs.Serving.{ends_then, leads_then, ends_free, reads_load, refused_reads}
 
--- want of memory ends any work
-pub ends_free : (files : Files) (work : Work) (failed : ℕ) (stop : Stop) → stop ≡ NoMemory → Ends files work failed stop
-unfolding Ends
-ends_free files work failed stop e = subst (λ s. Ends files work failed s) (sym e) tt
+module _ {A : Type 0} (files : Files) (format : FileFormat A) (failed : ℕ) where
+  -- bytes that are not too many are read as they say
+  reading_within : (bytes : List ℕ) → length bytes ≤ format.bounds.limit → reading_of format bytes ≡ format.says bytes
+  reading_within bytes within = let test : nat_lt format.bounds.limit (length bytes)
+      ≡ false = grind (arith, nat_tests) in rw test refl
 
--- a failed read ends the work that comes to that file
-ends_failed : (files : Files) (work : Work) (failed : ℕ) (stop : Stop) → stop ≡ ReadFault → Reaches files work failed → Ends files work failed stop
-unfolding Ends
-ends_failed files work failed stop e h = subst (λ s. Ends files work failed s) (sym e) h
+  -- too many bytes are refused for that
+  reading_past : (bytes : List ℕ) → format.bounds.limit < length bytes →
+      reading_of format bytes ≡ Err (too_long format.bounds.too_long format.bounds.limit)
+  reading_past bytes past = let test : nat_lt format.bounds.limit (length bytes)
+      ≡ true = grind (arith, nat_tests) in rw test refl
 
--- a kind of file: how it is read, its refusals' status and name, and the work that begins with it
-pub record IsKind {A : Type 0} (files : Files) (failed : ℕ) (reading : List ℕ → Result A (List ℕ)) (status : ℕ) (kind name : List ℕ) (stop_with : List ℕ → Stop) (work : (A → Work) → Work) : Type 0 where
-  pub begins : (next : A → Work) → work next ≡ loaded reading status kind name next
-  pub ends : (w : Work) (line : List ℕ) → given files w ≡ Some (refused status line) → Ends files w failed (stop_with line)
+  pub made_loads : (bytes : List ℕ) (result : Result A Stop) → length bytes ≤ format.bounds.limit →
+      Reads format.bounds.kind (format.says bytes) result → Loads files (made format bytes) failed result
+  made_loads bytes result within reads =
+      reads_load files format.bounds.kind (reading_of format bytes) failed result
+      (rw (reading_within bytes within) reads)
 
-module _ {A : Type 0} (files : Files) (failed : ℕ) (reading : List ℕ → Result A (List ℕ)) (status : ℕ) (kind name : List ℕ) (stop_with : List ℕ → Stop) (work : (A → Work) → Work) (is_kind : IsKind files failed reading status kind name stop_with work) where
-  -- a file that is accepted leads on with what it was read as
-  accepted_leads : (bytes : List ℕ) (value : A) (next : A → Work) → files name ≡ Some bytes → reading bytes ≡ Ok value →
-      Leads files (work next) (next value)
-  accepted_leads bytes value next there read = rw (is_kind.begins next) (record {
-    same =
-        ap (λ file. option_and_then (λ b. given files (accepted status kind next (reading b))) file) there
-        ∙ ap (λ r. given files (accepted status kind next r)) read;
-    reaches = λ hash reached. inr (
-        subst (λ file. IsSomeAnd file (λ b. Reaches files (accepted status kind next (reading b)) hash)) (sym there)
-        (subst (λ r. Reaches files (accepted status kind next r) hash) (sym read) reached));
-  })
+  pub made_past : (bytes : List ℕ) (stop : Stop) → format.bounds.limit < length bytes →
+      IsRefusal format.bounds.kind (too_long format.bounds.too_long format.bounds.limit) stop →
+      Loads files (made format bytes) failed (Err stop)
+  made_past bytes stop past refusal =
+      reads_load files format.bounds.kind (reading_of format bytes) failed (Err stop)
+      (refused_reads format.bounds.kind (reading_of format bytes) _ stop (reading_past bytes past) refusal)
 
-  -- a file that is refused gives the refusal
-  refused_gives : (bytes refusal : List ℕ) (next : A → Work) → files name ≡ Some bytes → reading bytes ≡ Err refusal →
-      given files (work next) ≡ Some (refused status (refusal_line kind refusal))
-  refused_gives bytes refusal next there read =
-      ap (given files) (is_kind.begins next)
-      ∙ ap (λ file. option_and_then (λ b. given files (accepted status kind next (reading b))) file) there
-      ∙ ap (λ r. given files (accepted status kind next r)) read
+  module _ (name : List ℕ) where
+    -- a name that is no file's
+    pub without_loads : (value : A) → Some value ≡ format.without name →
+        Loads files (loaded format name) failed (Ok value)
+    unfolding Loads
+    without_loads value e = λ next. rw (← e) (record { same = refl; reaches = λ hash reached. reached })
 
-  -- the stop of a refusal ends the work
-  refusal_ends : (bytes refusal : List ℕ) (next : A → Work) (stop : Stop) → files name ≡ Some bytes → reading bytes ≡ Err refusal →
-      IsRefusal stop_with kind refusal stop → Ends files (work next) failed stop
-  refusal_ends bytes refusal next stop there read (inl e) = ends_free files (work next) failed stop e
-  refusal_ends bytes refusal next stop there read (inr e) =
-      subst (λ s. Ends files (work next) failed s) (sym e) (is_kind.ends (work next) _ (refused_gives bytes refusal next there read))
+    module _ (is_file : None ≡ format.without name) where
+      -- a file that is there leads on as its bytes do
+      read_leads : (bytes : List ℕ) (next : A → Work) → files name ≡ Some bytes →
+          Leads files (loaded format name next) (made format bytes next)
+      read_leads bytes next there = rw (← is_file) (record {
+        same = ap (λ file. option_and_then (λ b. given files (made format b next)) file) there;
+        reaches = λ hash reached. inr (subst (λ file. IsSomeAnd file (λ b. Reaches files (made format b next) hash))
+            (sym there) reached);
+      })
 
-  pub loads_read : (bytes : List ℕ) (result : Result A Stop) → files name ≡ Some bytes → Reads (IsRefusal stop_with kind) (reading bytes) result →
-      Loads files work failed result
-  unfolding Loads
-  loads_read bytes (Ok value) there h = λ next. accepted_leads bytes value next there h
-  loads_read bytes (Err stop) there (inl e) = λ next. ends_free files (work next) failed stop e
-  loads_read bytes (Err stop) there (inr h) = λ next. refusal_ends bytes h.0 next stop there h.1 h.2
+      pub file_loads : (bytes : List ℕ) (result : Result A Stop) → files name ≡ Some bytes →
+          Loads files (made format bytes) failed result →
+          Loads files (loaded format name) failed result
+      unfolding Loads
+      file_loads bytes (Ok value) there h = λ next. leads_then files _ _ _ (read_leads bytes next there) (h next)
+      file_loads bytes (Err stop) there h = λ next. ends_then files _ _ failed stop (read_leads bytes next there)
+          (h next)
 
-  pub loads_unread : (limit : ℕ) (number : List ℕ) (refused : ReadRefused) (stop : Stop) → StopsUnread (IsRefusal stop_with kind) number refused stop →
-      (refused ≡ reads.ReadFault → failed ≡ fnv_of name) →
-      ((n : ℕ) → refused ≡ reads.TooLong n → (file : List ℕ) × (files name ≡ Some file) × (limit < length file)) →
-      ((n : ℕ) → refused ≡ reads.TooLong n → n ≡ limit) →
-      ((bytes : List ℕ) → limit < length bytes → reading bytes ≡ Err (too_long number limit)) →
-      Loads files work failed (Err stop)
-  unfolding Loads
-  loads_unread limit number reads.ReadFault stop h fault long is_limit read = λ next.
-      ends_failed files (work next) failed stop h (rw (is_kind.begins next) (inl (fault refl)))
-  loads_unread limit number (reads.TooLong n) stop h fault long is_limit read = λ next.
-      let file = long n refl in
-      let refusal = read file.0 file.2 ∙ ap (λ m. Err (too_long number m)) (sym (is_limit n refl)) in
-      refusal_ends file.0 (too_long number n) next stop file.1 refusal h
-  loads_unread limit number reads.NoMemory stop h fault long is_limit read = λ next.
-      ends_free files (work next) failed stop h
+      -- a failed read of it
+      pub fault_loads : failed ≡ fnv_of name → Loads files (loaded format name) failed (Err stops.ReadFault)
+      unfolding Loads Ends
+      fault_loads e = λ next. rw (← is_file) (inl e)
+
+      pub fault_named : failed ≡ fnv_of name → Contains (map fnv_of (names_of format name)) failed
+      fault_named e = rw (← is_file) (0, omega arith, sym e)
+
+    pub no_memory_loads : Loads files (loaded format name) failed (Err stops.NoMemory)
+    unfolding Loads
+    no_memory_loads = λ next. ends_free files (loaded format name next) failed stops.NoMemory refl

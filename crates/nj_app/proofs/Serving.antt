@@ -1,98 +1,186 @@
--- How the loading of one file after another makes the answer of `play`.
-use Rattle.std.proofs.Common.{◌≡◌, ◌+◌, ◌∷◌, ℕ, List, length, Contains, add-one, arith, Some, Result, Ok, Err, sym, ◌∙◌, subst}
+-- How one thing that was read leads on to the next, and to a reply.
+use Rattle.std.proofs.Common.{◌≡◌, ◌+◌, ◌≤◌, ◌++◌, ℕ, List, map, Contains, Some, Result, Ok, Err, ◌⊎◌, inl, inr, refl, sym, ap, ◌∙◌, subst, arith}
+use Rattle.std.proofs.lemmas.List.{map-append}
+use Rattle.std.proofs.lemmas.List.Elements.{Contains-append_left, Contains-append_right}
+use Rattle.nj_outside.specs.Fnv.{fnv_of}
 use Rattle.nj_outside.specs.Told.{Files}
-use Rattle.nj_ines.specs.Cartridge.{Cartridge}
-use Rattle.nj_machine.specs.Frame.{play}
-use Rattle.nj_app.specs.Play.{play_work, play_text, with_cart, with_movie}
-use Rattle.nj_app.specs.Stops.{Ends, Leads, Loads, Serves, Replies}
-use Rattle.nj_app.specs.Work.{Work, Done, given, done}
+use Rattle.nj_workers.specs.Counted.{AreCounted}
+use Rattle.nj_app.specs.Answer.{frames_of}
+use Rattle.nj_app.specs.Refusals.{refusal_line}
+use Rattle.nj_app.specs.Stops.{Ends, Leads, Loads, Reads, Replies, Serves}
+use Rattle.nj_app.specs.Work.{Work, Done, accepted, both, done, frames_for, given}
+use Rattle.nj_app.specs.declared.stops.Kind.{Kind}
 use Rattle.nj_app.specs.declared.stops.Reply.{Reply}
 use Rattle.nj_app.specs.declared.stops.Stop.{Stop}
 use Rattle.nj_app.specs.declared.stops.Stop.TheVariants as stops
 
--- a stop is the result's end of the work
-pub serves_stop : (files : Files) (work : Work) (failed : ℕ) (result : Result Reply Stop) (stop : Stop) → result ≡ Err stop →
-    Ends files work failed stop → Serves files work failed result
-unfolding Serves
-serves_stop files work failed result stop e h = subst (λ r. Serves files work failed r) (sym e) h
+-- ---- one work and what is left of it
 
 -- what ends the rest ends the whole
-pub ends_then : (files : Files) (whole rest : Work) (failed : ℕ) (stop : Stop) → Leads files whole rest → Ends files rest failed stop →
+pub ends_then : (files : Files) (whole rest : Work) (failed : ℕ) (stop : Stop) → Leads files whole rest →
+    Ends files rest failed stop →
     Ends files whole failed stop
 unfolding Ends
 ends_then files whole rest failed stops.Usage leads h = leads.same ∙ h
-ends_then files whole rest failed (stops.Cartridge line) leads h = leads.same ∙ h
-ends_then files whole rest failed (stops.Script line) leads h = leads.same ∙ h
-ends_then files whole rest failed (stops.Plan line) leads h = leads.same ∙ h
-ends_then files whole rest failed (stops.Movie line) leads h = leads.same ∙ h
-ends_then files whole rest failed (stops.Source line) leads h = leads.same ∙ h
+ends_then files whole rest failed (stops.Refused kind line) leads h = leads.same ∙ h
 ends_then files whole rest failed stops.ReadFault leads h = leads.reaches failed h
 ends_then files whole rest failed stops.NoMemory leads h = tt
 
--- a stop that was loaded ends any work that begins with the loading
-pub loads_stop : {A : Type 0} (files : Files) (work : (A → Work) → Work) (failed : ℕ) (stop : Stop) → Loads files work failed (Err stop) →
-    (next : A → Work) → Ends files (work next) failed stop
-unfolding Loads
-loads_stop files work failed stop loads next = loads next
-
--- what was loaded is what any such work goes on with
-pub loads_lead : {A : Type 0} (files : Files) (work : (A → Work) → Work) (failed : ℕ) (value : A) → Loads files work failed (Ok value) →
-    (next : A → Work) → Leads files (work next) (next value)
-unfolding Loads
-loads_lead files work failed value loads next = loads next
-
 -- one part after another
-pub leads_then : (files : Files) (whole middle rest : Work) → Leads files whole middle → Leads files middle rest → Leads files whole rest
+pub leads_then : (files : Files) (whole middle rest : Work) → Leads files whole middle → Leads files middle rest →
+    Leads files whole rest
 leads_then files whole middle rest first second = record {
   same = first.same ∙ second.same;
   reaches = λ hash h. first.reaches hash (second.reaches hash h);
 }
 
--- what serves the rest serves the whole
-pub serves_then : (files : Files) (whole rest : Work) (failed : ℕ) (result : Result Reply Stop) → Leads files whole rest →
-    Serves files rest failed result → Serves files whole failed result
+-- want of memory ends any work
+pub ends_free : (files : Files) (work : Work) (failed : ℕ) (stop : Stop) → stop ≡ stops.NoMemory →
+    Ends files work failed stop
+unfolding Ends
+ends_free files work failed stop e = subst (λ s. Ends files work failed s) (sym e) tt
+
+-- ---- what was loaded
+
+module _ {A B : Type 0} (files : Files) (first : (A → Work) → Work) (second : (B → Work) → Work) where
+  -- a stop of the first
+  pub both_ends : (failed : ℕ) (stop : Stop) (result : Result (A × B) Stop) → result ≡ Err stop →
+      Loads files first failed (Err stop) →
+      Loads files (both first second) failed result
+  unfolding Loads
+  both_ends failed stop result e h = rw e (λ next. h (λ a. second (λ b. next (a, b))))
+
+  -- a stop of the second
+  pub both_stops : (before failed : ℕ) (a : A) (stop : Stop) (result : Result (A × B) Stop) → result ≡ Err stop →
+      Loads files first before (Ok a) → Loads files second failed (Err stop) →
+      Loads files (both first second) failed result
+  unfolding Loads
+  both_stops before failed a stop result e h k =
+      rw e (λ next. ends_then files _ _ failed stop (h (λ a. second (λ b. next (a, b)))) (k (λ b. next (a, b))))
+
+  -- the values of both
+  pub both_load : (before failed : ℕ) (a : A) (b : B) → Loads files first before (Ok a) →
+      Loads files second failed (Ok b) →
+      Loads files (both first second) failed (Ok (a, b))
+  unfolding Loads
+  both_load before failed a b h k =
+      λ next. leads_then files _ _ _ (h (λ a. second (λ b. next (a, b)))) (k (λ b. next (a, b)))
+
+-- the hash of a name among those of two lists
+pub among_first : (xs ys : List (List ℕ)) (hash : ℕ) → Contains (map fnv_of xs) hash →
+    Contains (map fnv_of (xs ++ ys)) hash
+among_first xs ys hash h =
+    let Q : List ℕ → Type 0 = λ hashes. Contains hashes hash in
+    subst Q (sym (map-append fnv_of xs ys)) (Contains-append_left (map fnv_of xs) (map fnv_of ys) hash h)
+
+pub among_second : (xs ys : List (List ℕ)) (hash : ℕ) → Contains (map fnv_of ys) hash →
+    Contains (map fnv_of (xs ++ ys)) hash
+among_second xs ys hash h =
+    let Q : List ℕ → Type 0 = λ hashes. Contains hashes hash in
+    subst Q (sym (map-append fnv_of xs ys)) (Contains-append_right (map fnv_of xs) (map fnv_of ys) hash h)
+
+-- a result has one stop
+pub same_stop : {A : Type 0} (result : Result A Stop) (stop other : Stop) → result ≡ Err stop → result ≡ Err other →
+    stop ≡ other
+same_stop result stop other p q = cc
+
+-- ---- what is served
+
+module _ {A : Type 0} (files : Files) (work : (A → Work) → Work) (next : A → Work) where
+  -- a stop of the loading is served
+  pub serves_unloaded : (failed : ℕ) (stop : Stop) (result : Result Reply Stop) → result ≡ Err stop →
+      Loads files work failed (Err stop) →
+      Serves files (work next) failed result
+  unfolding Loads Serves
+  serves_unloaded failed stop result e loads = rw e (loads next)
+
+  -- what was loaded is served as the rest is
+  pub serves_loaded : (before failed : ℕ) (value : A) (result : Result Reply Stop) →
+      Loads files work before (Ok value) →
+      Serves files (next value) failed result → Serves files (work next) failed result
+  unfolding Loads Serves Replies
+  serves_loaded before failed value (Ok reply) loads h = (h.0, (loads next).same ∙ h.1)
+  serves_loaded before failed value (Err stop) loads h = ends_then files _ _ failed stop (loads next) h
+
+  -- the frames are those of the rest
+  pub frames_loaded : (before : ℕ) (value : A) (new old : ℕ) → Loads files work before (Ok value) →
+      new ≤ old + frames_of (given files (next value)) → new ≤ old + frames_of (given files (work next))
+  unfolding Loads
+  frames_loaded before value new old loads h = rw (loads next).same h
+
+  -- so are those of several workers
+  pub counted_loaded : (before : ℕ) (value : A) (workers : ℕ) (old new : List ℕ) → Loads files work before (Ok value) →
+      AreCounted workers old new (frames_of (given files (next value))) →
+      AreCounted workers old new (frames_of (given files (work next)))
+  unfolding Loads
+  counted_loaded before value workers old new loads h = rw (loads next).same h
+
+-- a reply with this text is the answer
+pub serves_reply : (files : Files) (failed status frames : ℕ) (text : List ℕ) (reply : Reply) → reply.status ≡ status →
+    reply.text ≡ text →
+    Serves files (Done (done status text frames)) failed (Ok reply)
 unfolding Serves Replies
-serves_then files whole rest failed (Ok reply) leads h = (h.0, leads.same ∙ h.1)
-serves_then files whole rest failed (Err stop) leads h = ends_then files whole rest failed stop leads h
-
-module _ (files : Files) (cart_name movie_name : List ℕ) where
-  -- what is left of the work once the cartridge was read
-  abbrev after_cart : Cartridge → Work
-  after_cart cart = with_movie movie_name (λ pads. Done (done 0 (play_text (length pads) (play cart pads)) (length pads)))
-
-  pub cart_stops : (failed : ℕ) (stop : Stop) → Loads files (with_cart cart_name) failed (Err stop) →
-      Ends files (play_work cart_name movie_name) failed stop
-  unfolding Loads play_work
-  cart_stops failed stop loads = loads after_cart
-
-  pub movie_stops : (before failed : ℕ) (cart : Cartridge) (stop : Stop) → Loads files (with_cart cart_name) before (Ok cart) →
-      Loads files (with_movie movie_name) failed (Err stop) → Ends files (play_work cart_name movie_name) failed stop
-  unfolding Loads play_work
-  movie_stops before failed cart stop first second =
-      ends_then files _ (after_cart cart) failed stop (first after_cart) (second _)
-
-  pub plays : (before failed : ℕ) (cart : Cartridge) (pads : List ℕ) → Loads files (with_cart cart_name) before (Ok cart) →
-      Loads files (with_movie movie_name) failed (Ok pads) →
-      given files (play_work cart_name movie_name) ≡ Some (done 0 (play_text (length pads) (play cart pads)) (length pads))
-  unfolding Loads play_work
-  plays before failed cart pads first second = (first after_cart).same ∙ (second _).same
-
--- a reply with the text of the answer is the answer
-pub serves_reply : (files : Files) (work : Work) (failed status frames : ℕ) (text : List ℕ) (reply_text : List ℕ) → reply_text ≡ text →
-    given files work ≡ Some (done status text frames) → Serves files work failed (Ok (record { status = status; text = reply_text }))
-unfolding Serves Replies
-serves_reply files work failed status frames text reply_text e h = rw e (frames, h)
+serves_reply files failed status frames text reply is_status is_text = (
+  frames,
+  λ i. Some (done (sym is_status i) (sym is_text i) frames),
+)
 
 -- want of memory ends any work
-pub serves_no_memory : (files : Files) (work : Work) (failed : ℕ) (result : Result Reply Stop) (stop : Stop) → result ≡ Err stop →
+pub serves_no_memory : (files : Files) (work : Work) (failed : ℕ) (result : Result Reply Stop) (stop : Stop) →
+    result ≡ Err stop →
     stop ≡ stops.NoMemory → Serves files work failed result
 unfolding Serves Ends
 serves_no_memory files work failed result stop e h = rw (e, h) tt
 
--- one name more
-pub contains_after : (xs : List ℕ) (x y : ℕ) → Contains xs y → Contains (x ∷ xs) y
-contains_after xs x y h = (h.0 + 1, omega (arith, h.1), rw add-one h.2)
+-- ---- what is read in memory, or computed
 
--- a result has one stop
-pub same_stop : {A : Type 0} (result : Result A Stop) (stop other : Stop) → result ≡ Err stop → result ≡ Err other → stop ≡ other
-same_stop result stop other p q = cc
+module _ {A : Type 0} (files : Files) (kind : Kind) (reading : Result A (List ℕ)) where
+  pub reads_load : (failed : ℕ) (result : Result A Stop) → Reads kind reading result →
+      Loads files (λ next. accepted kind next reading) failed result
+  unfolding Loads Ends
+  reads_load failed (Ok value) h = λ next. rw h (record { same = refl; reaches = λ hash reached. reached })
+  reads_load failed (Err stop) (inl e) = λ next. rw e tt
+  reads_load failed (Err stop) (inr h) = λ next. rw (h.1, h.2) refl
+
+  module _ (rest : A → Work) where
+    -- a stop of the reading is served
+    pub reading_stops : (failed : ℕ) (stop : Stop) (result : Result Reply Stop) → result ≡ Err stop →
+        Reads kind reading (Err stop) →
+        Serves files (accepted kind rest reading) failed result
+    reading_stops failed stop result e reads =
+        serves_unloaded files (λ next. accepted kind next reading) rest failed stop result e
+        (reads_load failed (Err stop) reads)
+
+    -- what was read is served as the rest is
+    pub reading_serves : (failed : ℕ) (value : A) (result : Result Reply Stop) → Reads kind reading (Ok value) →
+        Serves files (rest value) failed result → Serves files (accepted kind rest reading) failed result
+    reading_serves failed value result reads h =
+        serves_loaded files (λ next. accepted kind next reading) rest failed failed value result
+        (reads_load failed (Ok value) reads) h
+
+    -- the frames of a reading whose answers have so many
+    pub reading_frames : (frames new old : ℕ) → ((value : A) → frames_of (given files (rest value)) ≡ frames) →
+        new ≤ old + frames_for reading frames → new ≤ old + frames_of (given files (accepted kind rest reading))
+    reading_frames frames new old same h = by_reading reading h where
+      by_reading : (r : Result A (List ℕ)) → new ≤ old + frames_for r frames →
+          new ≤ old + frames_of (given files (accepted kind rest r))
+      by_reading (Ok value) h = rw (same value) h
+      by_reading (Err refusal) h = h
+
+    -- the same of several workers
+    pub reading_counted : (workers frames : ℕ) (old new : List ℕ) →
+        ((value : A) → frames_of (given files (rest value)) ≡ frames) →
+        AreCounted workers old new (frames_for reading frames) →
+        AreCounted workers old new (frames_of (given files (accepted kind rest reading)))
+    reading_counted workers frames old new same h = by_reading reading h where
+      by_reading : (r : Result A (List ℕ)) → AreCounted workers old new (frames_for r frames) →
+          AreCounted workers old new (frames_of (given files (accepted kind rest r)))
+      by_reading (Ok value) h = rw (same value) h
+      by_reading (Err refusal) h = h
+
+-- the reading is refused, and so is the result
+pub refused_reads : {A : Type 0} (kind : Kind) (reading : Result A (List ℕ)) (text : List ℕ) (stop : Stop) →
+    reading ≡ Err text →
+    (stop ≡ stops.NoMemory) ⊎ (stop ≡ stops.Refused kind (refusal_line kind text)) → Reads kind reading (Err stop)
+refused_reads kind reading text stop e (inl h) = inl h
+refused_reads kind reading text stop e (inr h) = inr (text, e, h)

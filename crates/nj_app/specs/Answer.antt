@@ -1,14 +1,15 @@
 -- What the program answers, as a function of its words and of the files. Our own.
-use Rattle.std.specs.Prelude.{ℕ, List, [], ◌∷◌, ◌++◌, Option, bytes_eq, codes, if◌then◌else◌}
+use Rattle.std.specs.Prelude.{ℕ, List, [], ◌++◌, Option}
 use Rattle.std.specs.Option.{option_map_or}
 use Rattle.nj_outside.specs.Told.{Files}
 use Rattle.nj_app.specs.Asm.{asm_work}
 use Rattle.nj_app.specs.Check.{check_work}
-use Rattle.nj_app.specs.Made.{workload_work}
+use Rattle.nj_app.specs.Formats.{cart_format, movie_format, names_of, script_format, source_format}
 use Rattle.nj_app.specs.Play.{play_work}
 use Rattle.nj_app.specs.Refusals.{usage_line}
 use Rattle.nj_app.specs.Replay.{replay_work}
 use Rattle.nj_app.specs.Search.{search_work}
+use Rattle.nj_app.specs.Workload.{workload_work}
 use Rattle.nj_app.specs.Work.{Answer, Work, Done, given, refused}
 use Rattle.nj_words.specs.Commands.{reading}
 use Rattle.nj_words.specs.declared.Command.{Command}
@@ -35,15 +36,14 @@ answer words files = given files (work_for words)
 abbrev pub frames_of : Option Answer → ℕ
 frames_of a = option_map_or (λ x. x.frames) a 0
 
--- the file of a movie's name: `-` is none
-abbrev pub movie_file : List ℕ → List (List ℕ)
-movie_file name = if bytes_eq name (codes "-") then [] else name ∷ []
-
--- the names of a command's files
+-- the names of a command's files; `-` as a movie is none
 abbrev pub file_names : Command → List (List ℕ)
-file_names (Play cart movie) = cart ∷ movie_file movie
-file_names (Replay cart script start movie) = cart ∷ script ∷ (movie_file start ++ movie_file movie)
-file_names (Search cart script start options) = cart ∷ script ∷ movie_file start
-file_names (Check cart script) = cart ∷ script ∷ []
+file_names (Play cart movie) = names_of cart_format cart ++ names_of movie_format movie
+file_names (Replay cart script start movie) =
+    (names_of cart_format cart ++ names_of script_format script) ++
+    (names_of movie_format start ++ names_of movie_format movie)
+file_names (Search cart script start options) =
+    (names_of cart_format cart ++ names_of script_format script) ++ names_of movie_format start
+file_names (Check cart script) = names_of cart_format cart ++ names_of script_format script
 file_names (Workload number) = []
-file_names (Asm source) = source ∷ []
+file_names (Asm source) = names_of source_format source

@@ -2,9 +2,9 @@ pub mod Answer
 pub mod Asm
 pub mod Causes
 pub mod Check
+pub mod Formats
+pub mod Kinds
 pub mod Laws
-pub mod Loading
-pub mod Made
 pub mod Outcomes
 pub mod Play
 pub mod Refusals
@@ -12,3 +12,5 @@ pub mod Replay
 pub mod Search
 pub mod Stops
 pub mod Work
+pub mod Workload
+pub mod Workers

@@ -1,10 +1,15 @@
 -- The text of a search's outcome. Our own.
-use Rattle.std.specs.Prelude.{ℕ, List, [], ◌∷◌, ◌++◌, length, codes}
-use Rattle.std.specs.Fmt.{decimal}
+use Rattle.std.specs.Prelude.{ℕ, ℤ, List, [], ◌∷◌, ◌++◌, length, codes}
+use Rattle.std.specs.Fmt.{decimal, signed_decimal}
 use Rattle.nj_movie.specs.Text.{movie_text}
 use Rattle.nj_search.specs.declared.searching.Outcome.{Outcome}
 use Rattle.nj_search.specs.declared.searching.Outcome.TheVariants.{Won, Exhausted, Limit}
-use Rattle.nj_app.specs.Replay.{outcome_line}
+
+-- the first line of an outcome, by its word: its steps, its frames and its reward
+unfoldable pub outcome_line : List ℕ → ℕ → ℕ → ℤ → List ℕ
+outcome_line word step frames reward =
+    codes "# " ++ (word ++ (codes " step=" ++ (decimal step ++ (codes " frames=" ++ (decimal frames
+    ++ (codes " reward=" ++ (signed_decimal reward ++ 10 ∷ [])))))))
 
 -- the line of a search that was exhausted at a step
 unfoldable pub exhausted_line : ℕ → List ℕ

@@ -1,22 +1,12 @@
 -- `play CART MOVIE`: the working memory after a movie. Our own.
-use Rattle.std.specs.Prelude.{ℕ, ◌/◌, ◌%◌, ◌==◌, Bool, true, List, [], ◌∷◌, ◌++◌, length, Result, bytes_eq, codes, if◌then◌else◌}
+use Rattle.std.specs.Prelude.{ℕ, ◌/◌, ◌%◌, ◌==◌, Bool, true, List, [], ◌∷◌, ◌++◌, length, codes, if◌then◌else◌}
 use Rattle.std.specs.Fmt.{decimal, digit_glyph}
 use Rattle.std.specs.List.{flat_map, enumerate_from}
 use Rattle.nj_ines.specs.Cartridge.{Cartridge}
-use Rattle.nj_ines.specs.Reading.{cartridge_of}
-use Rattle.nj_movie.specs.Text.{movie_of}
 use Rattle.nj_machine.specs.State.{State, ram_of, is_jammed}
 use Rattle.nj_machine.specs.Frame.{play}
-use Rattle.nj_app.specs.Refusals.{cart_refusal, movie_refusal, too_long}
-use Rattle.nj_app.specs.Work.{Work, Done, done, loaded, refusal_told, within}
-
--- the longest cartridge that is read, in bytes
-abbrev pub cart_limit : ℕ
-cart_limit = 1048576
-
--- the longest movie that is read, in bytes
-abbrev pub movie_limit : ℕ
-movie_limit = 16777216
+use Rattle.nj_app.specs.Formats.{cart_format, loaded, movie_format}
+use Rattle.nj_app.specs.Work.{Work, Done, both, done}
 
 -- a byte as two hexadecimal digits, in upper case
 abbrev pub hex_byte : ℕ → List ℕ
@@ -37,29 +27,17 @@ ram_lines at ram = flat_map ram_line (enumerate_from at ram)
 -- the first line: how many frames were played, and whether the processor runs or is jammed
 unfoldable pub play_line : ℕ → Bool → List ℕ
 play_line frames jammed =
-    codes "# play frames=" ++ (decimal frames ++ (codes " state=" ++ ((if jammed then codes "jam" else codes "run") ++ 10 ∷ [])))
+    codes "# play frames=" ++
+    (decimal frames ++ (codes " state=" ++ ((if jammed then codes "jam" else codes "run") ++ 10 ∷ [])))
 
 -- the text of a state after so many frames
 unfoldable pub play_text : ℕ → State → List ℕ
 play_text frames state = play_line frames (is_jammed state) ++ ram_lines 0 (ram_of state)
 
--- what a cartridge's file is read as
-unfoldable pub cart_reading : List ℕ → Result Cartridge (List ℕ)
-cart_reading bytes = within cart_limit (too_long (codes "9") cart_limit) (λ bytes. refusal_told cart_refusal (cartridge_of bytes)) bytes
+-- the answer of a cartridge and a movie that were read
+unfoldable pub played_work : Cartridge → List ℕ → Work
+played_work cart pads = Done (done 0 (play_text (length pads) (play cart pads)) (length pads))
 
--- what a movie's file is read as
-unfoldable pub movie_reading : List ℕ → Result (List ℕ) (List ℕ)
-movie_reading bytes = within movie_limit (too_long (codes "5") movie_limit) (λ bytes. refusal_told movie_refusal (movie_of bytes)) bytes
-
--- the cartridge of this name is read
-unfoldable pub with_cart : List ℕ → (Cartridge → Work) → Work
-with_cart name next = loaded cart_reading 4 (codes "cartridge") name next
-
--- the movie of this name is read; `-` is the empty movie and no file
-unfoldable pub with_movie : List ℕ → (List ℕ → Work) → Work
-with_movie name next = if bytes_eq name (codes "-") then next [] else loaded movie_reading 6 (codes "movie") name next
-
--- the cartridge is read, then the movie, and the movie is played
+-- the cartridge is read, then the movie, which is then played
 unfoldable pub play_work : List ℕ → List ℕ → Work
-play_work cart movie =
-    with_cart cart (λ cart. with_movie movie (λ pads. Done (done 0 (play_text (length pads) (play cart pads)) (length pads))))
+play_work cart movie = both (loaded cart_format cart) (loaded movie_format movie) (λ said. played_work said.0 said.1)

@@ -1,4 +1,5 @@
--- The lines on `err`: `nj: ` and what stopped the command. A refusal is its number, its name and each of its fields. Our own.
+-- The lines on `err`: `nj: ` and what stopped the command. A refusal is its number, its name and each of its fields.
+-- Our own.
 use Rattle.std.specs.Prelude.{ℕ, nat_le, ◌&&◌, List, [], ◌∷◌, ◌++◌, map, codes, if◌then◌else◌}
 use Rattle.std.specs.Fmt.{decimal, signed_decimal}
 use Rattle.nj_asm.specs.declared.refusals.AsmRefused.{AsmRefused}
@@ -13,6 +14,8 @@ use Rattle.nj_search.specs.declared.planning.PlanRefused.{PlanRefused}
 use Rattle.nj_search.specs.declared.planning.PlanRefused.TheVariants as plans
 use Rattle.nj_script.specs.declared.refusal.ScriptRefused.{ScriptRefused}
 use Rattle.nj_script.specs.declared.refusal.ScriptRefused.TheVariants as scripts
+use Rattle.nj_app.specs.Kinds.{kind_name}
+use Rattle.nj_app.specs.declared.stops.Kind.{Kind}
 
 -- a refused cartridge; want of memory is no refusal
 unfoldable pub cart_refusal : CartRefused → List ℕ
@@ -52,7 +55,8 @@ script_refusal scripts.NotJson = codes "1 NotJson"
 script_refusal (scripts.Missing key) = codes "2 Missing key=" ++ shown key
 script_refusal (scripts.UnknownKey key) = codes "3 UnknownKey key=" ++ shown key
 script_refusal (scripts.WrongKind key) = codes "4 WrongKind key=" ++ shown key
-script_refusal (scripts.OutOfRange key value) = codes "5 OutOfRange key=" ++ (shown key ++ (codes " value=" ++ signed_decimal value))
+script_refusal (scripts.OutOfRange key value) = codes "5 OutOfRange key=" ++
+    (shown key ++ (codes " value=" ++ signed_decimal value))
 script_refusal (scripts.UnknownName name) = codes "6 UnknownName name=" ++ shown name
 script_refusal (scripts.TwiceNamed name) = codes "7 TwiceNamed name=" ++ shown name
 script_refusal (scripts.TooMany key limit) = codes "8 TooMany key=" ++ (shown key ++ (codes " limit=" ++ decimal limit))
@@ -72,18 +76,22 @@ asm_refusal sources.NoMemory = []
 
 -- a refused plan
 unfoldable pub plan_refusal : PlanRefused → List ℕ
-plan_refusal (plans.BudgetTooSmall budget cost) = codes "1 BudgetTooSmall budget=" ++ (decimal budget ++ (codes " cost=" ++ decimal cost))
-plan_refusal (plans.SeenTooSmall need slots) = codes "2 SeenTooSmall need=" ++ (decimal need ++ (codes " slots=" ++ decimal slots))
-plan_refusal (plans.TrailTooLong rows limit) = codes "3 TrailTooLong rows=" ++ (decimal rows ++ (codes " limit=" ++ decimal limit))
-plan_refusal (plans.MovieTooLong frames limit) = codes "4 MovieTooLong frames=" ++ (decimal frames ++ (codes " limit=" ++ decimal limit))
+plan_refusal (plans.BudgetTooSmall budget cost) = codes "1 BudgetTooSmall budget=" ++
+    (decimal budget ++ (codes " cost=" ++ decimal cost))
+plan_refusal (plans.SeenTooSmall need slots) = codes "2 SeenTooSmall need=" ++
+    (decimal need ++ (codes " slots=" ++ decimal slots))
+plan_refusal (plans.TrailTooLong rows limit) = codes "3 TrailTooLong rows=" ++
+    (decimal rows ++ (codes " limit=" ++ decimal limit))
+plan_refusal (plans.MovieTooLong frames limit) = codes "4 MovieTooLong frames=" ++
+    (decimal frames ++ (codes " limit=" ++ decimal limit))
 
 -- a file with more bytes than its limit, by the number that its kind of file gives this refusal
-abbrev pub too_long : List ℕ → ℕ → List ℕ
-too_long number limit = number ++ (codes " TooLong limit=" ++ decimal limit)
+unfoldable pub too_long : ℕ → ℕ → List ℕ
+too_long number limit = decimal number ++ (codes " TooLong limit=" ++ decimal limit)
 
--- the line of a refused file of this kind
-unfoldable pub refusal_line : List ℕ → List ℕ → List ℕ
-refusal_line kind refusal = codes "nj: " ++ kind ++ codes " " ++ refusal ++ 10 ∷ []
+-- the line of a refusal of this kind
+unfoldable pub refusal_line : Kind → List ℕ → List ℕ
+refusal_line kind refusal = codes "nj: " ++ kind_name kind ++ codes " " ++ refusal ++ 10 ∷ []
 
 -- the line of words without a reading
 abbrev pub usage_line : List ℕ

@@ -1,43 +1,45 @@
 -- What stops a command before its text, and what a stop or a reply says of the command's work. Our own.
-use Rattle.std.specs.Prelude.{◌≡◌, ℕ, List, Some, Result, Ok, Err}
+use Rattle.std.specs.Prelude.{◌≡◌, ◌⊎◌, ℕ, List, Some, Result, Ok, Err, MatchResult}
 use Rattle.nj_outside.specs.Told.{Files}
-use Rattle.nj_app.specs.Refusals.{usage_line, read_fault_line, no_memory_line}
+use Rattle.nj_app.specs.Kinds.{kind_status}
+use Rattle.nj_app.specs.Refusals.{refusal_line, usage_line, read_fault_line, no_memory_line}
 use Rattle.nj_app.specs.Work.{Work, given, Reaches, refused, done}
+use Rattle.nj_app.specs.declared.stops.Kind.{Kind}
 use Rattle.nj_app.specs.declared.stops.Reply.{Reply}
 use Rattle.nj_app.specs.declared.stops.Stop.{Stop}
-use Rattle.nj_app.specs.declared.stops.Stop.TheVariants.{Usage, Cartridge, Script, Plan, Movie, Source, ReadFault, NoMemory}
+use Rattle.nj_app.specs.declared.stops.Stop.TheVariants.{Usage, Refused, ReadFault, NoMemory}
 
 -- the exit status of a stop
 abbrev pub status_of : Stop → ℕ
 status_of Usage = 3
-status_of (Cartridge line) = 4
-status_of (Script line) = 5
-status_of (Plan line) = 5
-status_of (Movie line) = 6
-status_of (Source line) = 12
+status_of (Refused kind line) = kind_status kind
 status_of ReadFault = 7
 status_of NoMemory = 9
 
 -- the line on `err` of a stop
 abbrev pub line_of : Stop → List ℕ
 line_of Usage = usage_line
-line_of (Cartridge line) = line
-line_of (Script line) = line
-line_of (Plan line) = line
-line_of (Movie line) = line
-line_of (Source line) = line
+line_of (Refused kind line) = line
 line_of ReadFault = read_fault_line
 line_of NoMemory = no_memory_line
 
--- the stop is the work's end over these files: a refusal is its answer, and at a failed read the work comes to a file whose
+-- the stop has the line of this refusal, or memory ran out
+abbrev pub IsRefusal : Kind → List ℕ → Stop → Type 0
+IsRefusal kind refusal stop = (stop ≡ NoMemory) ⊎ (stop ≡ Refused kind (refusal_line kind refusal))
+
+-- the result is what was read: its value, or the stop of its refusal
+abbrev pub Reads : {A : Type 0} → Kind → Result A (List ℕ) → Result A Stop → Type 0
+Reads kind reading result =
+    MatchResult result (λ value. reading ≡ Ok value)
+    (λ stop. (stop ≡ NoMemory) ⊎ ((refusal : List ℕ) × (reading ≡ Err refusal)
+    × (stop ≡ Refused kind (refusal_line kind refusal))))
+
+-- the stop is the work's end over these files: a refusal is its answer, and at a failed read the work comes to a file
+-- whose
 -- name has the hash of the last failed read
 unfoldable pub Ends : Files → Work → ℕ → Stop → Type 0
 Ends files work failed Usage = given files work ≡ Some (refused 3 usage_line)
-Ends files work failed (Cartridge line) = given files work ≡ Some (refused 4 line)
-Ends files work failed (Script line) = given files work ≡ Some (refused 5 line)
-Ends files work failed (Plan line) = given files work ≡ Some (refused 5 line)
-Ends files work failed (Movie line) = given files work ≡ Some (refused 6 line)
-Ends files work failed (Source line) = given files work ≡ Some (refused 12 line)
+Ends files work failed (Refused kind line) = given files work ≡ Some (refused (kind_status kind) line)
 Ends files work failed ReadFault = Reaches files work failed
 Ends files work failed NoMemory = Unit {0}
 

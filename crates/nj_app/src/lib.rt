@@ -2,25 +2,21 @@
 //! its one line of refusal, and answers the exit status. What it answers is a function of the words and the files.
 #![tactic(auto)]
 
-mod assembling;
-mod checking;
+mod commands;
+mod files;
+mod formats;
+mod jobs;
 mod laws;
-mod loading;
-mod making;
 mod outcomes;
-mod planning;
-mod playing;
 mod refusals;
-mod replaying;
 mod running;
-#[cfg(test)]
-mod search_tests;
-mod searching;
+mod sharing;
 mod stops;
-#[cfg(test)]
-mod tests;
+mod telling;
 
-pub use laws::{won_text_is_a_movie, won_text_replays};
-pub use nj_outside::{Shelf, Sink};
+pub use laws::{won_text_is_a_movie, won_text_replays, workers_change_no_answer};
+pub use nj_outside::{Gate, OpenGate, Shelf, Sink};
 pub use nj_steps::Steps;
+pub use nj_words::asks_workers;
 pub use running::run_plain;
+pub use sharing::{COUNTERS, run};

@@ -2,17 +2,15 @@
 
 ghost use Rattle.std.specs.Prelude.{◌≡◌, ◌++◌, IfOk};
 ghost use Rattle.nj_app.specs.Causes.{IsCarriedOut};
-ghost use Rattle.nj_app.specs.Outcomes.{exhausted_line, outcome_head, outcome_lines, outcome_status, outcome_text};
-ghost use Rattle.nj_app.specs.Replay.{outcome_line};
+ghost use Rattle.nj_app.specs.Outcomes.{exhausted_line, outcome_head, outcome_line, outcome_lines, outcome_status, outcome_text};
 
-use crate::stops::bytes_of;
 use nj_movie::write_movie;
 use nj_search::Outcome;
 use nj_seq::{Seq, Text};
 use std::alloc::{AllocError, Global};
 
 /// The first line of an outcome that has a movie, by its word.
-#[tactic(auto, unfolding(crate::specs::Replay::outcome_line))]
+#[tactic(auto, unfolding(crate::specs::Outcomes::outcome_line))]
 pub fn outcome_line(
     alloc: Global,
     word: &str,
@@ -77,7 +75,8 @@ fn outcome_lines(alloc: Global, outcome: &Outcome) -> Result<Vec<u8>, AllocError
 pub fn outcome_text(alloc: Global, outcome: &Outcome) -> Result<Seq<u8>, AllocError>
     ensures { IfOk result (λ text. text ≡ outcome_text outcome.now) }
 {
-    let mut text = bytes_of(outcome_head(alloc, outcome)?);
+    let head = outcome_head(alloc, outcome)?;
+    let mut text = Seq::from_vec(head.into_string().into_bytes());
     let lines = outcome_lines(alloc, outcome)?;
     text.extend_from_slice(lines.as_slice())?;
     Ok(text)

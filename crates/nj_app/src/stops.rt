@@ -1,34 +1,56 @@
+//! What a command comes to: a reply, or what stops it.
+
 ghost use Rattle.std.specs.Prelude.{◌≡◌};
+ghost use Rattle.nj_app.specs.Kinds.{kind_name, kind_status};
 ghost use Rattle.nj_app.specs.Stops.{status_of, line_of};
 
 use nj_seq::{Seq, Text};
 use std::alloc::AllocError;
 
-/// Why a command ends before its text. A refused file has its whole line.
-#[derive(Debug, Drop)]
+/// What a refusal is of: a kind of file, or a plan.
+#[derive(Clone, Copy)]
+pub enum Kind {
+    Cartridge,
+    Script,
+    Plan,
+    Movie,
+    Source,
+}
+
+impl Kind {
+    /// Its name in a line of refusal.
+    pub fn name(self) -> &'static str
+        ensures { result.now ≡ kind_name self }
+    {
+        match self {
+            Kind::Cartridge => "cartridge",
+            Kind::Script => "script",
+            Kind::Plan => "plan",
+            Kind::Movie => "movie",
+            Kind::Source => "asm",
+        }
+    }
+
+    /// The exit status of a command that ends with such a refusal.
+    pub fn status(self) -> u8
+        ensures { result ≡ kind_status self }
+    {
+        match self {
+            Kind::Cartridge => 4,
+            Kind::Script | Kind::Plan => 5,
+            Kind::Movie => 6,
+            Kind::Source => 12,
+        }
+    }
+}
+
+/// Why a command ends before its text. A refusal has its whole line.
+#[derive(Drop)]
 pub enum Stop {
     Usage,
-    Cartridge { line: Text },
-    Script { line: Text },
-    Plan { line: Text },
-    Movie { line: Text },
-    Source { line: Text },
+    Refused { kind: Kind, line: Text },
     ReadFault,
     NoMemory,
-}
-
-/// A command that was carried out: its exit status and its text.
-#[derive(Debug, Drop)]
-pub struct Reply {
-    pub status: u8,
-    pub text: Seq<u8>,
-}
-
-/// The bytes of a text, which move.
-pub fn bytes_of(text: Text) -> Seq<u8>
-    ensures { result ≡ text }
-{
-    Seq::from_vec(text.into_string().into_bytes())
 }
 
 impl Stop {
@@ -37,11 +59,7 @@ impl Stop {
     {
         match self {
             Stop::Usage => 3,
-            Stop::Cartridge { line: _ } => 4,
-            Stop::Script { line: _ } => 5,
-            Stop::Plan { line: _ } => 5,
-            Stop::Movie { line: _ } => 6,
-            Stop::Source { line: _ } => 12,
+            Stop::Refused { kind, line: _ } => kind.status(),
             Stop::ReadFault => 7,
             Stop::NoMemory => 9,
         }
@@ -53,11 +71,7 @@ impl Stop {
     {
         match self {
             Stop::Usage => b"nj: usage\n",
-            Stop::Cartridge { line } => line.as_bytes(),
-            Stop::Script { line } => line.as_bytes(),
-            Stop::Plan { line } => line.as_bytes(),
-            Stop::Movie { line } => line.as_bytes(),
-            Stop::Source { line } => line.as_bytes(),
+            Stop::Refused { kind: _, line } => line.as_bytes(),
             Stop::ReadFault => b"nj: read fault\n",
             Stop::NoMemory => b"nj: no memory\n",
         }
@@ -71,5 +85,22 @@ impl From<AllocError> for Stop {
 
     fn from(_error: AllocError) -> Stop {
         Stop::NoMemory
+    }
+}
+
+/// A command that was carried out: its exit status and its text.
+#[derive(Drop)]
+pub struct Reply {
+    pub status: u8,
+    pub text: Seq<u8>,
+}
+
+impl Reply {
+    /// The reply with this text, whose bytes move.
+    pub fn of(status: u8, text: Text) -> Reply
+        ensures { result ≡ record { status = status; text = text } }
+    {
+        let text = Seq::from_vec(text.into_string().into_bytes());
+        Reply { status, text }
     }
 }

@@ -136,22 +136,48 @@ uxrom-high-place m at h from below =
           ap (λ k. get_or m.prg k 0) (omega arith) ∙ (sym (high-byte m.prg m.bank at from) ∙ sym (uxrom-byte m at h.mapper));
     }
 
+-- what a read by a kept number needs and gives
+pub record IsSeen (m : Banks) (kept at : ℕ) : Type 0 where
+  pub few : kept ≤ 294912
+  pub above : 65536 ≤ kept + at
+  pub inside : kept + at - 65536 < length m.prg
+  pub byte : get_or m.prg (kept + at - 65536) 0 ≡ prg_byte m at
+
+seen : (m : Banks) (kept start base at : ℕ) → IsPlace m start base at → kept + base ≡ start + 65536 → kept ≤ 294912 → base ≤ at → IsSeen m kept at
+seen m kept start base at place same few from =
+    record {
+      few = few;
+      above = omega arith;
+      inside = omega (arith, place.inside);
+      byte = ap (λ k. get_or m.prg k 0) (omega arith) ∙ place.byte;
+    }
+
 -- the windows of every board
-pub low-place : (m : Banks) (low high pattern at : ℕ) → IsWindowed m low high pattern → 0x8000 ≤ at → at < 0xC000 → IsPlace m low 0x8000 at
-low-place m low high pattern at is from below = subst (λ start. IsPlace m start 0x8000 at) (sym is.low_is) (go is.fits.board)
+pub low-seen : (m : Banks) (low high pattern at : ℕ) → IsWindowed m low high pattern → 0x8000 ≤ at → at < 0xC000 → IsSeen m low at
+low-seen m low high pattern at is from below =
+    let place = go is.fits.board in
+    seen m low (low_of m) 0x8000 at place (omega (arith, is.low_is)) (omega (arith, is.low_is, place.few)) from
   where
     go : IsNrom m ⊎ (IsUxrom m ⊎ IsCnrom m) → IsPlace m (low_of m) 0x8000 at
     go (inl h) = fixed-low-place m 0 at h.mapper refl h.prg from below
     go (inr (inl h)) = uxrom-low-place m at h is.fits.bank from below
     go (inr (inr h)) = fixed-low-place m 3 at h.mapper refl h.prg from below
 
-pub high-place : (m : Banks) (low high pattern at : ℕ) → IsWindowed m low high pattern → 0xC000 ≤ at → at < 0x10000 → IsPlace m high 0xC000 at
-high-place m low high pattern at is from below = subst (λ start. IsPlace m start 0xC000 at) (sym is.high_is) (go is.fits.board)
+pub high-seen : (m : Banks) (low high pattern at : ℕ) → IsWindowed m low high pattern → 0xC000 ≤ at → at < 0x10000 → IsSeen m high at
+high-seen m low high pattern at is from below =
+    let place = go is.fits.board in
+    let size = least is.fits.board in
+    seen m high (length m.prg - 16384) 0xC000 at place (omega (arith, is.high_is, size)) (omega (arith, is.high_is, place.few)) from
   where
     go : IsNrom m ⊎ (IsUxrom m ⊎ IsCnrom m) → IsPlace m (length m.prg - 16384) 0xC000 at
     go (inl h) = fixed-high-place m 0 at h.mapper refl h.prg from below
     go (inr (inl h)) = uxrom-high-place m at h from below
     go (inr (inr h)) = fixed-high-place m 3 at h.mapper refl h.prg from below
+
+    least : IsNrom m ⊎ (IsUxrom m ⊎ IsCnrom m) → 16384 ≤ length m.prg
+    least (inl h) = (fixed-size m.prg h.prg).0
+    least (inr (inl h)) = omega (arith, uxrom-least m.prg h.prg)
+    least (inr (inr h)) = (fixed-size m.prg h.prg).0
 
 -- a piece of a memory is as long as its places are apart
 length-piece : (memory : List ℕ) (from to size : ℕ) → to ≤ length memory → from + size ≡ to → length (slice_range memory from to) ≡ size

@@ -1,5 +1,5 @@
 -- What calls leave as it was, and that a board stays one.
-use Rattle.std.proofs.Common.{◌≡◌, ◌==◌, ◌⊎◌, inl, inr, ℕ, ◌-◌, ◌*◌, ◌<◌, Bool, true, false, cond, List, length, refl, sym, subst, ◌∙◌, arith}
+use Rattle.std.proofs.Common.{◌≡◌, ◌==◌, ◌⊎◌, inl, inr, ℕ, ◌+◌, ◌*◌, ◌<◌, Bool, true, false, cond, List, length, refl, sym, ap, subst, ◌∙◌, arith}
 use Rattle.std.proofs.lemmas.Bool.{ne_eqb}
 use Rattle.nj_board.specs.Nrom.{IsProgram}
 use Rattle.nj_banked.specs.Banks.{Banks, begun, bank_count, IsNrom, IsUxrom, IsCnrom, IsBanks}
@@ -66,7 +66,7 @@ put-windowed m low high pattern chr is ram size =
 
 -- a bank is chosen, and the windows stand where they are told
 moved : (m : Banks) (low high pattern bank new_low new_pattern : ℕ) → IsWindowed m low high pattern → bank < bank_count m →
-    new_low ≡ low_of (with_bank m bank) → new_pattern ≡ pattern_at (with_bank m bank) → IsWindowed (with_bank m bank) new_low high new_pattern
+    new_low ≡ 32768 + low_of (with_bank m bank) → new_pattern ≡ pattern_at (with_bank m bank) → IsWindowed (with_bank m bank) new_low high new_pattern
 moved m low high pattern bank new_low new_pattern is below low_is pattern_is =
     record {
       fits = fits-kept m (with_bank m bank) (choice-kept m bank) below is.fits;
@@ -77,23 +77,23 @@ moved m low high pattern bank new_low new_pattern is below low_is pattern_is =
 
 -- with UxROM the low window moves, with CNROM the picture's, with NROM none
 pub uxrom-moved : (m : Banks) (low high pattern bank : ℕ) → IsWindowed m low high pattern → bank < bank_count m → m.mapper ≡ 2 →
-    IsWindowed (with_bank m bank) (16384 * bank) high pattern
+    IsWindowed (with_bank m bank) (32768 + 16384 * bank) high pattern
 uxrom-moved m low high pattern bank is below two =
-    moved m low high pattern bank (16384 * bank) pattern is below (sym (low-bank (with_bank m bank) two))
+    moved m low high pattern bank (32768 + 16384 * bank) pattern is below (ap (◌+◌ 32768) (sym (low-bank (with_bank m bank) two)))
     (is.pattern_is ∙ (view-zero m 2 two refl ∙ sym (view-zero (with_bank m bank) 2 two refl)))
 
 pub cnrom-moved : (m : Banks) (low high pattern bank : ℕ) → IsWindowed m low high pattern → bank < bank_count m → m.mapper ≡ 3 →
     IsWindowed (with_bank m bank) low high (8192 * bank)
 cnrom-moved m low high pattern bank is below three =
     moved m low high pattern bank low (8192 * bank) is below
-    (is.low_is ∙ (low-zero m 3 three refl ∙ sym (low-zero (with_bank m bank) 3 three refl)))
+    (is.low_is ∙ ap (◌+◌ 32768) (low-zero m 3 three refl ∙ sym (low-zero (with_bank m bank) 3 three refl)))
     (sym (view-bank (with_bank m bank) three))
 
 pub none-moved : (m : Banks) (low high pattern bank : ℕ) → IsWindowed m low high pattern → bank < bank_count m → (m.mapper ≡ 2 → ⊥) → (m.mapper ≡ 3 → ⊥) →
     IsWindowed (with_bank m bank) low high pattern
 none-moved m low high pattern bank is below two three =
     moved m low high pattern bank low pattern is below
-    (is.low_is ∙ (low-zero m m.mapper refl (ne_eqb _ 2 two) ∙ sym (low-zero (with_bank m bank) m.mapper refl (ne_eqb _ 2 two))))
+    (is.low_is ∙ ap (◌+◌ 32768) (low-zero m m.mapper refl (ne_eqb _ 2 two) ∙ sym (low-zero (with_bank m bank) m.mapper refl (ne_eqb _ 2 two))))
     (is.pattern_is ∙ (view-zero m m.mapper refl (ne_eqb _ 3 three) ∙ sym (view-zero (with_bank m bank) m.mapper refl (ne_eqb _ 3 three))))
 
 -- power just on, a cartridge's board shows bank 0
@@ -104,12 +104,12 @@ some-first m (inr (inr h)) = omega (arith, cnrom-count m h.mapper, cnrom-least m
 
 pub begun-windowed : (prg chr : List ℕ) (chr_ram : Bool) (mapper high : ℕ) →
     let m : Banks = begun prg chr chr_ram mapper in
-    IsNrom m ⊎ (IsUxrom m ⊎ IsCnrom m) → high ≡ length prg - 16384 → IsWindowed m 0 high 0
+    IsNrom m ⊎ (IsUxrom m ⊎ IsCnrom m) → high ≡ length prg → IsWindowed m 32768 high 0
 begun-windowed prg chr chr_ram mapper high board high_is =
     let m : Banks = begun prg chr chr_ram mapper in
     record {
       fits = record { board = board; bank = some-first m board };
-      low_is = none (mapper == 2);
+      low_is = ap (◌+◌ 32768) (none (mapper == 2));
       high_is = high_is;
       pattern_is = none (mapper == 3);
     }

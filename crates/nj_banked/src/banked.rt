@@ -16,11 +16,15 @@ const CNROM: u16 = 3;
 // A bank of program memory.
 const PRG_BANK: usize = 0x4000;
 
+// What is kept of the window at $8000 where it stands on the first bank.
+const LOWEST: usize = 0x8000;
+
 // A bank of pattern memory.
 const CHR_BANK: usize = 0x2000;
 
 /// A cartridge's memories behind NROM, UxROM or CNROM, with the chosen bank. Program memory is read through two windows
-/// of 16 KiB, whose places in it are kept, so that a read takes a comparison and a sum.
+/// of 16 KiB. What is kept of each is its place in program memory less its address, moved up by 64 KiB, so that a read
+/// chooses one of two numbers and adds it to the address.
 #[derive(Drop)]
 pub struct Banked {
     prg: Vec<u8>,
@@ -28,7 +32,8 @@ pub struct Banked {
     chr_ram: bool,
     mapper: u16,
     bank: u8,
-    // Where in program memory the window at $8000 begins, and where that at $C000 begins.
+    // Where in program memory the byte at an address stands is the address and this number less 64 KiB: one number for
+    // the window at $8000, one for that at $C000.
     low: usize,
     high: usize,
     // Where in pattern memory the picture's window begins.
@@ -52,14 +57,14 @@ impl Banked {
         requires { IsUxrom (begun prg.items chr.items chr_ram mapper) ⊎ IsCnrom (begun prg.items chr.items chr_ram mapper) }
         ensures { result ≡ begun prg.items chr.items chr_ram mapper }
     {
-        let high = prg.len() - PRG_BANK;
+        let high = prg.len();
         Banked {
             prg,
             chr,
             chr_ram,
             mapper,
             bank: 0,
-            low: 0,
+            low: LOWEST,
             high,
             pattern: 0,
         }
@@ -70,14 +75,14 @@ impl Banked {
         requires { IsNrom (begun prg.items chr.items chr_ram 0) }
         ensures { result ≡ begun prg.items chr.items chr_ram 0 }
     {
-        let high = prg.len() - PRG_BANK;
+        let high = prg.len();
         Banked {
             prg,
             chr,
             chr_ram,
             mapper: 0,
             bank: 0,
-            low: 0,
+            low: LOWEST,
             high,
             pattern: 0,
         }
@@ -127,9 +132,9 @@ impl Banked {
         ensures { result ≡ prg_byte self.now at }
     {
         if at < 0xC000 {
-            self.prg[self.low + at as usize - 0x8000]
+            self.prg[self.low + at as usize - 0x10000]
         } else {
-            self.prg[self.high + at as usize - 0xC000]
+            self.prg[self.high + at as usize - 0x10000]
         }
     }
 
@@ -140,7 +145,7 @@ impl Banked {
     {
         self.bank = bank;
         if self.mapper == UXROM {
-            self.low = PRG_BANK * bank as usize;
+            self.low = LOWEST + PRG_BANK * bank as usize;
         } else if self.mapper == CNROM {
             self.pattern = CHR_BANK * bank as usize;
         }

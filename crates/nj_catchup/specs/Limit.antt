@@ -5,9 +5,9 @@ use Rattle.nj_dots.specs.Screen.{nmi_line_of}
 use Rattle.nj_dots.specs.Dots.{to_event}
 use Rattle.nj_catchup.specs.declared.lull.Lull.{Lull}
 
--- fewer than there are up to the next change of the vertical blank flag, and none once an end is marked
+-- how many dots may be pending: all before the next that changes the vertical blank flag, and none once an end is marked
 unfoldable pub limit_of : Screen → ℕ
-limit_of s = if s.ended then 0 else to_event s
+limit_of s = if s.ended then 0 else to_event s - 1
 
 -- the dots that are pending: those that are no longer spare
 abbrev pub pending_of : Lull → ℕ

@@ -119,9 +119,10 @@ impl Picture for CatchUp {
 
     #[inline(always)]
     fn run(&mut self, dots: u32, pattern: &[u8]) {
-        if dots < self.lull.spare {
-            self.lull.spare -= dots;
-        } else {
+        let past = self.lull.spare < dots;
+        self.lull.spare = self.lull.spare.wrapping_sub(dots);
+        if past {
+            self.lull.give_back(dots);
             self.run_all(dots, pattern);
         }
     }

@@ -1,12 +1,12 @@
 //! What is kept beside a picture that lags behind, so that a run of a few dots and a look at the NMI line need no more.
 
-ghost use Rattle.std.specs.Prelude.{◌≡◌, ◌≤◌};
+ghost use Rattle.std.specs.Prelude.{◌≡◌, ◌≤◌, ◌+◌, ◌%◌, ◌^◌};
 ghost use Rattle.nj_dots.specs.Screen.{IsPlaced};
 ghost use Rattle.nj_catchup.specs.Limit.{limit_of, pending_of, IsLull};
 
 use nj_dots::Screen;
 
-/// The dots up to the next event, over which the NMI line stays as it is. Some of them are pending.
+/// The dots before the next event, over which the NMI line stays as it is. Some of them are pending.
 #[derive(Clone, Copy)]
 pub struct Lull {
     /// How many dots may be pending.
@@ -39,6 +39,15 @@ impl Lull {
     {
         self.limit - self.spare
     }
+
+    /// Gives back so many spare dots, which were taken though there were not as many.
+    #[cold]
+    #[inline(never)]
+    pub fn give_back(&mut self, dots: u32)
+        ensures { self.new ≡ record self.old { spare = (self.old.spare + dots) % 2 ^ 32 } }
+    {
+        self.spare = self.spare.wrapping_add(dots);
+    }
 }
 
 // The limit of pending dots.
@@ -50,6 +59,6 @@ fn limit(screen: &Screen) -> u32
     if screen.ended {
         0
     } else {
-        screen.dots_to_event()
+        screen.dots_to_event().saturating_sub(1)
     }
 }

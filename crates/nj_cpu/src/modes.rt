@@ -1,17 +1,18 @@
 //! The addressing modes of reads, writes and changes of memory.
 
 ghost use Rattle.std.specs.Prelude.{◌≡◌, [], ◌∷◌};
-ghost use Rattle.nj_isa.specs.declared.modes.Kind.TheVariants.{Read as ReadKind, Write as WriteKind, Modify as ModifyKind};
-ghost use Rattle.nj_isa.specs.Accesses.{InZero, InZeroBy, AtWord, AtPointer, AfterPointer, ToLow, ToHigh, ToPointer, Ignores, Stay, PointerUp, access, fetch as fetched, At, end_on, end_indexed, by_mode};
+ghost use Rattle.nj_isa.specs.declared.modes.Kind.TheVariants.{Modify as ModifyKind};
+ghost use Rattle.nj_isa.specs.Accesses.{InZero, InZeroBy, AtWord, AtWordBy, AtUncarried, AtPointer, AfterPointer, ToLow, ToHigh, ToPointer, ToData, Ignores, Stay, PointerUp, access, fetch as fetched, At, end_on, by_mode};
 ghost use Rattle.nj_cpu.specs.Walk.{address_of, begun, walk, EndsAs};
+ghost use Rattle.nj_cpu.specs.Leading.{leading, ending, early_by, early, given, index_by};
 
 use crate::cycle::{fetch, idle, read, write};
 use crate::effects::{changed, index_value, make_word, stored};
 use crate::state::{Cpu, Rises};
-use nj_isa::{Bus, Index, Mode, Op};
+use nj_isa::{Bus, Index, Kind, Mode, Op};
 
 /// The address of a zero page operand.
-#[inline]
+#[inline(always)]
 fn zero_page<B: Bus>(cpu: &mut Cpu, rises: &mut Rises, bus: &mut B, op: Op) -> u16
     ensures ends { EndsAs (walk B.acts op (fetched ToLow ∷ []) (begun cpu.old (B.held bus.old) rises.old)) cpu.new (B.held bus.new) rises.new }
     ensures place { result ≡ address_of InZero (walk B.acts op (fetched ToLow ∷ []) (begun cpu.old (B.held bus.old) rises.old)) }
@@ -20,7 +21,7 @@ fn zero_page<B: Bus>(cpu: &mut Cpu, rises: &mut Rises, bus: &mut B, op: Op) -> u
 }
 
 /// The address of a zero page operand with an index, which never leaves the page.
-#[inline]
+#[inline(always)]
 fn zero_page_by<B: Bus>(cpu: &mut Cpu, rises: &mut Rises, bus: &mut B, op: Op, index: Index) -> u16
     ensures ends { EndsAs (walk B.acts op (fetched ToLow ∷ access InZero Ignores Stay ∷ []) (begun cpu.old (B.held bus.old) rises.old)) cpu.new (B.held bus.new) rises.new }
     ensures place { result ≡ address_of (InZeroBy index) (walk B.acts op (fetched ToLow ∷ access InZero Ignores Stay ∷ []) (begun cpu.old (B.held bus.old) rises.old)) }
@@ -31,7 +32,7 @@ fn zero_page_by<B: Bus>(cpu: &mut Cpu, rises: &mut Rises, bus: &mut B, op: Op, i
 }
 
 /// The high and the low byte of an absolute operand.
-#[inline]
+#[inline(always)]
 fn absolute_bytes<B: Bus>(cpu: &mut Cpu, rises: &mut Rises, bus: &mut B, op: Op) -> (u8, u8)
     ensures ends { EndsAs (walk B.acts op (fetched ToLow ∷ fetched ToHigh ∷ []) (begun cpu.old (B.held bus.old) rises.old)) cpu.new (B.held bus.new) rises.new }
     ensures high { result.0 ≡ (walk B.acts op (fetched ToLow ∷ fetched ToHigh ∷ []) (begun cpu.old (B.held bus.old) rises.old)).high }
@@ -43,7 +44,7 @@ fn absolute_bytes<B: Bus>(cpu: &mut Cpu, rises: &mut Rises, bus: &mut B, op: Op)
 }
 
 /// The high and the low byte at a pointer in zero page; the second place never leaves the page.
-#[inline]
+#[inline(always)]
 fn bytes_at<B: Bus>(cpu: &mut Cpu, rises: &mut Rises, bus: &mut B, op: Op, pointer: u8) -> (u8, u8)
     ensures ends { EndsAs (walk B.acts op (access AtPointer ToLow Stay ∷ access AfterPointer ToHigh Stay ∷ []) (record (begun cpu.old (B.held bus.old) rises.old) { pointer = pointer })) cpu.new (B.held bus.new) rises.new }
     ensures high { result.0 ≡ (walk B.acts op (access AtPointer ToLow Stay ∷ access AfterPointer ToHigh Stay ∷ []) (record (begun cpu.old (B.held bus.old) rises.old) { pointer = pointer })).high }
@@ -55,7 +56,7 @@ fn bytes_at<B: Bus>(cpu: &mut Cpu, rises: &mut Rises, bus: &mut B, op: Op, point
 }
 
 /// The high and the low byte behind a pointer in zero page.
-#[inline]
+#[inline(always)]
 fn pointed_bytes<B: Bus>(cpu: &mut Cpu, rises: &mut Rises, bus: &mut B, op: Op) -> (u8, u8)
     ensures ends { EndsAs (walk B.acts op (fetched ToPointer ∷ access AtPointer ToLow Stay ∷ access AfterPointer ToHigh Stay ∷ []) (begun cpu.old (B.held bus.old) rises.old)) cpu.new (B.held bus.new) rises.new }
     ensures high { result.0 ≡ (walk B.acts op (fetched ToPointer ∷ access AtPointer ToLow Stay ∷ access AfterPointer ToHigh Stay ∷ []) (begun cpu.old (B.held bus.old) rises.old)).high }
@@ -66,7 +67,7 @@ fn pointed_bytes<B: Bus>(cpu: &mut Cpu, rises: &mut Rises, bus: &mut B, op: Op) 
 }
 
 /// The address of an absolute operand.
-#[inline]
+#[inline(always)]
 fn absolute<B: Bus>(cpu: &mut Cpu, rises: &mut Rises, bus: &mut B, op: Op) -> u16
     ensures ends { EndsAs (walk B.acts op (fetched ToLow ∷ fetched ToHigh ∷ []) (begun cpu.old (B.held bus.old) rises.old)) cpu.new (B.held bus.new) rises.new }
     ensures place { result ≡ address_of AtWord (walk B.acts op (fetched ToLow ∷ fetched ToHigh ∷ []) (begun cpu.old (B.held bus.old) rises.old)) }
@@ -76,7 +77,7 @@ fn absolute<B: Bus>(cpu: &mut Cpu, rises: &mut Rises, bus: &mut B, op: Op) -> u1
 }
 
 /// The address behind a pointer in zero page, X added to the pointer first.
-#[inline]
+#[inline(never)]
 fn indirect_by_x<B: Bus>(cpu: &mut Cpu, rises: &mut Rises, bus: &mut B, op: Op) -> u16
     ensures ends { EndsAs (walk B.acts op (fetched ToPointer ∷ access AtPointer Ignores PointerUp ∷ access AtPointer ToLow Stay ∷ access AfterPointer ToHigh Stay ∷ []) (begun cpu.old (B.held bus.old) rises.old)) cpu.new (B.held bus.new) rises.new }
     ensures place { result ≡ address_of AtWord (walk B.acts op (fetched ToPointer ∷ access AtPointer Ignores PointerUp ∷ access AtPointer ToLow Stay ∷ access AfterPointer ToHigh Stay ∷ []) (begun cpu.old (B.held bus.old) rises.old)) }
@@ -87,57 +88,86 @@ fn indirect_by_x<B: Bus>(cpu: &mut Cpu, rises: &mut Rises, bus: &mut B, op: Op) 
     make_word(high, low)
 }
 
-/// Reads at a word with an index, and once more where the index carries into the high byte.
-#[inline]
-fn read_indexed<B: Bus>(
+/// Reads at a word with an index without the carry into the high byte. Answers the whole address, and the byte where
+/// no carry is left out and nothing but a read was asked for.
+#[inline(always)]
+fn carried<B: Bus>(
     cpu: &mut Cpu,
     rises: &mut Rises,
     bus: &mut B,
     op: Op,
+    kind: Kind,
     index: Index,
     high: u8,
     low: u8,
-) -> u8
-    ensures ends { EndsAs (walk B.acts op (end_indexed index ReadKind) (record (begun cpu.old (B.held bus.old) rises.old) { low = low; high = high })) cpu.new (B.held bus.new) rises.new }
-    ensures byte { result ≡ (walk B.acts op (end_indexed index ReadKind) (record (begun cpu.old (B.held bus.old) rises.old) { low = low; high = high })).data_ }
+) -> (u16, Option<u8>)
+    ensures ends { EndsAs (walk B.acts op (access (AtUncarried index) ToData Stay ∷ []) (record (begun cpu.old (B.held bus.old) rises.old) { low = low; high = high })) cpu.new (B.held bus.new) rises.new }
+    ensures place { result.0 ≡ address_of (AtWordBy index) (walk B.acts op (access (AtUncarried index) ToData Stay ∷ []) (record (begun cpu.old (B.held bus.old) rises.old) { low = low; high = high })) }
+    ensures early { result.1 ≡ early_by index kind (walk B.acts op (access (AtUncarried index) ToData Stay ∷ []) (record (begun cpu.old (B.held bus.old) rises.old) { low = low; high = high })) }
 {
-    let by = index_value(index, cpu);
-    let byte = read(cpu, rises, bus, make_word(high, low.wrapping_add(by)));
-    if low as u16 + by as u16 >= 256 {
-        read(
-            cpu,
-            rises,
-            bus,
-            make_word(high, low).wrapping_add(by as u16),
-        )
-    } else {
-        byte
+    let offset = index_value(index, cpu);
+    let byte = read(cpu, rises, bus, make_word(high, low.wrapping_add(offset)));
+    let at = make_word(high, low).wrapping_add(offset as u16);
+    match kind {
+        Kind::Read => {
+            if low as u16 + offset as u16 >= 256 {
+                (at, None)
+            } else {
+                (at, Some(byte))
+            }
+        }
+        Kind::Write | Kind::Modify => (at, None),
     }
 }
 
-/// Writes what an operation stores at a word with an index, after a read without the carry.
-#[inline]
-fn write_indexed<B: Bus>(
+/// The index of a mode that has one.
+#[inline(always)]
+fn mode_index(mode: Mode) -> Index
+    ensures { result ≡ index_by mode }
+{
+    match mode {
+        Mode::ZpX | Mode::AbsX => Index::X,
+        _ => Index::Y,
+    }
+}
+
+/// The accesses that lead to a mode's address. Answers the address, and the byte where it is known already.
+#[inline(always)]
+fn lead<B: Bus>(
     cpu: &mut Cpu,
     rises: &mut Rises,
     bus: &mut B,
     op: Op,
-    index: Index,
-    high: u8,
-    low: u8,
-)
-    ensures ends { EndsAs (walk B.acts op (end_indexed index WriteKind) (record (begun cpu.old (B.held bus.old) rises.old) { low = low; high = high })) cpu.new (B.held bus.new) rises.new }
+    mode: Mode,
+    kind: Kind,
+) -> (u16, Option<u8>)
+    ensures ends { EndsAs (walk B.acts op (leading mode kind) (begun cpu.old (B.held bus.old) rises.old)) cpu.new (B.held bus.new) rises.new }
+    ensures place { result.0 ≡ address_of (ending mode) (walk B.acts op (leading mode kind) (begun cpu.old (B.held bus.old) rises.old)) }
+    ensures early { result.1 ≡ early mode kind (walk B.acts op (leading mode kind) (begun cpu.old (B.held bus.old) rises.old)) }
 {
-    let by = index_value(index, cpu);
-    let _ = read(cpu, rises, bus, make_word(high, low.wrapping_add(by)));
-    let value = stored(op, cpu);
-    write(
-        cpu,
-        rises,
-        bus,
-        make_word(high, low).wrapping_add(by as u16),
-        value,
-    );
+    match mode {
+        Mode::Implied | Mode::Accumulator => {
+            idle(cpu, rises, bus);
+            (0, Some(0))
+        }
+        Mode::Immediate => match kind {
+            Kind::Read => (0, Some(fetch(cpu, rises, bus))),
+            Kind::Write | Kind::Modify => (0, Some(0)),
+        },
+        Mode::Zp => (zero_page(cpu, rises, bus, op), None),
+        Mode::ZpX | Mode::ZpY => (zero_page_by(cpu, rises, bus, op, mode_index(mode)), None),
+        Mode::Abs => (absolute(cpu, rises, bus, op), None),
+        Mode::AbsX | Mode::AbsY => {
+            let (high, low) = absolute_bytes(cpu, rises, bus, op);
+            carried(cpu, rises, bus, op, kind, mode_index(mode), high, low)
+        }
+        Mode::IndX => (indirect_by_x(cpu, rises, bus, op), None),
+        Mode::IndY => {
+            let (high, low) = pointed_bytes(cpu, rises, bus, op);
+            carried(cpu, rises, bus, op, kind, Index::Y, high, low)
+        }
+        Mode::Indirect | Mode::Relative => (0, Some(0)),
+    }
 }
 
 /// Reads a byte, writes it back, and writes what the operation makes of it. Answers the byte read.
@@ -153,186 +183,41 @@ fn change_at<B: Bus>(cpu: &mut Cpu, rises: &mut Rises, bus: &mut B, op: Op, at: 
     byte
 }
 
-/// Changes the byte at a word with an index, after a read without the carry. Answers the byte read.
-#[inline]
-fn change_indexed<B: Bus>(
-    cpu: &mut Cpu,
-    rises: &mut Rises,
-    bus: &mut B,
-    op: Op,
-    index: Index,
-    high: u8,
-    low: u8,
-) -> u8
-    ensures ends { EndsAs (walk B.acts op (end_indexed index ModifyKind) (record (begun cpu.old (B.held bus.old) rises.old) { low = low; high = high })) cpu.new (B.held bus.new) rises.new }
-    ensures byte { result ≡ (walk B.acts op (end_indexed index ModifyKind) (record (begun cpu.old (B.held bus.old) rises.old) { low = low; high = high })).data_ }
+/// The end of an instruction at its address: a read, a write, or a read and two writes. Answers the byte read, 0 where
+/// none is.
+#[inline(always)]
+fn end_at<B: Bus>(cpu: &mut Cpu, rises: &mut Rises, bus: &mut B, op: Op, kind: Kind, at: u16) -> u8
+    ensures ends { EndsAs (walk B.acts op (end_on (At at) kind) (begun cpu.old (B.held bus.old) rises.old)) cpu.new (B.held bus.new) rises.new }
+    ensures byte { result ≡ given kind (walk B.acts op (end_on (At at) kind) (begun cpu.old (B.held bus.old) rises.old)).data_ }
 {
-    let offset = index_value(index, cpu);
-    let _ = read(cpu, rises, bus, make_word(high, low.wrapping_add(offset)));
-    change_at(
-        cpu,
-        rises,
-        bus,
-        op,
-        make_word(high, low).wrapping_add(offset as u16),
-    )
+    match kind {
+        Kind::Read => read(cpu, rises, bus, at),
+        Kind::Write => {
+            let value = stored(op, cpu);
+            write(cpu, rises, bus, at, value);
+            0
+        }
+        Kind::Modify => change_at(cpu, rises, bus, op, at),
+    }
 }
 
-/// Writes what an operation stores.
-#[inline]
-fn write_at<B: Bus>(cpu: &mut Cpu, rises: &mut Rises, bus: &mut B, op: Op, at: u16)
-    ensures ends { EndsAs (walk B.acts op (end_on (At at) WriteKind) (begun cpu.old (B.held bus.old) rises.old)) cpu.new (B.held bus.new) rises.new }
-{
-    let value = stored(op, cpu);
-    write(cpu, rises, bus, at, value);
-}
-
-/// The accesses of an operation that reads. Answers the byte that its mode gives.
-#[inline]
-pub(crate) fn read_by<B: Bus>(
+/// The accesses behind the opcode's of an operation that goes by its mode. Answers the byte that the mode gives, 0
+/// where it gives none.
+#[inline(always)]
+pub(crate) fn byte_by<B: Bus>(
     cpu: &mut Cpu,
     rises: &mut Rises,
     bus: &mut B,
     op: Op,
     mode: Mode,
+    kind: Kind,
 ) -> u8
-    ensures ends { EndsAs (walk B.acts op (by_mode mode ReadKind) (begun cpu.old (B.held bus.old) rises.old)) cpu.new (B.held bus.new) rises.new }
-    ensures byte { result ≡ (walk B.acts op (by_mode mode ReadKind) (begun cpu.old (B.held bus.old) rises.old)).data_ }
+    ensures ends { EndsAs (walk B.acts op (by_mode mode kind) (begun cpu.old (B.held bus.old) rises.old)) cpu.new (B.held bus.new) rises.new }
+    ensures byte { result ≡ given kind (walk B.acts op (by_mode mode kind) (begun cpu.old (B.held bus.old) rises.old)).data_ }
 {
-    match mode {
-        Mode::Implied | Mode::Accumulator => {
-            idle(cpu, rises, bus);
-            0
-        }
-        Mode::Immediate => fetch(cpu, rises, bus),
-        Mode::Zp => {
-            let at = zero_page(cpu, rises, bus, op);
-            read(cpu, rises, bus, at)
-        }
-        Mode::ZpX => {
-            let at = zero_page_by(cpu, rises, bus, op, Index::X);
-            read(cpu, rises, bus, at)
-        }
-        Mode::ZpY => {
-            let at = zero_page_by(cpu, rises, bus, op, Index::Y);
-            read(cpu, rises, bus, at)
-        }
-        Mode::Abs => {
-            let at = absolute(cpu, rises, bus, op);
-            read(cpu, rises, bus, at)
-        }
-        Mode::AbsX => {
-            let (high, low) = absolute_bytes(cpu, rises, bus, op);
-            read_indexed(cpu, rises, bus, op, Index::X, high, low)
-        }
-        Mode::AbsY => {
-            let (high, low) = absolute_bytes(cpu, rises, bus, op);
-            read_indexed(cpu, rises, bus, op, Index::Y, high, low)
-        }
-        Mode::IndX => {
-            let at = indirect_by_x(cpu, rises, bus, op);
-            read(cpu, rises, bus, at)
-        }
-        Mode::IndY => {
-            let (high, low) = pointed_bytes(cpu, rises, bus, op);
-            read_indexed(cpu, rises, bus, op, Index::Y, high, low)
-        }
-        Mode::Indirect | Mode::Relative => 0,
-    }
-}
-
-/// The accesses of an operation that writes.
-#[inline]
-pub(crate) fn write_by<B: Bus>(cpu: &mut Cpu, rises: &mut Rises, bus: &mut B, op: Op, mode: Mode)
-    ensures ends { EndsAs (walk B.acts op (by_mode mode WriteKind) (begun cpu.old (B.held bus.old) rises.old)) cpu.new (B.held bus.new) rises.new }
-{
-    match mode {
-        Mode::Implied | Mode::Accumulator => idle(cpu, rises, bus),
-        Mode::Zp => {
-            let at = zero_page(cpu, rises, bus, op);
-            write_at(cpu, rises, bus, op, at);
-        }
-        Mode::ZpX => {
-            let at = zero_page_by(cpu, rises, bus, op, Index::X);
-            write_at(cpu, rises, bus, op, at);
-        }
-        Mode::ZpY => {
-            let at = zero_page_by(cpu, rises, bus, op, Index::Y);
-            write_at(cpu, rises, bus, op, at);
-        }
-        Mode::Abs => {
-            let at = absolute(cpu, rises, bus, op);
-            write_at(cpu, rises, bus, op, at);
-        }
-        Mode::AbsX => {
-            let (high, low) = absolute_bytes(cpu, rises, bus, op);
-            write_indexed(cpu, rises, bus, op, Index::X, high, low);
-        }
-        Mode::AbsY => {
-            let (high, low) = absolute_bytes(cpu, rises, bus, op);
-            write_indexed(cpu, rises, bus, op, Index::Y, high, low);
-        }
-        Mode::IndX => {
-            let at = indirect_by_x(cpu, rises, bus, op);
-            write_at(cpu, rises, bus, op, at);
-        }
-        Mode::IndY => {
-            let (high, low) = pointed_bytes(cpu, rises, bus, op);
-            write_indexed(cpu, rises, bus, op, Index::Y, high, low);
-        }
-        Mode::Immediate | Mode::Indirect | Mode::Relative => {}
-    }
-}
-
-/// The accesses of an operation that changes memory. Answers the byte before the change.
-#[inline]
-pub(crate) fn change_by<B: Bus>(
-    cpu: &mut Cpu,
-    rises: &mut Rises,
-    bus: &mut B,
-    op: Op,
-    mode: Mode,
-) -> u8
-    ensures ends { EndsAs (walk B.acts op (by_mode mode ModifyKind) (begun cpu.old (B.held bus.old) rises.old)) cpu.new (B.held bus.new) rises.new }
-    ensures byte { result ≡ (walk B.acts op (by_mode mode ModifyKind) (begun cpu.old (B.held bus.old) rises.old)).data_ }
-{
-    match mode {
-        Mode::Implied | Mode::Accumulator => {
-            idle(cpu, rises, bus);
-            0
-        }
-        Mode::Zp => {
-            let at = zero_page(cpu, rises, bus, op);
-            change_at(cpu, rises, bus, op, at)
-        }
-        Mode::ZpX => {
-            let at = zero_page_by(cpu, rises, bus, op, Index::X);
-            change_at(cpu, rises, bus, op, at)
-        }
-        Mode::ZpY => {
-            let at = zero_page_by(cpu, rises, bus, op, Index::Y);
-            change_at(cpu, rises, bus, op, at)
-        }
-        Mode::Abs => {
-            let at = absolute(cpu, rises, bus, op);
-            change_at(cpu, rises, bus, op, at)
-        }
-        Mode::AbsX => {
-            let (high, low) = absolute_bytes(cpu, rises, bus, op);
-            change_indexed(cpu, rises, bus, op, Index::X, high, low)
-        }
-        Mode::AbsY => {
-            let (high, low) = absolute_bytes(cpu, rises, bus, op);
-            change_indexed(cpu, rises, bus, op, Index::Y, high, low)
-        }
-        Mode::IndX => {
-            let at = indirect_by_x(cpu, rises, bus, op);
-            change_at(cpu, rises, bus, op, at)
-        }
-        Mode::IndY => {
-            let (high, low) = pointed_bytes(cpu, rises, bus, op);
-            change_indexed(cpu, rises, bus, op, Index::Y, high, low)
-        }
-        Mode::Immediate | Mode::Indirect | Mode::Relative => 0,
+    let (at, early) = lead(cpu, rises, bus, op, mode, kind);
+    match early {
+        Some(byte) => byte,
+        None => end_at(cpu, rises, bus, op, kind, at),
     }
 }

@@ -8,7 +8,7 @@ ghost use Rattle.nj_cpu.specs.Unit.{rest_by, rest_of};
 
 use crate::cycle::{fetch, idle, peek, pull, push, read};
 use crate::effects::{branch_target, finish, load_a, make_word, stored, takes};
-use crate::modes::{change_by, read_by, write_by};
+use crate::modes::byte_by;
 use crate::state::{Cpu, Rises};
 use nj_alu::{pack_flags, unpack_flags};
 use nj_isa::{Bus, Class, Kind, Op, OpRow, op_class};
@@ -44,27 +44,21 @@ pub(crate) fn enter<B: Bus>(
 
 /// An instruction that goes by its mode.
 #[tactic(auto, unfolding(crate::specs::Unit::rest_by))]
-#[inline]
+#[inline(always)]
 fn run_by_mode<B: Bus>(cpu: &mut Cpu, rises: &mut Rises, bus: &mut B, row: OpRow)
     ensures { EndsAs (rest_by B.acts ByModeClass row (begun cpu.old (B.held bus.old) rises.old)) cpu.new (B.held bus.new) rises.new }
 {
     step_over(cpu);
+    let byte = byte_by(cpu, rises, bus, row.op, row.mode, row.kind);
     match row.kind {
-        Kind::Read => {
-            let byte = read_by(cpu, rises, bus, row.op, row.mode);
-            finish(cpu, row.op, row.mode, byte);
-        }
-        Kind::Write => write_by(cpu, rises, bus, row.op, row.mode),
-        Kind::Modify => {
-            let byte = change_by(cpu, rises, bus, row.op, row.mode);
-            finish(cpu, row.op, row.mode, byte);
-        }
+        Kind::Read | Kind::Modify => finish(cpu, row.op, row.mode, byte),
+        Kind::Write => {}
     }
 }
 
 /// A branch: one cycle more where it is taken, two where it goes to another page.
 #[tactic(auto, unfolding(crate::specs::Unit::rest_by))]
-#[inline]
+#[inline(always)]
 fn branch<B: Bus>(cpu: &mut Cpu, rises: &mut Rises, bus: &mut B, row: OpRow)
     ensures { EndsAs (rest_by B.acts BranchClass row (begun cpu.old (B.held bus.old) rises.old)) cpu.new (B.held bus.new) rises.new }
 {
@@ -87,7 +81,7 @@ fn branch<B: Bus>(cpu: &mut Cpu, rises: &mut Rises, bus: &mut B, row: OpRow)
 
 /// JMP to an absolute address.
 #[tactic(auto, unfolding(crate::specs::Unit::rest_by))]
-#[inline]
+#[inline(always)]
 fn jump<B: Bus>(cpu: &mut Cpu, rises: &mut Rises, bus: &mut B, row: OpRow)
     ensures { EndsAs (rest_by B.acts JumpClass row (begun cpu.old (B.held bus.old) rises.old)) cpu.new (B.held bus.new) rises.new }
 {
@@ -99,7 +93,7 @@ fn jump<B: Bus>(cpu: &mut Cpu, rises: &mut Rises, bus: &mut B, row: OpRow)
 
 /// JMP through a pointer, which never leaves its page.
 #[tactic(auto, unfolding(crate::specs::Unit::rest_by))]
-#[inline]
+#[inline(never)]
 fn jump_indirect<B: Bus>(cpu: &mut Cpu, rises: &mut Rises, bus: &mut B, row: OpRow)
     ensures { EndsAs (rest_by B.acts JumpIndirectClass row (begun cpu.old (B.held bus.old) rises.old)) cpu.new (B.held bus.new) rises.new }
 {
@@ -113,7 +107,7 @@ fn jump_indirect<B: Bus>(cpu: &mut Cpu, rises: &mut Rises, bus: &mut B, row: OpR
 
 /// JSR: PC is pushed while it stands at the operand's second byte.
 #[tactic(auto, unfolding(crate::specs::Unit::rest_by))]
-#[inline]
+#[inline(always)]
 fn call<B: Bus>(cpu: &mut Cpu, rises: &mut Rises, bus: &mut B, row: OpRow)
     ensures { EndsAs (rest_by B.acts CallClass row (begun cpu.old (B.held bus.old) rises.old)) cpu.new (B.held bus.new) rises.new }
 {
@@ -128,7 +122,7 @@ fn call<B: Bus>(cpu: &mut Cpu, rises: &mut Rises, bus: &mut B, row: OpRow)
 
 /// RTS: behind the address that was pushed.
 #[tactic(auto, unfolding(crate::specs::Unit::rest_by))]
-#[inline]
+#[inline(always)]
 fn return_from_call<B: Bus>(cpu: &mut Cpu, rises: &mut Rises, bus: &mut B, row: OpRow)
     ensures { EndsAs (rest_by B.acts ReturnClass row (begun cpu.old (B.held bus.old) rises.old)) cpu.new (B.held bus.new) rises.new }
 {
@@ -143,7 +137,7 @@ fn return_from_call<B: Bus>(cpu: &mut Cpu, rises: &mut Rises, bus: &mut B, row: 
 
 /// RTI: the flags and PC that were pushed.
 #[tactic(auto, unfolding(crate::specs::Unit::rest_by))]
-#[inline]
+#[inline(never)]
 fn return_from_interrupt<B: Bus>(cpu: &mut Cpu, rises: &mut Rises, bus: &mut B, row: OpRow)
     ensures { EndsAs (rest_by B.acts InterruptReturnClass row (begun cpu.old (B.held bus.old) rises.old)) cpu.new (B.held bus.new) rises.new }
 {
@@ -159,7 +153,7 @@ fn return_from_interrupt<B: Bus>(cpu: &mut Cpu, rises: &mut Rises, bus: &mut B, 
 
 /// BRK: enters at $FFFE, with the byte behind the opcode skipped.
 #[tactic(auto, unfolding(crate::specs::Unit::rest_by))]
-#[inline]
+#[inline(never)]
 fn break_in<B: Bus>(cpu: &mut Cpu, rises: &mut Rises, bus: &mut B, row: OpRow)
     ensures { EndsAs (rest_by B.acts BreakClass row (begun cpu.old (B.held bus.old) rises.old)) cpu.new (B.held bus.new) rises.new }
 {
@@ -170,7 +164,7 @@ fn break_in<B: Bus>(cpu: &mut Cpu, rises: &mut Rises, bus: &mut B, row: OpRow)
 
 /// PHA.
 #[tactic(auto, unfolding(crate::specs::Unit::rest_by))]
-#[inline]
+#[inline(never)]
 fn push_a<B: Bus>(cpu: &mut Cpu, rises: &mut Rises, bus: &mut B, row: OpRow)
     ensures { EndsAs (rest_by B.acts PushAClass row (begun cpu.old (B.held bus.old) rises.old)) cpu.new (B.held bus.new) rises.new }
 {
@@ -182,7 +176,7 @@ fn push_a<B: Bus>(cpu: &mut Cpu, rises: &mut Rises, bus: &mut B, row: OpRow)
 
 /// PHP.
 #[tactic(auto, unfolding(crate::specs::Unit::rest_by))]
-#[inline]
+#[inline(never)]
 fn push_flags<B: Bus>(cpu: &mut Cpu, rises: &mut Rises, bus: &mut B, row: OpRow)
     ensures { EndsAs (rest_by B.acts PushFlagsClass row (begun cpu.old (B.held bus.old) rises.old)) cpu.new (B.held bus.new) rises.new }
 {
@@ -193,7 +187,7 @@ fn push_flags<B: Bus>(cpu: &mut Cpu, rises: &mut Rises, bus: &mut B, row: OpRow)
 
 /// PLA.
 #[tactic(auto, unfolding(crate::specs::Unit::rest_by))]
-#[inline]
+#[inline(never)]
 fn pull_a<B: Bus>(cpu: &mut Cpu, rises: &mut Rises, bus: &mut B, row: OpRow)
     ensures { EndsAs (rest_by B.acts PullAClass row (begun cpu.old (B.held bus.old) rises.old)) cpu.new (B.held bus.new) rises.new }
 {
@@ -206,7 +200,7 @@ fn pull_a<B: Bus>(cpu: &mut Cpu, rises: &mut Rises, bus: &mut B, row: OpRow)
 
 /// PLP.
 #[tactic(auto, unfolding(crate::specs::Unit::rest_by))]
-#[inline]
+#[inline(never)]
 fn pull_flags<B: Bus>(cpu: &mut Cpu, rises: &mut Rises, bus: &mut B, row: OpRow)
     ensures { EndsAs (rest_by B.acts PullFlagsClass row (begun cpu.old (B.held bus.old) rises.old)) cpu.new (B.held bus.new) rises.new }
 {

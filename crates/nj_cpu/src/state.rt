@@ -36,7 +36,7 @@ pub enum UnitEnd {
 }
 
 /// Where the NMI line rose within a unit: before its last cycle so far, and in that cycle.
-#[derive(Clone, Copy)]
+#[derive(Drop)]
 pub(crate) struct Rises {
     pub before: bool,
     pub last: bool,

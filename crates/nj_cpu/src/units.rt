@@ -48,7 +48,7 @@ fn run_instruction<B: Bus>(cpu: &mut Cpu, rises: &mut Rises, bus: &mut B)
 
 /// The entry of an NMI.
 #[tactic(auto, unfolding(crate::specs::Unit::entered))]
-#[inline]
+#[inline(never)]
 fn enter_nmi<B: Bus>(cpu: &mut Cpu, rises: &mut Rises, bus: &mut B)
     ensures { rises.old ≡ no_rise → EndsAs (entered B.acts cpu.old (B.held bus.old)) cpu.new (B.held bus.new) rises.new }
 {
@@ -83,7 +83,7 @@ fn copy_page<B: Bus>(cpu: &mut Cpu, rises: &mut Rises, bus: &mut B, page: u8)
 
 /// A sprite copy.
 #[tactic(auto, unfolding(crate::specs::Unit::copied))]
-#[inline]
+#[inline(never)]
 fn copy<B: Bus>(cpu: &mut Cpu, rises: &mut Rises, bus: &mut B, page: u8)
     ensures { rises.old ≡ no_rise → EndsAs (copied B.acts page cpu.old (B.held bus.old)) cpu.new (B.held bus.new) rises.new }
 {
@@ -109,8 +109,8 @@ fn run_active<B: Bus>(cpu: &mut Cpu, rises: &mut Rises, bus: &mut B)
 /// Sets the note at a unit's end. Where the line did not rise and the note was not Late, it stays as it is.
 #[tactic(auto, unfolding(crate::specs::Unit::note_after))]
 #[inline(always)]
-fn set_note(cpu: &mut Cpu, began: Note, rises: Rises)
-    ensures { cpu.new ≡ record cpu.old { note = note_after began cpu.old.note rises } }
+fn set_note(cpu: &mut Cpu, began: Note, rises: &Rises)
+    ensures { cpu.new ≡ record cpu.old { note = note_after began cpu.old.note rises.now } }
 {
     if rises.before || rises.last || began == Note::Late {
         cpu.note = next_note(began, cpu.note, rises);
@@ -121,8 +121,8 @@ fn set_note(cpu: &mut Cpu, began: Note, rises: Rises)
 #[tactic(auto, unfolding(crate::specs::Unit::note_after))]
 #[cold]
 #[inline(never)]
-fn next_note(began: Note, now: Note, rises: Rises) -> Note
-    ensures { result ≡ note_after began now rises }
+fn next_note(began: Note, now: Note, rises: &Rises) -> Note
+    ensures { result ≡ note_after began now rises.now }
 {
     if rises.before || began == Note::Late {
         Note::Due
@@ -150,7 +150,7 @@ pub fn unit<B: Bus>(cpu: &mut Cpu, bus: &mut B) -> UnitEnd
         last: false,
     };
     run_active(cpu, &mut rises, bus);
-    set_note(cpu, began, rises);
+    set_note(cpu, began, &rises);
     end_now(cpu)
 }
 

@@ -1,13 +1,12 @@
 -- The states of rows, run again one after another.
 use Rattle.std.proofs.Common.{◌≡◌, ℕ, suc, ◌+◌, ◌*◌, ◌<◌, ◌≤◌, List, [], ◌∷◌, ◌++◌, length, map, take, get_or, ap, ap₂, sym, ◌∙◌, arith, suc-mul, mul-suc, mul-le-mul_right}
 use Rattle.std.proofs.lemmas.List.{map_more}
-use Rattle.std.proofs.lemmas.List.Sums.{sum_by_push}
 use Rattle.nj_machine.specs.State.{State}
 use Rattle.nj_machine.specs.Image.{image_of, of_image}
 use Rattle.nj_rules.specs.declared.record.Judged.{Judged}
 use Rattle.nj_game.specs.Words.{held}
 use Rattle.nj_rows.specs.declared.Row.{Row}
-use Rattle.nj_pool.specs.Front.{Front, need, bytes_held, with_birth, empty_front}
+use Rattle.nj_pool.specs.Front.{Front, with_birth, empty_front}
 use Rattle.nj_expand.specs.Rows.{judged_at}
 use Rattle.nj_expand.specs.Again.{Before, parent_of, birth_of, state_again, image_again, judged_again, pool_again}
 
@@ -30,17 +29,17 @@ child_image before row s image is saved = saved ∙ ap image_of is
 -- ---- one row more
 
 -- a pool with one state more
-pub pool_more : (before : Before) (size limit : ℕ) (kept : List Row) (i : ℕ) (d : Row) (image : List ℕ) (old new : Front) → i < length kept
-    → image ≡ image_again before (get_or kept i d) → old ≡ pool_again before size limit (take i kept) → new ≡ with_birth image (birth_of (get_or kept i d)) old
-    → new ≡ pool_again before size limit (take (i + 1) kept)
+pub pool_more : (before : Before) (base : List ℕ) (limit : ℕ) (kept : List Row) (i : ℕ) (d : Row) (image : List ℕ) (old new : Front) → i < length kept
+    → image ≡ image_again before (get_or kept i d) → old ≡ pool_again before base limit (take i kept) → new ≡ with_birth image (birth_of (get_or kept i d)) old
+    → new ≡ pool_again before base limit (take (i + 1) kept)
 unfolding pool_again
-pool_more before size limit kept i d image old new lt shown was pushed =
+pool_more before base limit kept i d image old new lt shown was pushed =
     let images : map (image_again before) (take i kept) ++ image ∷ [] ≡ map (image_again before) (take (i + 1) kept) =
     ap (λ x. map (image_again before) (take i kept) ++ x ∷ []) shown ∙ sym (map_more (image_again before) kept i d lt) in
     let born : map birth_of (take i kept) ++ birth_of (get_or kept i d) ∷ [] ≡ map birth_of (take (i + 1) kept) =
     sym (map_more birth_of kept i d lt) in
     pushed ∙ ap (with_birth image (birth_of (get_or kept i d))) was
-    ∙ (λ j. record { size = size; limit = limit; images = images j; words = []; depth = 0; born = born j })
+    ∙ (λ j. record { base = base; limit = limit; images = images j; words = []; depth = 0; born = born j })
 
 -- the judgements with one more
 pub judged_more : (before : Before) (kept : List Row) (i : ℕ) (d : Row) (judged : Judged) (old new : List Judged) → i < length kept
@@ -50,16 +49,14 @@ judged_more before kept i d judged old new lt told was pushed =
     pushed ∙ ap₂ (λ xs x. xs ++ x ∷ []) was told ∙ sym (map_more (judged_again before) kept i d lt)
 
 -- the bytes with one state more
-pub bytes_more : (i size : ℕ) (image : List ℕ) (row : Row) (old new : Front) → new ≡ with_birth image (birth_of row) old → bytes_held old ≡ i * (size + 16) → length image ≡ size
-    → bytes_held new ≡ (i + 1) * (size + 16)
-bytes_more i size image row old new pushed was long =
-    let sum = ap bytes_held pushed ∙ sum_by_push need old.images image in
+pub bytes_more : (i size long old new : ℕ) → new ≤ old + (long + 16) → old ≤ i * (size + 16) → long ≡ size → new ≤ (i + 1) * (size + 16)
+bytes_more i size long old new pushed was same =
     let more : suc i * (size + 16) ≡ i * (size + 16) + (size + 16) = suc-mul i (size + 16) in
     let e : i + 1 ≡ suc i = omega arith in
-    rw e (omega (arith, sum, more, was, long))
+    rw e (omega (arith, pushed, more, was, same))
 
 -- there is room for one state more
-pub room_left : (i n size limit long held : ℕ) → held ≡ i * (size + 16) → i < n → n * (size + 16) ≤ limit → long ≡ size → held + (long + 16) ≤ limit
+pub room_left : (i n size limit long held : ℕ) → held ≤ i * (size + 16) → i < n → n * (size + 16) ≤ limit → long ≡ size → held + (long + 16) ≤ limit
 room_left i n size limit long held was lt most is =
     let more : suc i * (size + 16) ≡ i * (size + 16) + (size + 16) = suc-mul i (size + 16) in
     let few : suc i * (size + 16) ≤ n * (size + 16) = mul-le-mul_right (size + 16) (omega (arith, lt)) in
@@ -72,14 +69,14 @@ frames_more hold i steps old now before one =
     let f : i + 1 ≡ suc i = omega arith in
     rw f (omega (arith, before, one, e))
 
-pub pool_size : (before : Before) (size limit : ℕ) (rows : List Row) (pool : Front) → pool ≡ pool_again before size limit rows → pool.size ≡ size
+pub pool_base : (before : Before) (base : List ℕ) (limit : ℕ) (rows : List Row) (pool : Front) → pool ≡ pool_again before base limit rows → pool.base ≡ base
 unfolding pool_again
-pool_size before size limit rows pool e = ap (λ p. p.size) e
+pool_base before base limit rows pool e = ap (λ p. p.base) e
 
-pub pool_limit : (before : Before) (size limit : ℕ) (rows : List Row) (pool : Front) → pool ≡ pool_again before size limit rows → pool.limit ≡ limit
+pub pool_limit : (before : Before) (base : List ℕ) (limit : ℕ) (rows : List Row) (pool : Front) → pool ≡ pool_again before base limit rows → pool.limit ≡ limit
 unfolding pool_again
-pool_limit before size limit rows pool e = ap (λ p. p.limit) e
+pool_limit before base limit rows pool e = ap (λ p. p.limit) e
 
-pub pool_none : (before : Before) (size limit long : ℕ) (pool : Front) → long ≡ size → pool ≡ empty_front long limit → pool ≡ pool_again before size limit []
+pub pool_none : (before : Before) (base given : List ℕ) (limit : ℕ) (pool : Front) → given ≡ base → pool ≡ empty_front given limit → pool ≡ pool_again before base limit []
 unfolding pool_again
-pool_none before size limit long pool is e = e ∙ ap (λ n. empty_front n limit) is
+pool_none before base given limit pool is e = e ∙ ap (λ b. empty_front b limit) is

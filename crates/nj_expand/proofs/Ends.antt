@@ -122,7 +122,6 @@ are_kept h rows few law is = record {
   few = kept_few h;
 }
 
-
 -- ---- what is found of the rows
 
 -- the winner among rows that tell it

@@ -120,26 +120,26 @@ module _ (plan : Plan) (laws : AreLawful plan) (words : List Word) (ks : List Ca
       ∙ map_agree (λ c. child_word words (birth_of (row_of (game_of plan) c))) word_of (IsPlaced words) (word_here plan laws words) ks placed
 
 -- the pool of the next front
-abbrev pool_next : Plan → ℕ → ℕ → ℕ → List Word → Front
-pool_next plan size limit depth words =
-    record { size = size; limit = limit; images = map (image_at plan) words; words = words; depth = depth; born = [] }
+abbrev pool_next : Plan → List ℕ → ℕ → ℕ → List Word → Front
+pool_next plan base limit depth words =
+    record { base = base; limit = limit; images = map (image_at plan) words; words = words; depth = depth; born = [] }
 
 module _ (plan : Plan) (laws : AreLawful plan) (most : ℕ) (pool : Front) (judged : List Judged) (ks : List Candidate) (rows : List Row)
     (front : IsFront plan most pool judged) (kept : AreKept plan most pool.words ks rows) where
-  pub new_pool : (before : Before) (limit : ℕ) (other new : Front) → before ≡ before_of plan pool.words → other ≡ pool_again before pool.size limit rows → new ≡ next_front pool other
-      → new ≡ pool_next plan pool.size limit (pool.depth + 1) (map word_of ks)
+  pub new_pool : (before : Before) (limit : ℕ) (other new : Front) → before ≡ before_of plan pool.words → other ≡ pool_again before pool.base limit rows → new ≡ next_front pool other
+      → new ≡ pool_next plan pool.base limit (pool.depth + 1) (map word_of ks)
   unfolding pool_again
   new_pool before limit other new was is next =
       next
-      ∙ ap (next_front pool) (is ∙ ap₂ (λ b rs. pool_again b pool.size limit rs) was kept.rows_are)
-      ∙ (λ i. record { size = pool.size; limit = limit; images = images_next plan laws pool.words ks kept.placed i; words = words_next plan laws pool.words ks kept.placed i; depth = pool.depth + 1; born = [] })
+      ∙ ap (next_front pool) (is ∙ ap₂ (λ b rs. pool_again b pool.base limit rs) was kept.rows_are)
+      ∙ (λ i. record { base = pool.base; limit = limit; images = images_next plan laws pool.words ks kept.placed i; words = words_next plan laws pool.words ks kept.placed i; depth = pool.depth + 1; born = [] })
 
-  pub new_words : (before : Before) (limit : ℕ) (other new : Front) → before ≡ before_of plan pool.words → other ≡ pool_again before pool.size limit rows → new ≡ next_front pool other
+  pub new_words : (before : Before) (limit : ℕ) (other new : Front) → before ≡ before_of plan pool.words → other ≡ pool_again before pool.base limit rows → new ≡ next_front pool other
       → new.words ≡ map word_of ks
   new_words before limit other new was is next = ap (λ p. p.words) (new_pool before limit other new was is next)
 
   pub new_front : (before : Before) (len : ℕ) (other new : Front) (told : List Judged) → before ≡ before_of plan pool.words → len ≡ size_in plan → 0 < length ks
-      → other ≡ pool_again before pool.size (most * (len + 16)) rows → new ≡ next_front pool other → told ≡ map (judged_again before) rows → IsFront plan most new told
+      → other ≡ pool_again before pool.base (most * (len + 16)) rows → new ≡ next_front pool other → told ≡ map (judged_again before) rows → IsFront plan most new told
   new_front before len other new told was long some is next are =
       subst (λ p. IsFront plan most p told) (sym (new_pool before (most * (len + 16)) other new was is next))
       (record {
@@ -149,6 +149,7 @@ module _ (plan : Plan) (laws : AreLawful plan) (most : ℕ) (pool : Front) (judg
             are ∙ ap₂ (λ b rs. map (judged_again b) rs) was kept.rows_are ∙ judged_next plan laws pool.words ks kept.placed;
         some = omega (arith, length-map ks word_of, some);
         few = omega (arith, length-map ks word_of, kept.few);
+        base = front.base;
         size = front.size;
         limit = ap (λ n. most * (n + 16)) long;
       })
@@ -169,17 +170,17 @@ module _ (plan : Plan) (laws : AreLawful plan) (most : ℕ) (pool : Front) (judg
   pub parents_within : All (λ row. parent_of row < length pool.images) rows
   parents_within = subst (λ n. All (λ row. parent_of row < n) rows) (sym image_count) rows_within
 
-  born_within : (before : Before) (limit : ℕ) → HaveParents pool.words (let p : Front = pool_again before pool.size limit rows in p.born)
+  born_within : (before : Before) (limit : ℕ) → HaveParents pool.words (let p : Front = pool_again before pool.base limit rows in p.born)
   unfolding pool_again
   born_within before limit = All-map (λ birth. birth.parent < length pool.words) birth_of rows rows_within
 
-  pub have_parents : (before : Before) (limit : ℕ) (other : Front) → other ≡ pool_again before pool.size limit rows → HaveParents pool.words other.born
+  pub have_parents : (before : Before) (limit : ℕ) (other : Front) → other ≡ pool_again before pool.base limit rows → HaveParents pool.words other.born
   have_parents before limit other is = subst (λ (p : Front). HaveParents pool.words p.born) (sym is) (born_within before limit)
 
-  pub room_for : (len : ℕ) → len ≡ size_in plan → length rows * (pool.size + 16) ≤ most * (len + 16)
+  pub room_for : (len : ℕ) → len ≡ size_in plan → length rows * (length pool.base + 16) ≤ most * (len + 16)
   room_for len long =
       let count : length rows ≡ length ks = ap length kept.rows_are ∙ length-map ks (row_of (game_of plan)) in
-      let same : pool.size ≡ len = front.size ∙ sym long in
+      let same : length pool.base ≡ len = front.size ∙ sym long in
       subst (λ n. length rows * (n + 16) ≤ most * (len + 16)) (sym same) (mul-le-mul_right (len + 16) (omega (arith, count, kept.few)))
 
 -- ---- the machine

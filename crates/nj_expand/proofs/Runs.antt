@@ -93,6 +93,7 @@ one_run task place default rows new room room' steps after machine child row scr
   one_at_most : (b : Bool) (row : Row) → length (cond b (row ∷ []) []) ≤ 1
   one_at_most true row = omega arith
   one_at_most false row = omega arith
+
   one_more : (hold n : ℕ) → hold * (1 + n) ≡ hold + hold * n
   one_more hold n = mul-add hold 1 n ∙ ap (λ m. m + hold * n) (omega arith)
 

@@ -50,7 +50,7 @@ pub first_front : (plan : Plan) (most : ℕ) (pool : Front) (judged : List Judge
     → pool ≡ one_state (most * (size_in plan + 16)) (image_at plan []) → judged ≡ judged_of plan [] ∷ [] → IsFront plan most pool judged
 unfolding one_state
 first_front plan most pool judged nrom some long is are =
-    subst (λ (p : Front). IsFront plan most p judged) (sym is) (record { nrom = nrom; images = refl; judged_are = are; some = omega arith; few = some; size = long; limit = refl })
+    subst (λ (p : Front). IsFront plan most p judged) (sym is) (record { nrom = nrom; images = refl; judged_are = are; some = omega arith; few = some; base = refl; size = long; limit = refl })
 
 -- the search before its first step
 pub opened_is : (plan : Plan) (bounds : Bounds) (pool : Front) (seen : Seen) (level limit : ℕ) → pool ≡ one_state limit (image_at plan [])

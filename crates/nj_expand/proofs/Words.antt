@@ -1,9 +1,8 @@
 -- Words: their images, and the rows of their children.
-use Rattle.std.proofs.Common.{◌≡◌, ◌≤◌, ◌+◌, ◌*◌, ◌<◌, ℕ, Bool, true, false, cond, arith, map, get_or, suc-mul, zero-mul, List, [], ◌∷◌, ◌++◌, length, refl, sym, ap, subst, ◌∙◌}
-use Rattle.std.specs.Prelude.{All, sum_by}
-use Rattle.std.proofs.lemmas.List.{get_or-map, length-map}
-use Rattle.std.proofs.lemmas.List.Sums.{sum_by-cons}
-use Rattle.std.proofs.lemmas.List.Elements.{All-head, All-tail, All-nil, All-cons}
+use Rattle.std.proofs.Common.{◌≡◌, ◌≤◌, ◌+◌, ◌*◌, ◌<◌, ℕ, Bool, true, false, cond, arith, map, get_or, ◌⊎◌, inl, inr, List, [], ◌∷◌, ◌++◌, length, refl, sym, ap, subst, ◌∙◌}
+use Rattle.std.specs.Prelude.{sum_by}
+use Rattle.std.proofs.lemmas.List.{get_or-map}
+use Rattle.std.proofs.lemmas.List.Sums.{sum_by-cons, sum_by-le}
 use Rattle.nj_search_defs.specs.Game.{Word, Game}
 use Rattle.nj_search_defs.specs.Candidates.{Candidate}
 use Rattle.nj_machine.specs.State.{State, Rom, rom_of, power_on, ram_of, is_jammed}
@@ -17,9 +16,10 @@ use Rattle.nj_rules.specs.Key.{key_in}
 use Rattle.nj_game.specs.Plan.{Plan}
 use Rattle.nj_game.specs.Words.{state_of, status_of, judged_of, allowed_of, key_of, held, search_verdict, game_of}
 use Rattle.nj_rows.specs.declared.Row.{Row}
+use Rattle.nj_image.specs.Pages.{IsImageSize}
 use Rattle.nj_pool.specs.Front.{need}
 use Rattle.nj_expand.specs.Rows.{row_verdict, told_verdict, row_of, judged_at, key_at, row_told, row_at}
-use Rattle.nj_expand.specs.Front.{rom_in, size_in, image_at}
+use Rattle.nj_expand.specs.Front.{rom_in, size_in, image_at, need_at}
 
 pub is_image : (plan : Plan) (word : Word) → IsReady (state_of plan word) → rom_of (state_of plan word) ≡ rom_of (power_on plan.cartridge)
     → ((s : State) → IsReady s → IsImage (rom_of s) (image_of s)) → IsImage (rom_in plan) (image_at plan word)
@@ -101,24 +101,40 @@ pub image_here : (plan : Plan) (images words : List (List ℕ)) (place : ℕ) (i
 image_here plan images words place image are within is =
     is ∙ ap (λ xs. get_or xs place []) are ∙ get_or-map (image_at plan) words place [] [] within
 
--- equally long images need so many bytes
-pub bytes_needed : (n : ℕ) (images : List (List ℕ)) → All (λ image. length image ≡ n) images → sum_by need images ≡ length images * (n + 16)
-bytes_needed n [] all = sym (zero-mul (n + 16))
-bytes_needed n (image ∷ images) all =
-    let here : length image ≡ n = All-head (λ x. length x ≡ n) image images all in
-    let rest = bytes_needed n images (All-tail (λ x. length x ≡ n) image images all) in
-    let long : length (image ∷ images) * (n + 16) ≡ length images * (n + 16) + (n + 16) = suc-mul (length images) (n + 16) in
-    omega (arith, sum_by-cons need image images, here, rest, long)
-
-all_long : (plan : Plan) (words : List Word) → ((word : Word) → length (image_at plan word) ≡ size_in plan) → All (λ image. length image ≡ size_in plan) (map (image_at plan) words)
-all_long plan [] long = All-nil (λ image. length image ≡ size_in plan)
-all_long plan (word ∷ words) long =
-    All-cons (λ image. length image ≡ size_in plan) (image_at plan word) (map (image_at plan) words) (long word) (all_long plan words long)
+sum_map : (f : List ℕ → ℕ) (g : Word → List ℕ) (words : List Word) → sum_by f (map g words) ≡ sum_by (λ word. f (g word)) words
+sum_map f g [] = refl
+sum_map f g (word ∷ words) =
+    sum_by-cons f (g word) (map g words) ∙ (ap (λ n. f (g word) + n) (sum_map f g words) ∙ sym (sum_by-cons (λ w. f (g w)) word words))
 
 -- what the states of a front need
-pub front_bytes : (plan : Plan) (images words : List (List ℕ)) → images ≡ map (image_at plan) words → ((word : Word) → length (image_at plan word) ≡ size_in plan)
-    → sum_by need images ≡ length words * (size_in plan + 16)
-front_bytes plan images words are long =
-    ap (sum_by need) are
-    ∙ bytes_needed (size_in plan) (map (image_at plan) words) (all_long plan words long)
-    ∙ ap (λ n. n * (size_in plan + 16)) (length-map words (image_at plan))
+pub front_needs : (plan : Plan) (base : List ℕ) (images words : List (List ℕ)) → images ≡ map (image_at plan) words → base ≡ image_at plan []
+    → sum_by (need base) images ≡ sum_by (need_at plan) words
+unfolding need_at
+front_needs plan base images words are is =
+    (λ i. sum_by (need (is i)) (are i)) ∙ sum_map (need (image_at plan [])) (image_at plan) words
+
+-- the state of a word needs no more than its whole image and 16
+need_bound : (plan : Plan) (word : Word) → IsImageSize (image_at plan []) → ((word : Word) → length (image_at plan word) ≡ size_in plan)
+    → ((base image : List ℕ) → IsImageSize base → length image ≡ length base → need base image ≤ length base + 16) → need_at plan word ≤ size_in plan + 16
+unfolding need_at
+need_bound plan word size long law = omega (arith, law (image_at plan []) (image_at plan word) size (long word ∙ sym (long [])), long [])
+
+pub needs_bound : (plan : Plan) (words : List Word) → IsImageSize (image_at plan []) → ((word : Word) → length (image_at plan word) ≡ size_in plan)
+    → ((base image : List ℕ) → IsImageSize base → length image ≡ length base → need base image ≤ length base + 16)
+    → sum_by (need_at plan) words ≤ length words * (size_in plan + 16)
+needs_bound plan words size long law =
+    sum_by-le (need_at plan) (size_in plan + 16) words (λ k d lt. need_bound plan (get_or words k d) size long law)
+
+-- an image of a plan has one of the two sizes
+size_of : (b : Bool) → (◌≡◌ {A = ℕ} (cond b 12672 4480) 4480) ⊎ (◌≡◌ {A = ℕ} (cond b 12672 4480) 12672)
+size_of true = inr refl
+size_of false = inl refl
+
+pub image_size : (plan : Plan) (image : List ℕ) → length image ≡ size_in plan → IsImageSize image
+unfolding size_in image_len
+image_size plan image long =
+    let either = size_of (let r : Rom = rom_in plan in r.chr_ram) in
+    elim either [
+      | inl small ↦ inl (long ∙ small)
+      | inr large ↦ inr (long ∙ large)
+    ]

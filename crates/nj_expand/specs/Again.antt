@@ -41,10 +41,10 @@ image_again before row = image_of (state_again before row)
 unfoldable pub judged_again : Before → Row → Judged
 judged_again before row = judged_at before.script (get_or before.statuses (parent_of row) 0) (state_again before row)
 
--- a pool for a front to come, of the states of these rows
-unfoldable pub pool_again : Before → ℕ → ℕ → List Row → Front
-pool_again before size limit rows = record {
-  size = size;
+-- a pool for a front to come, of the states of these rows over a base
+unfoldable pub pool_again : Before → List ℕ → ℕ → List Row → Front
+pool_again before base limit rows = record {
+  base = base;
   limit = limit;
   images = map (image_again before) rows;
   words = [];

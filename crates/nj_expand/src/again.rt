@@ -10,7 +10,7 @@ use crate::candidate::run_step;
 use crate::opening::{image_room, save_into, want_of_memory};
 use nj_machine::Machine;
 use nj_pad::Pad;
-use nj_pool::FrontPool;
+use nj_pool::{FrontPool, a_need_is_bounded};
 use nj_rows::Row;
 use nj_rules::{Judged, Status};
 use nj_script::Script;
@@ -36,9 +36,9 @@ fn status_at(judged: &[Judged], place: usize) -> Status
 // Copies the image at a place of the front.
 fn load_into(front: &FrontPool, place: usize, image: &mut Vec<u8>)
     requires place { place < length front.now.images }
-    requires long { length image.old.items ≡ front.now.size }
+    requires long { length image.old.items ≡ length front.now.base }
     ensures image { image.new.items ≡ get_or front.now.images place [] }
-    ensures long { length image.new.items ≡ front.now.size }
+    ensures long { length image.new.items ≡ length front.now.base }
 {
     front.load(place, image.as_mut_slice());
 }
@@ -56,11 +56,11 @@ fn child_again<L: Ledger>(
     requires parent { parent_of row.now < length front.now.images }
     requires judged { length judged.now ≡ length front.now.images }
     requires images { All (IsImage (rom_of machine.old)) front.now.images }
-    requires size { front.now.size ≡ image_len (rom_of machine.old) }
-    requires long { length image.old.items ≡ front.now.size }
+    requires size { length front.now.base ≡ image_len (rom_of machine.old) }
+    requires long { length image.old.items ≡ length front.now.base }
     ensures judged { let before : Before = record { rom = rom_of machine.old; script = script.now; images = front.now.images; statuses = statuses_of judged.now } in result ≡ judged_again before row.now }
     ensures image { let before : Before = record { rom = rom_of machine.old; script = script.now; images = front.now.images; statuses = statuses_of judged.now } in image.new.items ≡ image_again before row.now }
-    ensures long { length image.new.items ≡ front.now.size }
+    ensures long { length image.new.items ≡ length front.now.base }
     ensures cartridge { rom_of machine.new ≡ rom_of machine.old }
     ensures frames { steps.new ≤ steps.old + script.now.hold }
     ensures never_falls { steps.old ≤ steps.new }
@@ -82,21 +82,18 @@ fn child_again<L: Ledger>(
 
 impl Again {
     // Adds the state of a row.
-    fn push(
-        &mut self,
-        alloc: Global,
-        image: &[u8],
-        row: &Row,
-        judged: Judged,
-    ) -> Result<(), AllocError>
-        requires long { length image.now ≡ self.old.pool.size }
+    fn push(&mut self, image: &[u8], row: &Row, judged: Judged) -> Result<(), AllocError>
+        requires long { length image.now ≡ length self.old.pool.base }
         requires room { bytes_held self.old.pool + (length image.now + 16) ≤ self.old.pool.limit }
         requires parent { parent_of row.now < 2 ^ 32 }
         ensures pool { OnOk result (self.new.pool ≡ with_birth image.now (birth_of row.now) self.old.pool) }
+        ensures bytes { OnOk result (bytes_held self.new.pool ≤ bytes_held self.old.pool + (length image.now + 16)) }
         ensures judged { OnOk result (self.new.judged.items ≡ self.old.judged.items ++ judged ∷ []) }
     {
         let parent = (row.number / 256) as u32;
-        match self.pool.push(alloc, image, parent, Pad(row.pad)) {
+        a_need_is_bounded();
+        let _base = self.pool.base();
+        match self.pool.push(image, parent, Pad(row.pad)) {
             Ok(()) => {}
             Err(refused) => return Err(want_of_memory(refused)),
         }
@@ -120,22 +117,22 @@ pub(crate) fn run_again<L: Ledger>(
     requires few { length front.now.images ≤ 2 ^ 20 }
     requires judged { length judged.now ≡ length front.now.images }
     requires images { All (IsImage (rom_of machine.old)) front.now.images }
-    requires size { front.now.size ≡ image_len (rom_of machine.old) }
-    requires room { length kept.now * (front.now.size + 16) ≤ limit }
-    ensures pool { let before : Before = record { rom = rom_of machine.old; script = script.now; images = front.now.images; statuses = statuses_of judged.now } in IfOk result (λ again. again.pool ≡ pool_again before front.now.size limit kept.now) }
+    requires size { length front.now.base ≡ image_len (rom_of machine.old) }
+    requires room { length kept.now * (length front.now.base + 16) ≤ limit }
+    ensures pool { let before : Before = record { rom = rom_of machine.old; script = script.now; images = front.now.images; statuses = statuses_of judged.now } in IfOk result (λ again. again.pool ≡ pool_again before front.now.base limit kept.now) }
     ensures judged { let before : Before = record { rom = rom_of machine.old; script = script.now; images = front.now.images; statuses = statuses_of judged.now } in IfOk result (λ again. again.judged.items ≡ map (judged_again before) kept.now) }
     ensures frames { steps.new ≤ steps.old + script.now.hold * length kept.now }
     ensures never_falls { steps.old ≤ steps.new }
 {
     let mut image = image_room(alloc, machine)?;
-    let pool = FrontPool::new(alloc, image.as_slice(), limit)?;
+    let pool = FrontPool::new(alloc, front.base(), limit)?;
     let mut again = Again {
         pool,
         judged: Vec::new(alloc),
     };
     for row in kept {
         let told = child_again(machine, front, judged, row, script, &mut image, steps);
-        again.push(alloc, image.as_slice(), row, told)?;
+        again.push(image.as_slice(), row, told)?;
     }
     Ok(again)
 }

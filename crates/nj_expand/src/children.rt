@@ -52,15 +52,7 @@ impl Search {
         let count = allow(machine, image, self.script(), &mut pads);
         let status = self.judged(place).status;
         let first = 256 * place as u64;
-        self.add_children(
-            machine,
-            image,
-            status,
-            first,
-            &pads[..count],
-            rows,
-            steps,
-        );
+        self.add_children(machine, image, status, first, &pads[..count], rows, steps);
     }
 
     // What is known of the rows of a word: they are few, and can claim their keys.

@@ -4,6 +4,7 @@ ghost use Rattle.std.specs.Prelude.{◌≡◌, ◌≢◌, ◌≤◌, ◌+◌, �
 ghost use Rattle.nj_ines.specs.Cartridge.{IsCartridge};
 ghost use Rattle.nj_machine.specs.State.{rom_of};
 ghost use Rattle.nj_machine.specs.Image.{image_len, image_of};
+ghost use Rattle.nj_image.specs.Pages.{IsImageSize};
 ghost use Rattle.nj_pool.specs.declared.refused.PushRefused.{PushRefused};
 ghost use Rattle.nj_claims.specs.Tables.{IsTable, slot_count};
 ghost use Rattle.nj_seen.specs.Held.{HoldsSeen};
@@ -19,7 +20,7 @@ use nj_game::the_empty_word_is_the_start;
 use nj_ines::Cart;
 use nj_machine::Machine;
 use nj_movie::Movie;
-use nj_pool::{FrontPool, PushRefused};
+use nj_pool::{FrontPool, PushRefused, a_need_is_bounded};
 use nj_rules::{Judged, Status};
 use nj_script::Script;
 use nj_seen::one_key_is_seen;
@@ -73,14 +74,15 @@ pub(crate) fn want_of_memory(refused: PushRefused) -> AllocError
     }
 }
 
-// A pool for so many states, with this one, whose word is empty.
+// A pool for so many states, packed over this image, with its state, whose word is empty.
 #[tactic(auto, unfolding(crate::specs::Front::one_state))]
 fn pool_of(alloc: Global, image: &[u8], most: u64) -> Result<FrontPool, AllocError>
     requires some { 1 ≤ most }
     requires few { most ≤ 2 ^ 20 }
-    requires long { length image.now ≤ 2 ^ 20 }
+    requires size { IsImageSize image.now }
     ensures { IfOk result (λ pool. pool ≡ one_state (most * (length image.now + 16)) image.now) }
 {
+    a_need_is_bounded();
     let limit = most * (image.len() as u64 + 16);
     let mut pool = FrontPool::new(alloc, image, limit)?;
     match pool.push_word(alloc, image, &[]) {

@@ -1,6 +1,6 @@
 //! The search between two steps.
 
-ghost use Rattle.std.specs.Prelude.{◌≡◌, ◌≤◌, ◌<◌, ◌+◌, ◌*◌, ◌^◌, [], ◌∷◌, false, true, length, get_or, IfOk};
+ghost use Rattle.std.specs.Prelude.{◌≡◌, ◌≤◌, ◌<◌, ◌+◌, ◌*◌, ◌^◌, [], ◌∷◌, false, true, length, sum_by, get_or, IfOk};
 ghost use Rattle.nj_ines.specs.Cartridge.{IsCartridge};
 ghost use Rattle.nj_machine.specs.State.{power_on};
 ghost use Rattle.nj_machine.specs.Image.{of_image, IsImage};
@@ -11,7 +11,7 @@ ghost use Rattle.nj_claims.specs.Tables.{IsTable, slot_count};
 ghost use Rattle.nj_seen.specs.Rows.{is_live_row};
 ghost use Rattle.nj_seen.specs.Held.{HoldsSeen};
 ghost use Rattle.nj_expand.specs.Held.{bounds_of, opened};
-ghost use Rattle.nj_expand.specs.Front.{rom_in, size_in, image_at, one_state, AreBounds};
+ghost use Rattle.nj_expand.specs.Front.{rom_in, size_in, image_at, need_at, one_state, AreBounds};
 
 use crate::Bounds;
 use crate::laws::{a_candidate_is_told_by_its_parent, an_image_stands_for_its_word};
@@ -20,7 +20,7 @@ use crate::opening::{First, is_cartridge};
 use nj_ines::Cart;
 use nj_machine::{Machine, frames_keep_the_cartridge};
 use nj_movie::Movie;
-use nj_pool::FrontPool;
+use nj_pool::{FrontPool, a_need_is_bounded};
 use nj_rows::Row;
 use nj_rules::Judged;
 use nj_script::Script;
@@ -126,7 +126,10 @@ impl Search {
             pool,
             judged,
             words,
-            keys: SeenKeys { oldest: 0, count: 1 },
+            keys: SeenKeys {
+                oldest: 0,
+                count: 1,
+            },
             step: 0,
             mark: Mark { level, until: 0 },
             spent: false,
@@ -243,12 +246,16 @@ impl Search {
         self.pool.len()
     }
 
-    /// The bytes that the front's states need: each its image and 16 for its place in the trail of words.
+    /// The bytes that the front's states need: each its packing over the start's image and 15 for its place in the trail
+    /// of words.
     pub fn bytes(&self) -> u64
-        ensures sum { result ≡ length self.now.state.front * (size_in self.now.plan + 16) }
+        ensures sum { result ≡ sum_by (need_at self.now.plan) self.now.state.front }
+        ensures few { result ≤ length self.now.state.front * (size_in self.now.plan + 16) }
         ensures within { result ≤ self.now.bounds.most * (size_in self.now.plan + 16) }
     {
         an_image_stands_for_its_word();
+        a_need_is_bounded();
+        let _base = self.pool.base();
         self.pool.bytes()
     }
 

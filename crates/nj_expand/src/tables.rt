@@ -11,8 +11,8 @@ use crate::search::Search;
 use nj_claims::entries_are_the_map;
 use nj_rows::Row;
 use nj_seen::{
-    SeenKeys, add_keys, added_keys_are_seen, fresh_keys_are_new, fresh_keys_are_seen, keys_of, left, owned,
-    owned_is_fresh, publish, room, rows_in_any_order, seen_keys_stand, unseen,
+    SeenKeys, add_keys, added_keys_are_seen, fresh_keys_are_new, fresh_keys_are_seen, keys_of,
+    left, owned, owned_is_fresh, publish, room, rows_in_any_order, seen_keys_stand, unseen,
 };
 use std::alloc::{AllocError, Global};
 

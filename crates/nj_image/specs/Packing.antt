@@ -1,7 +1,8 @@
 -- The packing of an image over a base: what of it differs (this project's own).
-use Rattle.std.specs.Prelude.{◌≡◌, ◌<◌, ◌≤◌, ℕ, Bool, if◌then◌else◌, List, [], ◌∷◌, ◌++◌, length, take}
+use Rattle.std.specs.Prelude.{◌≡◌, ◌<◌, ◌≤◌, ◌==◌, ℕ, Bool, if◌then◌else◌, List, [], ◌∷◌, ◌++◌, length, take, drop}
 use Rattle.std.specs.List.{list_all}
-use Rattle.nj_image.specs.Pages.{pages, flags_of, mask_of}
+use Rattle.nj_image.specs.Pages.{pages, page_count, flags_of, flags_in, mask_size, mask_of}
+use Rattle.nj_image.specs.Filling.{merged}
 
 -- the pages that are flagged, one behind the other
 abbrev pub flagged : List Bool → List (List ℕ) → List ℕ
@@ -18,6 +19,14 @@ unfoldable pub packing : List ℕ → List ℕ → List ℕ
 packing image base =
     if all_of (flags_of image base) then 0 ∷ image
     else 1 ∷ (mask_of image base ++ flagged (flags_of image base) (pages image))
+
+-- the image that a packing tells: behind a 0 it stands itself; else the pages that the mask flags stand behind the mask, in
+-- their order, and the others are the base's
+unfoldable pub unpacked : List ℕ → List ℕ → List ℕ
+unpacked base [] = []
+unpacked base (first ∷ rest) =
+    if first == 0 then rest
+    else merged (flags_in (page_count base) (take (mask_size base) rest)) (pages base) (drop (mask_size base) rest)
 
 -- numbers that are bytes
 abbrev pub AreBytes : List ℕ → Type 0

@@ -9,6 +9,7 @@ pub mod Fetches
 pub mod Tellings
 pub mod Fuel
 pub mod First
+pub mod Waits
 pub mod ReadBack
 pub mod Saves
 pub mod Loads

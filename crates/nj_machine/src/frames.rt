@@ -9,6 +9,7 @@ ghost use Rattle.nj_machine.specs.Seen.{end_told, counted, seen_of};
 use crate::FrameEnd;
 use crate::cells::Cells;
 use crate::seeing::{Recorder, UnitSeen, UnitStep};
+use crate::waiting::{Waiting, Watch};
 use nj_banked::Banked;
 use nj_board::Board;
 use nj_cpu::{Cpu, UnitEnd};
@@ -77,7 +78,7 @@ fn board_of(alloc: Global, cart: &Cart) -> Result<Banked, AllocError>
     }
 }
 
-impl<P: Picture + Drop> Console<P> {
+impl<P: Picture + Drop + Waiting> Console<P> {
     /// The machine of a cartridge, before its first cycle.
     #[tactic(auto, unfolding(crate::specs::State::power_on))]
     pub fn power_on(alloc: Global, cart: &Cart) -> Result<Self, AllocError>
@@ -117,10 +118,13 @@ impl<P: Picture + Drop> Console<P> {
         ensures never_falls { steps.old ≤ steps.new }
     {
         steps.tick();
+        let mut watch = Watch::new(&self.cpu);
         loop {
+            let before = self.cpu.pc;
             if let Some(end) = self.run_unit(pad) {
                 return end;
             }
+            self.look_for_turns(before, &mut watch);
         }
     }
 

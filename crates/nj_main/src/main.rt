@@ -1,18 +1,19 @@
-//! The program. It carries out the command line over the system's files and streams, and its exit status is the
-//! answer's. Words that are not text have no reading.
+//! The program. It carries out the command line over the system's files and streams, by as many workers as a search asks
+//! for, and its exit status is the answer's. Words that are not text have no reading.
 #![tactic(auto)]
 
 ghost use Rattle.std.specs.Prelude.{◌≡◌};
 
-use nj_app::run_plain;
+use nj_app::{COUNTERS, OpenGate, run};
 use nj_outside::{FileShelf, Shelf, Sink, StreamSink, write_all};
 use nj_steps::Steps;
-use std::alloc::Global;
 use std::io::ErrorKind;
 use std::marker::Brand;
 use std::process::ExitCode;
 use std::rt::Env;
+use std::sync::Wait;
 use std::sync::ledger::{Blank, Ledger};
+use std::thread::Threads;
 use std::{env, io};
 
 const NO_MEMORY: u8 = 9;
@@ -24,13 +25,12 @@ fn main(rt: HostRuntime) -> ExitCode {
     let words = match words(&rt) {
         Ok(words) => words,
         Err(error) if error.kind() == ErrorKind::OutOfMemory => {
-            let _ = write_all(&mut err, b"nj: no memory\n");
-            return ExitCode::from(NO_MEMORY);
+            return ExitCode::from(no_memory(&mut err));
         }
         Err(_) => Vec::new(rt.alloc()),
     };
-    let status = run::<_, _, _, Brand>(
-        rt.alloc(),
+    let status = carry_out::<_, _, _, _, Brand>(
+        &rt,
         words.as_slice(),
         &mut shelf,
         &mut out,
@@ -49,8 +49,13 @@ fn words<R: Env + AllocGlobal>(rt: &R) -> io::Result<Vec<String>> {
     Ok(words)
 }
 
-fn run<S: Shelf, O: Sink, E: Sink, L: Ledger>(
-    alloc: Global,
+fn no_memory<E: Sink>(err: &mut E) -> u8 {
+    let _ = write_all(err, b"nj: no memory\n");
+    NO_MEMORY
+}
+
+fn carry_out<R: Threads + Wait + Sync + AllocGlobal, S: Shelf, O: Sink, E: Sink, L: Ledger + Send>(
+    rt: &R,
     words: &[String],
     shelf: &mut S,
     out: &mut O,
@@ -59,6 +64,17 @@ fn run<S: Shelf, O: Sink, E: Sink, L: Ledger>(
 ) -> u8
     requires { blank.name ≡ L.name }
 {
-    let mut steps = Steps::<L>::open(blank);
-    run_plain(alloc, words, shelf, out, err, &mut steps)
+    match Steps::<L>::open_many(rt.alloc(), blank, COUNTERS) {
+        Ok(mut steps) => run(
+            rt,
+            rt.alloc(),
+            words,
+            shelf,
+            out,
+            err,
+            &OpenGate,
+            &mut steps,
+        ),
+        Err(_) => no_memory(err),
+    }
 }

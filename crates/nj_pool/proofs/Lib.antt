@@ -1,1 +1,3 @@
 pub mod Trails
+pub mod Behind
+pub mod Packs

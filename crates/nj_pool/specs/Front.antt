@@ -1,30 +1,32 @@
 -- A pool of states: their images, their words or births, and what they need of the limit. The form is our own.
-use Rattle.std.specs.Prelude.{◌≡◌, ℕ, ◌+◌, ◌≤◌, List, [], ◌∷◌, ◌++◌, length, sum_by}
+use Rattle.std.specs.Prelude.{◌≡◌, ℕ, ◌+◌, ◌≤◌, List, [], ◌∷◌, ◌++◌, length, map, sum_by}
 use Rattle.std.specs.List.{All}
+use Rattle.nj_image.specs.Pages.{IsImageSize}
+use Rattle.nj_image.specs.Packing.{packing, unpacked, IsPacking}
 use Rattle.nj_pool.specs.declared.birth.Birth.{Birth}
 use Rattle.nj_pool.specs.Words.{child_words}
 
--- a pool: the bytes of an image, the limit of the bytes held, the images, the words of a front, the number of
+-- a pool: the base of the packings, the limit of the bytes held, the images, the words of a front, the number of
 -- steps that made them from whole words, and the births of a front to come
 pub record Front : Type 0 where
-  pub size : ℕ
+  pub base : List ℕ
   pub limit : ℕ
   pub images : List (List ℕ)
   pub words : List (List ℕ)
   pub depth : ℕ
   pub born : List Birth
 
--- what a state needs: the bytes of its image and 16 for its place in the trail
-abbrev pub need : List ℕ → ℕ
-need image = length image + 16
+-- what a state needs over a base: the bytes of its packing and 15 for its place in the trail
+abbrev pub need : List ℕ → List ℕ → ℕ
+need base image = length (packing image base) + 15
 
 -- the bytes that are held: the sum of the needs
 abbrev pub bytes_held : Front → ℕ
-bytes_held pool = sum_by need pool.images
+bytes_held pool = sum_by (need pool.base) pool.images
 
 -- a pool of no states
-abbrev pub empty_front : ℕ → ℕ → Front
-empty_front size limit = record { size = size; limit = limit; images = []; words = []; depth = 0; born = [] }
+abbrev pub empty_front : List ℕ → ℕ → Front
+empty_front base limit = record { base = base; limit = limit; images = []; words = []; depth = 0; born = [] }
 
 -- a pool with one state more, with its whole word
 abbrev pub with_word : List ℕ → List ℕ → Front → Front
@@ -40,10 +42,17 @@ next_front pool other = record other { words = child_words pool.words other.born
 
 -- a state with this image has room
 abbrev pub HasRoom : List ℕ → Front → Type 0
-HasRoom image pool = bytes_held pool + need image ≤ pool.limit
+HasRoom image pool = bytes_held pool + need pool.base image ≤ pool.limit
 
--- what a pool's type keeps: all images are equally long, the counted bytes are those held, and within the limit
-pub record IsCounted (size limit bytes : ℕ) (images : List (List ℕ)) : Type 0 where
-  pub long : All (λ image. length image ≡ size) images
-  pub counted : bytes ≡ sum_by need images
+-- the images that packings tell
+abbrev pub images_in : List ℕ → List (List ℕ) → List (List ℕ)
+images_in base packings = map (unpacked base) packings
+
+-- what a pool's type keeps: packings over its base and room for one more; the counted bytes are those held, and within
+-- the limit
+pub record IsPacked (base room : List ℕ) (limit bytes : ℕ) (packings : List (List ℕ)) : Type 0 where
+  pub size : IsImageSize base
+  pub wide : length room ≡ length base + 1
+  pub are : All (IsPacking base) packings
+  pub counted : bytes ≡ sum_by (need base) (images_in base packings)
   pub within : bytes ≤ limit

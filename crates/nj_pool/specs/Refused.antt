@@ -11,4 +11,4 @@ RefusesBy held more limit NoMemory = held + more ≤ limit
 
 -- a refusal of a state with this image
 abbrev pub Refuses : List ℕ → Front → PushRefused → Type 0
-Refuses image pool refused = RefusesBy (bytes_held pool) (need image) pool.limit refused
+Refuses image pool refused = RefusesBy (bytes_held pool) (need pool.base image) pool.limit refused

@@ -1,108 +1,129 @@
-ghost use Rattle.std.specs.Prelude.{◌≡◌, ◌+◌, ◌<◌, ◌≤◌, [], ◌∷◌, ◌++◌, length, get_or, is_ok, IfOk, IfErr, OnErr, if◌then◌else◌};
+ghost use Rattle.std.specs.Prelude.{◌≡◌, ◌+◌, ◌<◌, ◌≤◌, [], ◌∷◌, ◌++◌, length, take, get_or, is_ok, IfOk, IfErr, OnErr, if◌then◌else◌};
+ghost use Rattle.nj_image.specs.Pages.{IsImageSize};
+ghost use Rattle.nj_image.specs.Packing.{packing};
 ghost use Rattle.nj_pool.specs.Words.{HaveParents};
 ghost use Rattle.nj_pool.specs.Front.{need, bytes_held, empty_front, with_word, with_birth, next_front, HasRoom};
 ghost use Rattle.nj_pool.specs.Refused.{Refuses, RefusesBy};
 
 use crate::birth::Birth;
 use crate::refused::PushRefused;
-use crate::trail::{Trail, push_copy};
+use crate::strings::Strings;
+use crate::trail::Trail;
+use nj_image::{a_packing_tells_its_image, pack, unpack};
 use nj_pad::Pad;
 use nj_seq::Seq;
 use std::alloc::{AllocError, Global};
 use std::marker::Model;
 
-// What a state needs beside the bytes of its image.
-const PLACE_BYTES: u64 = 16;
+// What a state needs beside the bytes of its packing.
+const PLACE_BYTES: u64 = 15;
 
-/// A list of states, each with its image and its word, or with its birth until it has become a front.
+/// A list of states, each with its image and its word, or with its birth until it has become a front. The images are
+/// held as packings over a base.
 #[derive(Drop)]
 pub struct FrontPool {
-    size: usize,
+    base: Vec<u8>,
     limit: u64,
     bytes: u64,
-    images: Vec<Seq<u8>>,
+    packings: Strings,
+    room: Vec<u8>,
     trail: Trail,
     born: Seq<Birth>,
 }
 
 impl Model for FrontPool {
-    ghost use Rattle.nj_pool.specs.Front.{Front, IsCounted};
+    ghost use Rattle.nj_pool.specs.Front.{Front, images_in, IsPacked};
 
     ghost Value = { Front };
 
-    ghost view = { λ p. record { size = p.size; limit = p.limit; images = p.images.items; words = p.trail.words; depth = p.trail.depth; born = p.born } };
+    ghost view = { λ p. record { base = p.base.items; limit = p.limit; images = images_in p.base.items p.packings; words = p.trail.words; depth = p.trail.depth; born = p.born } };
 
-    ghost invariant = { λ p. IsCounted p.size p.limit p.bytes p.images.items };
+    ghost invariant = { λ p. IsPacked p.base.items p.room.items p.limit p.bytes p.packings };
 }
 
 impl FrontPool {
-    /// An empty pool for images as long as `base`. The limit is in bytes.
+    /// An empty pool for images as long as `base`: 4,480 bytes, or 12,672. The limit is in bytes. A state needs the less,
+    /// the fewer pages of its image differ from the base's.
     pub fn new(alloc: Global, base: &[u8], limit: u64) -> Result<FrontPool, AllocError>
-        ensures { IfOk result (λ pool. pool ≡ empty_front (length base.now) limit) }
+        requires { IsImageSize base.now }
+        ensures { IfOk result (λ pool. pool ≡ empty_front base.now limit) }
     {
         Ok(FrontPool {
-            size: base.len(),
+            base: Vec::from_slice(alloc, base)?,
             limit,
             bytes: 0,
-            images: Vec::new(alloc),
+            packings: Strings::new(alloc),
+            room: vec![in alloc; 0; base.len() + 1]?,
             trail: Trail::new(alloc),
             born: Seq::new(alloc),
         })
     }
 
+    /// The base over which the images are packed.
+    pub fn base(&self) -> &[u8]
+        ensures base { result.now ≡ self.now.base }
+        ensures size { IsImageSize result.now }
+    {
+        self.base.as_slice()
+    }
+
     /// Adds a state with its whole word, one byte a pad, before any front followed this one.
     pub fn push_word(&mut self, alloc: Global, image: &[u8], word: &[u8]) -> Result<(), PushRefused>
-        requires long { length image.now ≡ self.old.size }
+        requires long { length image.now ≡ length self.old.base }
         requires first { self.old.depth ≡ 0 }
         ensures ok { IfOk result (λ _. self.new ≡ with_word image.now word.now self.old) }
         ensures room { IfOk result (λ _. HasRoom image.now self.old) }
         ensures refused { IfErr result (Refuses image.now self.old) }
         ensures unchanged { OnErr result (self.new ≡ self.old) }
     {
-        let more = room_for(image, self.bytes, self.limit)?;
-        let count = self.images.len();
-        push_copy(alloc, &mut self.images, image)?;
-        if self.trail.push_root(alloc, word).is_err() {
-            self.images.truncate(count);
+        a_packing_tells_its_image();
+        let base = self.base.as_slice();
+        let size = pack_within(image, base, &mut self.room, self.bytes, self.limit)?;
+        let count = self.trail.roots();
+        self.trail.push_root(alloc, word)?;
+        if self.packings.push(&self.room[..size]).is_err() {
+            self.trail.truncate(count);
             return Err(PushRefused::NoMemory);
         }
-        self.bytes += more;
+        self.bytes += size as u64 + PLACE_BYTES;
         Ok(())
     }
 
     /// Adds a state by the place of its parent in the front before and its last pad.
-    pub fn push(
-        &mut self,
-        alloc: Global,
-        image: &[u8],
-        parent: u32,
-        pad: Pad,
-    ) -> Result<(), PushRefused>
-        requires long { length image.now ≡ self.old.size }
+    pub fn push(&mut self, image: &[u8], parent: u32, pad: Pad) -> Result<(), PushRefused>
+        requires long { length image.now ≡ length self.old.base }
         ensures ok { IfOk result (λ _. self.new ≡ with_birth image.now (record { parent = parent; pad = pad }) self.old) }
         ensures room { IfOk result (λ _. HasRoom image.now self.old) }
         ensures refused { IfErr result (Refuses image.now self.old) }
         ensures unchanged { OnErr result (self.new ≡ self.old) }
     {
-        let more = room_for(image, self.bytes, self.limit)?;
-        let count = self.images.len();
-        push_copy(alloc, &mut self.images, image)?;
+        a_packing_tells_its_image();
+        let base = self.base.as_slice();
+        let size = pack_within(image, base, &mut self.room, self.bytes, self.limit)?;
+        let count = self.born.len();
         let birth = Birth { parent, pad: pad.0 };
         if self.born.push(birth).is_err() {
-            self.images.truncate(count);
             return Err(PushRefused::NoMemory);
         }
-        self.bytes += more;
+        if self.packings.push(&self.room[..size]).is_err() {
+            self.born.truncate(count);
+            return Err(PushRefused::NoMemory);
+        }
+        self.bytes += size as u64 + PLACE_BYTES;
         Ok(())
     }
 
     /// Copies the image of the state at a place.
     pub fn load(&self, place: usize, into: &mut [u8])
         requires within { place < length self.now.images }
-        requires long { length into.old ≡ self.now.size }
+        requires long { length into.old ≡ length self.now.base }
         ensures { into.new ≡ get_or self.now.images place [] }
     {
-        into.copy_from_slice(self.images[place].as_slice());
+        a_packing_tells_its_image();
+        match unpack(self.packings.at(place), self.base.as_slice(), into) {
+            Ok(()) => {}
+            Err(_damaged) => unreachable!(),
+        }
     }
 
     /// The word of the state at a place of a front, one byte a pad.
@@ -117,7 +138,7 @@ impl FrontPool {
     pub fn len(&self) -> usize
         ensures { result ≡ length self.now.images }
     {
-        self.images.len()
+        self.packings.len()
     }
 
     /// The sum of what the states need.
@@ -134,34 +155,48 @@ impl FrontPool {
         ensures { self.new ≡ (if is_ok result then next_front self.old other else self.old) }
     {
         let FrontPool {
-            size,
+            base,
             limit,
             bytes,
-            images,
+            packings,
+            room,
             trail: _trail,
             born,
         } = other;
         self.trail.grow(born)?;
-        self.size = size;
+        self.base = base;
         self.limit = limit;
         self.bytes = bytes;
-        self.images = images;
+        self.packings = packings;
+        self.room = room;
         self.born.clear();
         Ok(())
     }
 }
 
-// What a state with this image needs, if there is room for it beside the bytes that are held.
-fn room_for(image: &[u8], bytes: u64, limit: u64) -> Result<u64, PushRefused>
-    requires { bytes ≤ limit }
-    ensures ok { IfOk result (λ more. (more ≡ need image.now) × (bytes + more ≤ limit)) }
-    ensures refused { IfErr result (λ refused. RefusesBy bytes (need image.now) limit refused) }
+// Packs an image, if there is room for its state beside the bytes that are held; the answer is the packing's length.
+fn pack_within(
+    image: &[u8],
+    base: &[u8],
+    into: &mut Vec<u8>,
+    bytes: u64,
+    limit: u64,
+) -> Result<usize, PushRefused>
+    requires base { IsImageSize base.now }
+    requires image { length image.now ≡ length base.now }
+    requires into { length into.old.items ≡ length base.now + 1 }
+    requires within { bytes ≤ limit }
+    ensures long { length into.new.items ≡ length into.old.items }
+    ensures packing { IfOk result (λ size. take size into.new.items ≡ packing image.now base.now) }
+    ensures size { IfOk result (λ size. size ≡ length (packing image.now base.now)) }
+    ensures room { IfOk result (λ size. bytes + need base.now image.now ≤ limit) }
+    ensures refused { IfErr result (λ refused. RefusesBy bytes (need base.now image.now) limit refused) }
 {
-    let more = image.len() as u64 + PLACE_BYTES;
-    if limit - bytes < more {
+    let size = pack(image, base, into.as_mut_slice());
+    if limit - bytes < size as u64 + PLACE_BYTES {
         return Err(PushRefused::PoolFull { bytes, limit });
     }
-    Ok(more)
+    Ok(size)
 }
 
 #[cfg(test)]
@@ -169,48 +204,59 @@ mod tests {
     use super::*;
     use std::test::Fail;
 
-    // A pool of one state with its word.
-    fn one_word(alloc: Global) -> Result<FrontPool, PushRefused>
-        ensures { IfOk result (λ pool. (length pool.images ≡ 1) × (length pool.words ≡ 1) × (pool.size ≡ 2)) }
+    // An image with this byte at its end.
+    fn image(byte: u8) -> [u8; 4480] {
+        let mut image = [0; 4480];
+        image[4479] = byte;
+        image
+    }
+
+    // A pool of one state, whose image is the base, with its word.
+    fn one_word(alloc: Global, base: &[u8]) -> Result<FrontPool, PushRefused>
+        requires { length base.now ≡ 4480 }
+        ensures { IfOk result (λ pool. (length pool.images ≡ 1) × (length pool.words ≡ 1) × (length pool.base ≡ 4480)) }
     {
-        let mut pool = FrontPool::new(alloc, &[8, 9], 20)?;
-        pool.push_word(alloc, &[8, 9], &[4])?;
+        let mut pool = FrontPool::new(alloc, base, 113)?;
+        pool.push_word(alloc, base, &[4])?;
         Ok(pool)
     }
 
-    // A pool of one state that was born of the first.
-    fn one_birth(alloc: Global) -> Result<FrontPool, PushRefused>
-        ensures { IfOk result (λ pool. pool.born ≡ record { parent = 0; pad = 128 } ∷ []) }
+    // A pool of one state that was born of the first, with one page of its own.
+    fn one_birth(alloc: Global, base: &[u8]) -> Result<FrontPool, PushRefused>
+        requires { length base.now ≡ 4480 }
+        ensures born { IfOk result (λ pool. pool.born ≡ record { parent = 0; pad = 128 } ∷ []) }
+        ensures held { IfOk result (λ pool. (length pool.images ≡ 1) × (length pool.base ≡ 4480)) }
     {
-        let mut pool = FrontPool::new(alloc, &[8, 9], 18)?;
-        pool.push(alloc, &[1, 2], 0, Pad(128))?;
+        let mut pool = FrontPool::new(alloc, base, 89)?;
+        pool.push(image(7).as_slice(), 0, Pad(128))?;
         Ok(pool)
     }
 
     #[test]
-    fn a_state_is_held(rt: HostRuntime) -> Result<(), Fail> {
-        let mut pool = one_word(rt.alloc())?;
-        let mut into = [0; 2];
-        pool.load(0, &mut into);
-        assert_eq!(rt; into, [8, 9]);
-        assert_eq!(rt; pool.len(), 1);
+    fn a_pool_is_full(rt: HostRuntime) -> Result<(), Fail> {
+        let base = image(0);
+        let mut pool = one_word(rt.alloc(), base.as_slice())?;
+        assert_eq!(rt; pool.bytes(), 25);
         let full = PushRefused::PoolFull {
-            bytes: 18,
-            limit: 20,
+            bytes: 25,
+            limit: 113,
         };
-        assert_eq!(rt; pool.push(rt.alloc(), &[1, 2], 0, Pad(1)), Err(full));
+        assert_eq!(rt; pool.push(image(1).as_slice(), 0, Pad(1)), Err(full));
+        assert_eq!(rt; pool.len(), 1);
         Ok(())
     }
 
     #[test]
-    fn a_word_grows_by_its_pad(rt: HostRuntime) -> Result<(), Fail> {
-        let mut front = one_word(rt.alloc())?;
-        front.next_front(one_birth(rt.alloc())?)?;
-        assert_eq!(rt;
-            front.word_of(rt.alloc(), 0)?.as_slice(),
-            [4, 128].as_slice()
-        );
-        assert_eq!(rt; front.bytes(), 18);
+    fn a_state_goes_on(rt: HostRuntime) -> Result<(), Fail> {
+        let base = image(0);
+        let mut front = one_word(rt.alloc(), base.as_slice())?;
+        front.next_front(one_birth(rt.alloc(), base.as_slice())?)?;
+        let word = front.word_of(rt.alloc(), 0)?;
+        assert_eq!(rt; word.as_slice(), [4, 128].as_slice());
+        assert_eq!(rt; front.bytes(), 89);
+        let mut into = image(1);
+        front.load(0, into.as_mut_slice());
+        assert!(rt; into == image(7));
         Ok(())
     }
 }

@@ -1,4 +1,4 @@
-ghost use Rattle.std.specs.Prelude.{◌≡◌, ◌+◌, ◌<◌, [], ◌∷◌, ◌++◌, length, get_or, is_ok, IfOk, if◌then◌else◌};
+ghost use Rattle.std.specs.Prelude.{◌≡◌, ◌+◌, ◌<◌, [], ◌∷◌, ◌++◌, length, take, get_or, is_ok, IfOk, if◌then◌else◌};
 ghost use Rattle.nj_pool.specs.Words.{HaveParents, words_after, IsLinked, grown};
 
 use crate::birth::Birth;
@@ -40,6 +40,22 @@ impl Trail {
         ensures { self.new ≡ (if is_ok result then record self.old { words = self.old.words ++ word.now ∷ [] } else self.old) }
     {
         push_copy(alloc, &mut self.roots, word)
+    }
+
+    // The number of whole words.
+    pub(crate) fn roots(&self) -> usize
+        requires { self.now.depth ≡ 0 }
+        ensures { result ≡ length self.now.words }
+    {
+        self.roots.len()
+    }
+
+    // Only so many whole words, before any step.
+    pub(crate) fn truncate(&mut self, count: usize)
+        requires { self.old.depth ≡ 0 }
+        ensures { self.new ≡ record self.old { words = take count self.old.words } }
+    {
+        self.roots.truncate(count);
     }
 
     // The words one step on.
@@ -96,11 +112,7 @@ fn push_step(steps: &mut Vec<Seq<Birth>>, born: Seq<Birth>) -> Result<(), AllocE
 }
 
 // Adds a copy of the bytes. Without memory the list is as before.
-pub(crate) fn push_copy(
-    alloc: Global,
-    list: &mut Vec<Seq<u8>>,
-    bytes: &[u8],
-) -> Result<(), AllocError>
+fn push_copy(alloc: Global, list: &mut Vec<Seq<u8>>, bytes: &[u8]) -> Result<(), AllocError>
     ensures { list.new.items ≡ (if is_ok result then list.old.items ++ bytes.now ∷ [] else list.old.items) }
 {
     let copy = Seq::from_slice(alloc, bytes)?;

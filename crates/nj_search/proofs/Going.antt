@@ -1,7 +1,7 @@
 -- A search step by step up to its limit.
 use Rattle.std.proofs.Common.{◌≡◌, ℕ, ◌+◌, ◌-◌, ◌*◌, ◌<◌, ◌≤◌, false, List, [], ◌∷◌, length, get_or, refl, ap, ap₂, sym, subst, ◌∙◌, arith}
 use Rattle.std.proofs.Math.Nat.{mul-le-mul_left}
-use Rattle.nj_search_defs.specs.Game.{Word}
+use Rattle.nj_search_defs.specs.Game.{Word, Bounds}
 use Rattle.nj_search_defs.specs.Outcome.{WonAt, ExhaustedAt, LimitAt, searched, judged_first, opening, outcome}
 use Rattle.nj_rules.specs.declared.record.Judged.{Judged}
 use Rattle.nj_rules.specs.declared.record.Verdict.{Verdict}
@@ -12,6 +12,7 @@ use Rattle.nj_expand.specs.Held.{Held, opened}
 use Rattle.nj_search.specs.Plans.{Planned, bounds_in}
 use Rattle.nj_search.specs.Ends.{outcome_of, reward_in, told_of, first_word, frames_most}
 use Rattle.nj_search.specs.Rests.{rest_of, frames_a_step, IsFurther}
+use Rattle.nj_search.specs.Starts.{IsGoing}
 use Rattle.nj_search.specs.declared.searching.Outcome.{Outcome}
 use Rattle.nj_search.specs.declared.searching.Outcome.TheVariants.{Won, Exhausted, Limit}
 
@@ -36,7 +37,7 @@ none_made begun limit before unspent = record {
   grown = omega arith;
 }
 
-same_frames : (old new : Held) → new.plan ≡ old.plan → new.bounds ≡ old.bounds → frames_a_step new ≡ frames_a_step old
+pub same_frames : (old new : Held) → new.plan ≡ old.plan → new.bounds ≡ old.bounds → frames_a_step new ≡ frames_a_step old
 same_frames old new plan bounds =
     λ i. (plan i).script.hold * ((bounds i).most * ((bounds i).inputs + 1))
 
@@ -112,7 +113,7 @@ limit_told held step judged movie is_step is_judged is_movie =
 -- ---- the start
 
 -- the search before its first step
-pub record IsBegun (planned : Planned) (held : Held) : Type 0 where
+pub record IsOpened (planned : Planned) (held : Held) : Type 0 where
   pub plan : held.plan ≡ planned.plan
   pub unspent : held.spent ≡ false
   pub step : held.state.step ≡ 0
@@ -120,10 +121,10 @@ pub record IsBegun (planned : Planned) (held : Held) : Type 0 where
   pub whole : outcome_of planned ≡ judged_first ((game_of planned.plan).judged []).verdict (rest_of held planned.limits.steps)
   pub frames : frames_most planned ≡ length planned.plan.start + frames_a_step held * planned.limits.steps
 
-pub begun : (planned : Planned) (held : Held) → held ≡ opened planned.plan (bounds_in planned) → IsBegun planned held
+pub begun : (planned : Planned) (held : Held) → held ≡ opened planned.plan (bounds_in planned) → IsOpened planned held
 unfolding opened opening bounds_in outcome_of outcome rest_of frames_most
 begun planned held is =
-    subst (IsBegun planned) (sym is) (record {
+    subst (IsOpened planned) (sym is) (record {
       plan = refl;
       unspent = refl;
       step = refl;
@@ -138,27 +139,27 @@ unfolding frames_most
 start_within planned before after ran = omega arith
 
 -- so are the start's and those of all steps
-pub all_within : (planned : Planned) (held : Held) (before between after limit : ℕ) → IsBegun planned held → between ≤ before + length planned.plan.start
+pub all_within : (planned : Planned) (held : Held) (before between after limit : ℕ) → IsOpened planned held → between ≤ before + length planned.plan.start
     → limit ≡ planned.limits.steps → after ≤ between + frames_a_step held * limit → after ≤ before + frames_most planned
 all_within planned held before between after limit is start limited ran =
     let e : frames_a_step held * limit ≡ frames_a_step held * planned.limits.steps = ap (λ n. frames_a_step held * n) limited in
     omega (arith, is.frames, start, ran, e)
 
 -- the verdict of the start
-verdict_is : (planned : Planned) (held : Held) (judged : Judged) → IsBegun planned held → judged ≡ judged_of held.plan (get_or held.state.front 0 [])
+verdict_is : (planned : Planned) (held : Held) (judged : Judged) → IsOpened planned held → judged ≡ judged_of held.plan (get_or held.state.front 0 [])
     → ((game_of planned.plan).judged []).verdict ≡ search_verdict judged.verdict
 unfolding game_of
 verdict_is planned held judged is e =
     ap (λ (j : Judged). search_verdict j.verdict) (sym (e ∙ ap₂ (λ (p : Plan) (f : List Word). judged_of p (get_or f 0 [])) is.plan is.front))
 
-told_by : (planned : Planned) (held : Held) (judged : Judged) → IsBegun planned held → judged ≡ judged_of held.plan (get_or held.state.front 0 [])
+told_by : (planned : Planned) (held : Held) (judged : Judged) → IsOpened planned held → judged ≡ judged_of held.plan (get_or held.state.front 0 [])
     → (verdict : Verdict) → judged.verdict ≡ verdict → told_of planned.plan (outcome_of planned) ≡ told_of planned.plan (judged_first (search_verdict verdict) (rest_of held planned.limits.steps))
 told_by planned held judged is e verdict v =
     ap (told_of planned.plan)
     (is.whole ∙ ap (λ w. judged_first w (rest_of held planned.limits.steps)) (verdict_is planned held judged is e ∙ ap search_verdict v))
 
 -- a start that neither wins nor fails goes on
-pub goes_on : (planned : Planned) (held : Held) (judged : Judged) (limit : ℕ) (outcome : Outcome) → IsBegun planned held
+pub goes_on : (planned : Planned) (held : Held) (judged : Judged) (limit : ℕ) (outcome : Outcome) → IsOpened planned held
     → judged ≡ judged_of held.plan (get_or held.state.front 0 []) → judged.verdict ≡ ToldGo → limit ≡ planned.limits.steps
     → told_of held.plan (rest_of held limit) ≡ outcome → told_of planned.plan (outcome_of planned) ≡ outcome
 goes_on planned held judged limit outcome is e v limited told =
@@ -175,7 +176,7 @@ unfolding told_of
 told_failed plan = refl
 
 -- a start that wins is told so
-pub start_wins : (planned : Planned) (held : Held) (judged : Judged) (movie : List ℕ) → IsBegun planned held
+pub start_wins : (planned : Planned) (held : Held) (judged : Judged) (movie : List ℕ) → IsOpened planned held
     → judged ≡ judged_of held.plan (get_or held.state.front 0 []) → judged.verdict ≡ ToldWin
     → movie ≡ movie_of held.plan (get_or held.state.front 0 []) → told_of planned.plan (outcome_of planned) ≡ Won 0 judged.reward movie
 start_wins planned held judged movie is e v m =
@@ -186,6 +187,35 @@ start_wins planned held judged movie is e v m =
     (sym (m ∙ ap₂ (λ (p : Plan) (f : List Word). movie_of p (get_or f 0 [])) is.plan is.front))
 
 -- a start that fails is told so
-pub start_fails : (planned : Planned) (held : Held) (judged : Judged) → IsBegun planned held
+pub start_fails : (planned : Planned) (held : Held) (judged : Judged) → IsOpened planned held
     → judged ≡ judged_of held.plan (get_or held.state.front 0 []) → judged.verdict ≡ ToldFail → told_of planned.plan (outcome_of planned) ≡ Exhausted 0
 start_fails planned held judged is e v = told_by planned held judged is e ToldFail v ∙ told_failed planned.plan
+
+-- ---- a search that goes on from its start
+
+pub going : (planned : Planned) (held : Held) (judged : Judged) → held ≡ opened planned.plan (bounds_in planned)
+    → judged ≡ judged_of held.plan (get_or held.state.front 0 []) → judged.verdict ≡ ToldGo → IsGoing planned held
+unfolding opened
+going planned held judged is e v =
+    let at_start = begun planned held is in record {
+      plan = at_start.plan;
+      bounds = ap (λ (h : Held). h.bounds) is;
+      unspent = at_start.unspent;
+      step = at_start.step;
+      told = λ outcome told. goes_on planned held judged planned.limits.steps outcome at_start e v refl told;
+    }
+
+-- the frames of a whole search are its start's and those of its steps
+pub all_frames : (planned : Planned) (held : Held) → IsGoing planned held
+    → frames_most planned ≡ length planned.plan.start + frames_a_step held * planned.limits.steps
+unfolding frames_most bounds_in
+all_frames planned held is =
+    ap₂ (λ (p : Plan) (b : Bounds). length planned.plan.start + p.script.hold * (b.most * (b.inputs + 1)) * planned.limits.steps)
+    (sym is.plan) (sym is.bounds)
+
+-- those of the start and of all steps are within those of the search
+pub frames_going : (planned : Planned) (held : Held) (limit before between after : ℕ) → IsGoing planned held → limit ≡ planned.limits.steps
+    → between ≤ before + length planned.plan.start → after ≤ between + frames_a_step held * limit → after ≤ before + frames_most planned
+frames_going planned held limit before between after is limited start ran =
+    let steps : frames_a_step held * limit ≡ frames_a_step held * planned.limits.steps = ap (λ n. frames_a_step held * n) limited in
+    omega (arith, all_frames planned held is, start, ran, steps)

@@ -5,3 +5,4 @@ pub mod Longer
 pub mod StepEnds
 pub mod Going
 pub mod Budgets
+pub mod Counters

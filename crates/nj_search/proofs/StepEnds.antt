@@ -1,6 +1,6 @@
 -- What a step answers, as the end of a search or its going on.
 use Rattle.std.proofs.Common.{◌≡◌, ℕ, suc, ◌+◌, ◌/◌, ◌<◌, ◌≤◌, false, List, [], ◌∷◌, ◌++◌, length, replicate, get_or, refl, ap, ap₂, sym, subst, ◌∙◌, arith, append_assoc, append-nil}
-use Rattle.std.specs.Prelude.{Some, slice_get}
+use Rattle.std.specs.Prelude.{Option, Some, None, IfSome, IfNone, slice_get}
 use Rattle.std.proofs.lemmas.Grind.{flat_map-append}
 use Rattle.std.proofs.lemmas.Option.{slice_get_within, get_or_from_slice_get}
 use Rattle.nj_search_defs.specs.Game.{Word}
@@ -13,12 +13,14 @@ use Rattle.nj_rows.specs.declared.Row.{Row}
 use Rattle.nj_script.specs.Script.{Record}
 use Rattle.nj_game.specs.Plan.{Plan, held_pads, movie_of}
 use Rattle.nj_game.specs.Words.{ram_after, judged_of, allowed_of, game_of}
+use Rattle.nj_expand.specs.declared.Stepped.{Stepped}
 use Rattle.nj_expand.specs.declared.Stepped.TheVariants.{Won as WonRow, Exhausted as NothingKept, Go}
 use Rattle.nj_expand.specs.Rows.{row_of}
 use Rattle.nj_expand.specs.Held.{Held, next_in}
 use Rattle.nj_expand.specs.Step.{IsStepBy, IsStep}
 use Rattle.nj_search.specs.Ends.{told_of}
 use Rattle.nj_search.specs.Rests.{rest_of, IsFurther}
+use Rattle.nj_search.specs.Starts.{CanEnd, EndsIn, IsEnded}
 use Rattle.nj_search.specs.declared.searching.Outcome.{Outcome}
 use Rattle.nj_search.specs.declared.searching.Outcome.TheVariants.{Won, Exhausted}
 
@@ -207,3 +209,50 @@ unfolding IsStep
 further law old new unspent h =
     let went = goes_by (next_in old) old new h in
     subst (IsFurther old) (sym went.2) (further_to law old went.0 unspent went.1)
+
+-- ---- the end of any step
+
+went_on : (old new : Held) → IsStep old Go new → (state : State) × (next_in old ≡ Goes state) × (new ≡ record old { state = state })
+unfolding IsStep
+went_on old new h = goes_by (next_in old) old new h
+
+-- after a step the search is not spent
+pub unspent_after : (old new : Held) (stepped : Stepped) → old.spent ≡ false → IsStep old stepped new → new.spent ≡ false
+unspent_after old new (WonRow row) unspent h = ap (λ (held : Held). held.spent) (winner_in old row new h).0 ∙ unspent
+unspent_after old new NothingKept unspent h = ap (λ (held : Held). held.spent) (exhausted_same old new h) ∙ unspent
+unspent_after old new Go unspent h = ap (λ (held : Held). held.spent) (went_on old new h).2 ∙ unspent
+
+-- and no step has a greater number than the limit
+pub step_after : StepsAreCounted → (old new : Held) (stepped : Stepped) → old.spent ≡ false → IsStep old stepped new → old.state.step < 16777215
+    → new.state.step ≤ 16777215
+step_after law old new (WonRow row) unspent h lt =
+    let same : new.state.step ≡ old.state.step = ap (λ (held : Held). held.state.step) (winner_in old row new h).0 in omega arith
+step_after law old new NothingKept unspent h lt =
+    let same : new.state.step ≡ old.state.step = ap (λ (held : Held). held.state.step) (exhausted_same old new h) in omega arith
+step_after law old new Go unspent h lt = omega (arith, (further law old new unspent h).step)
+
+-- the row of a step that was won is still that of the winner
+pub can_end : (old new : Held) (stepped : Stepped) → IsStep old stepped new → CanEnd stepped new
+can_end old new (WonRow row) h = still_won old row new h
+can_end old new NothingKept h = tt
+can_end old new Go h = tt
+
+-- what a step ends the search with is told of the search before it
+pub told_step : (old new : Held) (stepped : Stepped) (told : Option Outcome) → IsStep old stepped new → IsEnded stepped new told
+    → IfSome told (EndsIn old)
+told_step old new (WonRow row) None h e = tt
+told_step old new (WonRow row) (Some outcome) h e = told_before old new outcome (winner_in old row new h).0 e
+told_step old new NothingKept told h e =
+    subst (λ (t : Option Outcome). IfSome t (EndsIn old)) (sym e)
+    (exhausted_told old new new.state.step h refl)
+told_step old new Go told h e =
+    subst (λ (t : Option Outcome). IfSome t (EndsIn old)) (sym e) tt
+
+-- and where it ends nothing the search is one step further
+pub further_step : StepsAreCounted → (old new : Held) (stepped : Stepped) (told : Option Outcome) → old.spent ≡ false → IsStep old stepped new
+    → IsEnded stepped new told → IfNone told (IsFurther old new)
+further_step law old new (WonRow row) None unspent h e = absurd e
+further_step law old new (WonRow row) (Some outcome) unspent h e = tt
+further_step law old new NothingKept told unspent h e = subst (λ (t : Option Outcome). IfNone t (IsFurther old new)) (sym e) tt
+further_step law old new Go told unspent h e =
+    subst (λ (t : Option Outcome). IfNone t (IsFurther old new)) (sym e) (further law old new unspent h)

@@ -1,16 +1,24 @@
-//! The search of one command: what it is planned on and what of a plan is refused, and its outcome.
+//! The search of one command: what it is planned on and what of a plan is refused, and its outcome, by one thread
+//! ([`search_plain`]) and by several workers ([`search_shared`]).
+//!
+//! The outcome is a function of the plan alone, in which no worker occurs: both searches begin alike and end alike, and
+//! each step of either is the one that the definition over words makes. What is left to prove of several workers is that
+//! their counters together rise by no more than the one counter of one thread may.
+//!
+//! The definition to read first is `outcome_of` in `specs/Ends.antt`, and what is told of it, `told_of`.
 #![tactic(auto)]
 
 mod laws;
 mod planning;
 mod searching;
-#[cfg(test)]
-mod tests;
+mod sharing;
 
 pub use laws::{a_won_word_replays, fronts_are_within_the_budget, longer_searches_begin_alike};
 pub use nj_ines::Cart;
 pub use nj_movie::Movie;
 pub use nj_script::Script;
 pub use nj_steps::Steps;
+pub use nj_workers::Gate;
 pub use planning::{Limits, Plan, PlanRefused, cost};
 pub use searching::{Outcome, search_plain};
+pub use sharing::search_shared;

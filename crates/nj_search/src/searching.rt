@@ -1,11 +1,12 @@
 //! The search of a plan, and its outcome.
 
-ghost use Rattle.std.specs.Prelude.{◌≡◌, ◌≤◌, ◌<◌, ◌+◌, ◌*◌, ◌++◌, ℕ, false, replicate, IfOk, IfSome, IfNone, OnOk};
+ghost use Rattle.std.specs.Prelude.{◌≡◌, ◌≤◌, ◌<◌, ◌+◌, ◌*◌, ◌++◌, ℕ, false, length, replicate, IfOk, IfSome, IfNone, OnOk};
 ghost use Rattle.nj_search_defs.specs.Outcome.{LimitAt};
 ghost use Rattle.nj_expand.specs.declared.Stepped.{Stepped};
 ghost use Rattle.nj_expand.specs.Step.{IsStep};
 ghost use Rattle.nj_search.specs.Ends.{outcome_of, told_of, frames_most};
 ghost use Rattle.nj_search.specs.Rests.{rest_of, frames_a_step, IsFurther};
+ghost use Rattle.nj_search.specs.Starts.{CanEnd, EndsIn, IsBegun, IsEnded};
 
 use crate::{Movie, Plan, Steps};
 use nj_expand::{Judged, Row, Search, Stepped};
@@ -86,8 +87,8 @@ fn hold_pad(movie: &mut Movie, hold: u32, pad: Pad) -> Result<(), AllocError>
 fn won(alloc: Global, search: &Search, row: &Row) -> Result<Outcome, AllocError>
     requires spent { search.now.spent ≡ false }
     requires row { IsStep search.now (Stepped.Won row.now) search.now }
-    requires step { search.now.state.step < 16777215 }
-    ensures { IfOk result (λ outcome. (steps : ℕ) → told_of search.now.plan (rest_of search.now (steps + 1)) ≡ outcome) }
+    requires step { search.now.state.step ≤ 16777215 }
+    ensures { IfOk result (EndsIn search.now) }
 {
     winners_tell_parents();
     allowed_pads_come_once();
@@ -99,7 +100,7 @@ fn won(alloc: Global, search: &Search, row: &Row) -> Result<Outcome, AllocError>
 }
 
 // The outcome of a search at its limit, by the front's first word.
-fn at_limit(alloc: Global, search: &Search) -> Result<Outcome, AllocError>
+pub(crate) fn at_limit(alloc: Global, search: &Search) -> Result<Outcome, AllocError>
     requires spent { search.now.spent ≡ false }
     ensures { IfOk result (λ outcome. told_of search.now.plan (LimitAt search.now.state) ≡ outcome) }
 {
@@ -107,6 +108,26 @@ fn at_limit(alloc: Global, search: &Search) -> Result<Outcome, AllocError>
     let best = search.judged(0);
     let movie = search.movie(alloc, 0)?;
     Ok(Outcome::limited(search.step(), best, movie))
+}
+
+// What a step ends the search with, if it ends it.
+pub(crate) fn ended(
+    alloc: Global,
+    search: &Search,
+    stepped: Stepped,
+) -> Result<Option<Outcome>, AllocError>
+    requires spent { search.now.spent ≡ false }
+    requires step { search.now.state.step ≤ 16777215 }
+    requires row { CanEnd stepped search.now }
+    ensures { IfOk result (λ told. IsEnded stepped search.now told) }
+{
+    match stepped {
+        Stepped::Won { row } => Ok(Some(won(alloc, search, &row)?)),
+        Stepped::Exhausted => Ok(Some(Outcome::Exhausted {
+            step: search.step() + 1,
+        })),
+        Stepped::Go => Ok(None),
+    }
 }
 
 // One step: the outcome, if the step ends the search.
@@ -117,19 +138,14 @@ fn step_on<L: Ledger>(
 ) -> Result<Option<Outcome>, AllocError>
     requires spent { search.old.spent ≡ false }
     requires step { search.old.state.step < 16777215 }
-    ensures ended { IfOk result (λ told. IfSome told (λ outcome. (steps : ℕ) → told_of search.old.plan (rest_of search.old (steps + 1)) ≡ outcome)) }
+    ensures ended { IfOk result (λ told. IfSome told (EndsIn search.old)) }
     ensures further { IfOk result (λ told. IfNone told (IsFurther search.old search.new)) }
     ensures frames { steps.new ≤ steps.old + frames_a_step search.old }
     ensures never_falls { steps.old ≤ steps.new }
 {
     steps_are_counted();
-    match next_single(search, alloc, steps)? {
-        Stepped::Won { row } => Ok(Some(won(alloc, search, &row)?)),
-        Stepped::Exhausted => Ok(Some(Outcome::Exhausted {
-            step: search.step() + 1,
-        })),
-        Stepped::Go => Ok(None),
-    }
+    let stepped = next_single(search, alloc, steps)?;
+    ended(alloc, search, stepped)
 }
 
 // So many steps at most.
@@ -153,6 +169,36 @@ fn search_on<L: Ledger>(
     at_limit(alloc, &search)
 }
 
+// A search that was begun: it ended at its start, or goes on.
+#[derive(Drop)]
+pub(crate) enum Begun {
+    Ended(Outcome),
+    Going(Search),
+}
+
+// Begins the search: the start movie is run, and may win or fail.
+pub(crate) fn begin<L: Ledger>(
+    alloc: Global,
+    plan: Plan,
+    steps: &mut Steps<L>,
+) -> Result<Begun, AllocError>
+    ensures begun { IfOk result (λ begun. IsBegun plan begun) }
+    ensures frames { steps.new ≤ steps.old + length plan.plan.start }
+    ensures never_falls { steps.old ≤ steps.new }
+{
+    let search = plan.open(alloc, steps)?;
+    let _words = search.front_len();
+    let first = search.judged(0);
+    match first.verdict {
+        Verdict::Go => Ok(Begun::Going(search)),
+        Verdict::Win => {
+            let movie = search.movie(alloc, 0)?;
+            Ok(Begun::Ended(Outcome::won_at_once(first, movie)))
+        }
+        Verdict::Fail => Ok(Begun::Ended(Outcome::Exhausted { step: 0 })),
+    }
+}
+
 /// Searches as planned, by one thread.
 pub fn search_plain<L: Ledger>(
     alloc: Global,
@@ -164,15 +210,8 @@ pub fn search_plain<L: Ledger>(
     ensures never_falls { steps.old ≤ steps.new }
 {
     let limit = plan.steps();
-    let search = plan.open(alloc, steps)?;
-    let _words = search.front_len();
-    let first = search.judged(0);
-    match first.verdict {
-        Verdict::Go => search_on(alloc, search, limit, steps),
-        Verdict::Win => {
-            let movie = search.movie(alloc, 0)?;
-            Ok(Outcome::won_at_once(first, movie))
-        }
-        Verdict::Fail => Ok(Outcome::Exhausted { step: 0 }),
+    match begin(alloc, plan, steps)? {
+        Begun::Ended(outcome) => Ok(outcome),
+        Begun::Going(search) => search_on(alloc, search, limit, steps),
     }
 }

@@ -1,8 +1,8 @@
 -- A step of one thread: which keys are seen from a step on, and the table with the keys of the fresh rows.
-use Rattle.std.proofs.Common.{◌≡◌, ◌≢◌, ℕ, zero, suc, ◌+◌, ◌-◌, ◌/◌, ◌<◌, ◌≤◌, ◌⊎◌, inl, inr, ⊎_elim, Bool, true, false, not, ◌&&◌, ◌||◌, ◌==◌, nat_lt, cond, List, [], ◌∷◌, ◌++◌, length, map, take, drop, get_or, refl, sym, ap, ◌∙◌, subst, arith, eq-eqb}
+use Rattle.std.proofs.Common.{◌≡◌, ◌≢◌, ℕ, zero, suc, ◌+◌, ◌-◌, ◌/◌, ◌<◌, ◌≤◌, ⊎_elim, Bool, true, false, not, ◌&&◌, ◌||◌, ◌==◌, nat_lt, cond, List, [], ◌∷◌, ◌++◌, length, take, drop, get_or, refl, sym, ap, ◌∙◌, arith}
 use Rattle.std.specs.Prelude.{Option, Some, None, filter, if◌then◌else◌}
-use Rattle.std.specs.List.{All, AllPairs, concat, list_any}
-use Rattle.std.proofs.lemmas.Bool.{le-leb, false_from_ne_true, cases_Bool, both_ways, eqb-true}
+use Rattle.std.specs.List.{All, AllPairs, list_any}
+use Rattle.std.proofs.lemmas.Bool.{le-leb, false_from_ne_true, cases_Bool, both_ways}
 use Rattle.std.proofs.lemmas.List.{take_all}
 use Rattle.std.proofs.lemmas.List.Elements.{Contains-get_or}
 use Rattle.std.proofs.lemmas.List.Folds.{list_any_more}
@@ -13,10 +13,10 @@ use Rattle.nj_claims.specs.Tables.{IsTable, entries_in, owner_in, slot_count}
 use Rattle.nj_seen.specs.Rows.{IsRising, is_fresh_row, fresh_rows, generation_rows}
 use Rattle.nj_seen.specs.Held.{HoldsSeen, keys_in_rows, is_owner_since, owner_since, step_of, oldest_step}
 use Rattle.nj_seen.proofs.Firsts.{IsMet, one_met}
-use Rattle.nj_seen.proofs.Members.{In, Distinct, in_list, differ, in_filter, in_map, is_key, key_is}
+use Rattle.nj_seen.proofs.Members.{In, in_list, differ, in_filter, in_map, is_key, key_is}
 use Rattle.nj_seen.proofs.Steps.{since_is, some_has, has_some}
 use Rattle.nj_seen.proofs.Counting.{owners_since}
-use Rattle.nj_seen.proofs.Claims.{is_seen_in, in_seen, owner_seen, none_seen}
+use Rattle.nj_seen.proofs.Claims.{is_seen_in, in_seen, owner_seen}
 use Rattle.nj_seen.proofs.Newest.{keys_of, newest, in_ordered, ordered_has, fresh_unseen, fresh_first, distinct_fresh, step_push, step_push_new, holds_with}
 
 -- a key is seen from a step on where its owner is the step or a later one
@@ -35,10 +35,13 @@ pub since_seen : (words : List ℕ) (seen : Seen) (step from key : ℕ) → Hold
 since_seen words seen step from key holds = go (owner_since from (owner_in words key)) refl where
   n : ℕ
   n = from - oldest_step step seen
+
   some : Seen
   some = drop (from - oldest_step step seen) seen
+
   first : ℕ
   first = oldest_step step seen + (from - oldest_step step seen)
+
   go : (x : Option ℕ) → owner_since from (owner_in words key) ≡ x → is_owner_since from (owner_in words key) ≡ is_seen (drop (from - oldest_step step seen) seen) key
   go None e =
       since_none from (owner_in words key) e
@@ -121,6 +124,7 @@ pub holds_added : (before after : List ℕ) (seen : Seen) (step : ℕ) (rows : L
 holds_added before after seen step rows holds rises adds = holds_with before after seen step rows holds rises each where
   last_step : oldest_step step seen + length seen ≡ step + 1
   last_step = let few : length seen ≤ step + 1 = holds.few in omega arith
+
   each : (key : ℕ) → owner_in after key ≡ step_of (oldest_step step seen) (seen ++ newest seen rows ∷ []) key
   each key = go (owner_in before key) refl where
     go : (x : Option ℕ) → owner_in before key ≡ x → owner_in after key ≡ step_of (oldest_step step seen) (seen ++ newest seen rows ∷ []) key

@@ -1,5 +1,5 @@
 -- Rows in any order that have all of a kind give these in the same order as all rows do.
-use Rattle.std.proofs.Common.{◌≡◌, ◌≢◌, ℕ, zero, suc, ◌<◌, inl, inr, ⊎_elim, Bool, true, List, [], ◌∷◌, length, map, filter, get_or, refl, sym, ap, ◌∙◌, subst, arith}
+use Rattle.std.proofs.Common.{◌≡◌, ◌≢◌, ℕ, ◌<◌, Bool, true, List, [], ◌∷◌, filter, refl, sym, ap, ◌∙◌, arith}
 use Rattle.std.specs.List.{All, AllPairs, Contains}
 use Rattle.std.specs.List.Sorted.{IsPermutation}
 use Rattle.std.specs.Prelude.{slice_get}
@@ -9,7 +9,7 @@ use Rattle.nj_rows.specs.declared.Row.{Row}
 use Rattle.nj_rows.specs.Order.{is_win_row, is_row_before}
 use Rattle.nj_seen.specs.Rows.{IsRising, winner_row, is_fresh_row, fresh_rows}
 use Rattle.nj_seen.specs.Held.{is_owned}
-use Rattle.nj_seen.proofs.Members.{In, Distinct, in_list, of_member, in_filter, filtered, distinct, distinct_filter, contained}
+use Rattle.nj_seen.proofs.Members.{In, Distinct, in_list, of_member, in_filter, filtered, distinct, distinct_filter}
 use Rattle.nj_seen.proofs.Shuffling.{same_members}
 
 -- the law that rows have one order

@@ -39,10 +39,10 @@ pub record IsPublished (old : List ℕ) (step i : ℕ) (words : List ℕ) : Type
   pub left : drop (2 * i) words ≡ drop (2 * i) old
   pub size : length words ≡ length old
 
-published_low : (step owner : ℕ) → owner < first_claim → published step owner ≡ owner
+pub published_low : (step owner : ℕ) → owner < first_claim → published step owner ≡ owner
 published_low step owner lt = ap (λ b. if b then owner else step) (lt-ltb owner first_claim lt)
 
-published_high : (step owner : ℕ) → first_claim ≤ owner → published step owner ≡ step
+pub published_high : (step owner : ℕ) → first_claim ≤ owner → published step owner ≡ step
 published_high step owner le = ap (λ b. if b then owner else step) (le-ltb owner first_claim le)
 
 -- the entry of a slot, published

@@ -1,8 +1,8 @@
 -- A table tells the generations that it holds.
-use Rattle.std.proofs.Common.{◌≡◌, ℕ, ◌+◌, ◌-◌, ◌<◌, ◌≤◌, ◌⊎◌, inl, inr, ⊎_elim, true, false, List, [], ◌∷◌, ◌++◌, length, map, refl, sym, ap, ◌∙◌, subst, arith, ◌==◌, eq-eqb}
-use Rattle.std.specs.Prelude.{Option, Some, None, filter, if◌then◌else◌}
+use Rattle.std.proofs.Common.{◌≡◌, ℕ, ◌+◌, ◌-◌, ◌≤◌, true, false, List, [], ◌∷◌, length, map, refl, sym, ap, ◌∙◌, arith, ◌==◌, eq-eqb}
+use Rattle.std.specs.Prelude.{Some, filter, if◌then◌else◌}
 use Rattle.std.specs.List.{All, concat, list_any}
-use Rattle.std.proofs.lemmas.Bool.{eqb-true, both_ways, false_from_ne_true}
+use Rattle.std.proofs.lemmas.Bool.{eqb-true, false_from_ne_true}
 use Rattle.std.proofs.lemmas.List.Elements.{All-head, All-tail}
 use Rattle.nj_search_defs.specs.Pruning.{Seen}
 use Rattle.nj_claims.specs.Tables.{entries_in, owner_in}

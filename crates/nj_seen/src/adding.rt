@@ -29,12 +29,7 @@ pub fn unseen(alloc: Global, rows: &[Row], words: &[u64], from: u64) -> Result<V
 }
 
 // Whether neither the keys met so far nor a generation from a step on has the key, which is met now.
-fn is_first(
-    met: &mut HashSet<u64>,
-    key: u64,
-    words: &[u64],
-    from: u64,
-) -> Result<bool, AllocError>
+fn is_first(met: &mut HashSet<u64>, key: u64, words: &[u64], from: u64) -> Result<bool, AllocError>
     requires { IsTable words.now }
     ensures first { IfOk result (λ first. first ≡ (not (contains nat_eq met.old key) && not (is_owner_since from (owner_in words.now key)))) }
     ensures met { OnOk result ((other : ℕ) → contains nat_eq met.new other ≡ (contains nat_eq met.old other || (key == other))) }

@@ -11,8 +11,8 @@ ghost use Rattle.nj_claims.specs.Passes.{HadNoRoom};
 ghost use Rattle.nj_seen.specs.Rows.{IsRising, winner_row, is_fresh_row, fresh_rows, generation_rows};
 ghost use Rattle.nj_seen.specs.Held.{HoldsSeen, AreClaims, claim_of, first_claim, is_owned, keys_in_rows, oldest_step, published, seen_in};
 
-use nj_rows::any_order_is_one;
 use nj_claims::{different_numbers_fit, entries_are_the_map};
+use nj_rows::any_order_is_one;
 
 /// A table that holds the seen keys of a search has as many entries as there are keys, and its
 /// owners are steps up to that of the search.

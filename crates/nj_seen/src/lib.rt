@@ -15,6 +15,8 @@ mod adding;
 mod forgetting;
 mod laws;
 mod publishing;
+#[cfg(test)]
+mod tests;
 
 pub use adding::{add_keys, keys_of, unseen};
 pub use forgetting::{SeenKeys, left, room};

@@ -1,6 +1,6 @@
 -- The commands of the program, and the reading of a whole command line.
 use Rattle.std.specs.Prelude.{◌≤◌, ℕ, List, [], ◌∷◌, Option, Some, None, codes, find, option_and_then}
-use Rattle.std.specs.Prelude.{option_map, slice_get, unwrap_or}
+use Rattle.std.specs.Prelude.{Bool, false, nat_lt, option_map, slice_get, unwrap_or}
 use Rattle.std.specs.Str.{bytes_eq}
 use Rattle.nj_outside.specs.Decimal.{decimal_of}
 use Rattle.nj_words.specs.Words.{Form, Taken, Word, taken}
@@ -40,20 +40,22 @@ abbrev pub replay_of : Taken → Option Command
 replay_of taken =
     Some (Replay (name_at taken 0) (name_at taken 1) (name_at taken 2) (name_at taken 3))
 
--- `search CART SCRIPT START`, with its three options; our own
+-- `search CART SCRIPT START`, with its four options; our own
 abbrev pub search_form : Form
 search_form = record {
   names = codes "CART" ∷ codes "SCRIPT" ∷ codes "START" ∷ [];
-  options = codes "budget" ∷ codes "steps" ∷ codes "slots" ∷ [];
+  options = codes "budget" ∷ codes "steps" ∷ codes "slots" ∷ codes "workers" ∷ [];
 }
 
 -- the numbers of `search`: the budget in bytes from 1 to 2,147,483,648, else 67,108,864; the steps
--- from 1 to 16,777,215, else 1,000; the slots' exponent of two from 10 to 25, else 20; our own
+-- from 1 to 16,777,215, else 1,000; the slots' exponent of two from 10 to 25, else 20; the workers
+-- from 1 to 64, else 1; our own
 unfoldable pub search_options_of : Taken → Option SearchOptions
-search_options_of taken = option_and_then (λ budget. option_and_then (λ steps. option_and_then (λ exponent.
-    Some (record { budget = budget; steps = steps; exponent = exponent }))
-    (number_or 10 25 20 (value_at taken 2))) (number_or 1 16777215 1000 (value_at taken 1)))
-    (number_or 1 2147483648 67108864 (value_at taken 0))
+search_options_of taken =
+    option_and_then (λ budget. option_and_then (λ steps. option_and_then (λ exponent. option_and_then (λ workers.
+    Some (record { budget = budget; steps = steps; exponent = exponent; workers = workers }))
+    (number_or 1 64 1 (value_at taken 3))) (number_or 10 25 20 (value_at taken 2)))
+    (number_or 1 16777215 1000 (value_at taken 1))) (number_or 1 2147483648 67108864 (value_at taken 0))
 
 -- the names of `search`, by their places, and its numbers; our own
 abbrev pub search_of : Taken → Option Command
@@ -120,6 +122,8 @@ pub record AreInRange (options : SearchOptions) : Type 0 where
   pub most_steps : options.steps ≤ 16777215
   pub least_exponent : 10 ≤ options.exponent
   pub most_exponent : options.exponent ≤ 25
+  pub some_workers : 1 ≤ options.workers
+  pub most_workers : options.workers ≤ 64
 
 -- the numbers of a command are in their ranges; our own
 unfoldable pub IsInRange : Command → Type 0
@@ -139,3 +143,16 @@ unfoldable pub reading : List Word → Option Command
 reading [] = None
 reading (word ∷ words) =
     option_and_then (λ row. command_of row words) (find (λ row. bytes_eq word row.word) table)
+
+-- how many workers a command asks for: those of a search, and one for every other; our own
+unfoldable pub workers_of : Command → ℕ
+workers_of (Search cart script start options) = options.workers
+workers_of (Play cart movie) = 1
+workers_of (Replay cart script start movie) = 1
+workers_of (Check cart script) = 1
+workers_of (Workload number) = 1
+workers_of (Asm source) = 1
+
+-- the words read as a command that asks for two workers or more; our own
+unfoldable pub asks_workers : List Word → Bool
+asks_workers words = unwrap_or (option_map (λ command. nat_lt 1 (workers_of command)) (reading words)) false

@@ -46,21 +46,23 @@ pub(crate) fn replay(alloc: Global, words: &[String]) -> Result<Command, WordsRe
 
 static SEARCH_NAMES: [&str; 3] = ["CART", "SCRIPT", "START"];
 
-static SEARCH_OPTIONS: [&str; 3] = ["budget", "steps", "slots"];
+static SEARCH_OPTIONS: [&str; 4] = ["budget", "steps", "slots", "workers"];
 
 #[tactic(auto, unfolding(crate::specs::Commands::search_options_of))]
 fn search_options(given: &Given<'_>) -> Option<SearchOptions>
-    requires { 3 ≤ length given.now.values.items }
+    requires { 4 ≤ length given.now.values.items }
     ensures value { result ≡ search_options_of (taken_of given.now) }
     ensures in_range { IfSome result (λ options. AreInRange options) }
 {
     let budget = given.number(0, 1, 2_147_483_648, 67_108_864)?;
     let steps = given.number(1, 1, 16_777_215, 1_000)? as u32;
     let exponent = given.number(2, 10, 25, 20)? as u32;
+    let workers = given.number(3, 1, 64, 1)? as u32;
     Some(SearchOptions {
         budget,
         steps,
         exponent,
+        workers,
     })
 }
 

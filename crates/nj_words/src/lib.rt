@@ -6,7 +6,7 @@
 #![tactic(auto)]
 
 ghost use Rattle.std.specs.Prelude.{◌≡◌, Err, IfOk, None, Some, map, string_bytes};
-ghost use Rattle.nj_words.specs.Commands.{reading, IsInRange};
+ghost use Rattle.nj_words.specs.Commands.{IsInRange, asks_workers, reading, workers_of};
 ghost use Rattle.nj_words.specs.Grammar.{PiecesAreSaid};
 ghost use Rattle.nj_words.specs.declared.refused.WordsRefused.TheVariants.{Usage};
 
@@ -17,7 +17,7 @@ mod refused;
 use commands::{asm, check, play, replay, search, workload};
 pub use nj_seq::Text;
 pub use refused::WordsRefused;
-use std::alloc::Global;
+use std::alloc::{AllocError, Global};
 
 /// A command of the program, with the names and options that it was given.
 #[derive(Debug, Drop)]
@@ -65,6 +65,21 @@ pub struct SearchOptions {
     pub steps: u32,
     /// The slots for seen keys, as an exponent of two, 10 to 25.
     pub exponent: u32,
+    /// The workers, 1 to 64.
+    pub workers: u32,
+}
+
+impl Command {
+    /// How many workers the command asks for: those of a search, 1 to 64, and one for every other.
+    #[tactic(auto, unfolding(crate::specs::Commands::workers_of))]
+    pub fn workers(&self) -> u32
+        ensures { result ≡ workers_of self.now }
+    {
+        match self {
+            Command::Search { options, .. } => options.workers,
+            _ => 1,
+        }
+    }
 }
 
 /// Reads the words that follow the program's name. Names are as they were given, so a lone `-` is
@@ -85,6 +100,18 @@ pub fn read_words(alloc: Global, words: &[String]) -> Result<Command, WordsRefus
         "workload" => workload(alloc, rest),
         "asm" => asm(alloc, rest),
         _ => Err(WordsRefused::Usage),
+    }
+}
+
+/// Whether the words read as a search by two workers or more. They don't where they have no reading.
+#[tactic(auto, unfolding(crate::specs::Commands::asks_workers))]
+pub fn asks_workers(alloc: Global, words: &[String]) -> Result<bool, AllocError>
+    ensures { IfOk result (λ asks. asks ≡ asks_workers (map string_bytes words.now)) }
+{
+    match read_words(alloc, words) {
+        Ok(command) => Ok(command.workers() > 1),
+        Err(WordsRefused::Usage) => Ok(false),
+        Err(WordsRefused::NoMemory) => Err(AllocError),
     }
 }
 

@@ -68,7 +68,7 @@ fn names_of_replay(rt: HostRuntime) -> Result<(), Fail> {
 
 #[test]
 fn options_of_search(rt: HostRuntime) -> Result<(), Fail> {
-    match read_line(rt.alloc(), "search W --steps 5 S --slots=10 -")? {
+    match read_line(rt.alloc(), "search W --steps 5 S --slots=10 - --workers 64")? {
         Command::Search {
             cart,
             script,
@@ -81,6 +81,7 @@ fn options_of_search(rt: HostRuntime) -> Result<(), Fail> {
             assert_eq!(rt; options.budget, 67_108_864);
             assert_eq!(rt; options.steps, 5);
             assert_eq!(rt; options.exponent, 10);
+            assert_eq!(rt; options.workers, 64);
         }
         _other => assert!(rt; false, "another command"),
     }
@@ -107,7 +108,7 @@ fn names_of_the_others(rt: HostRuntime) -> Result<(), Fail> {
     Ok(())
 }
 
-static UNREADABLE: [&str; 21] = [
+static UNREADABLE: [&str; 27] = [
     "",
     "-- play L M",
     "Play L M",
@@ -125,6 +126,12 @@ static UNREADABLE: [&str; 21] = [
     "replay W S M",
     "search W S - --slots=26",
     "search W S - --budget 2147483649",
+    "search W S - --workers 0",
+    "search W S - --workers=65",
+    "search W S - --workers=",
+    "search W S - --workers +2",
+    "search W S - --workers 2 --workers 2",
+    "check W S --workers 2",
     "check W",
     "workload +1",
     "workload 18446744073709551616",
@@ -141,6 +148,25 @@ fn words_without_a_reading(rt: HostRuntime) -> Result<(), Fail> {
     for line in UNREADABLE.iter() {
         let refused = read_line(rt.alloc(), line).err();
         assert_eq!(rt; refused, Some(WordsRefused::Usage), "of {line:?}");
+    }
+    Ok(())
+}
+
+#[test]
+fn words_that_ask_for_workers(rt: HostRuntime) -> Result<(), Fail> {
+    for (line, asks) in [
+        ("search W S - --workers=2", true),
+        ("search W S - --workers 1", false),
+        ("search W S -", false),
+        ("search W S - --workers 65", false),
+        ("play L M", false),
+    ] {
+        let words = words_in(rt.alloc(), line)?;
+        assert_eq!(rt;
+            asks_workers(rt.alloc(), words.as_slice())?,
+            asks,
+            "of {line:?}"
+        );
     }
     Ok(())
 }

@@ -1,5 +1,5 @@
 -- The ledger is the one that the blank names.
 use Rattle.nj_main.proofs.main.Given as goal
 
-abbrev pub ghosts-run : goal.ghosts-run
-ghosts-run a = record { name = a.blank.name; parts = a.blank.parts }
+abbrev pub ghosts-carry_out : goal.ghosts-carry_out
+ghosts-carry_out a = record { name = a.blank.name; parts = a.blank.parts }

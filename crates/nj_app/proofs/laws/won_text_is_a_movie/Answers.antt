@@ -2,7 +2,7 @@
 use Rattle.std.proofs.Common.{◌≡◌, ℕ, ℤ, List, [], ◌∷◌, ◌++◌, codes, refl, ap, ◌∙◌, subst, append_assoc, Ok}
 use Rattle.std.specs.Fmt.{decimal, signed_decimal}
 use Rattle.nj_movie.specs.Text.{movie_of, movie_text}
-use Rattle.nj_app.specs.Replay.{outcome_line}
+use Rattle.nj_app.specs.Outcomes.{outcome_line}
 use Rattle.nj_app.proofs.Digits.{decimal_plain, signed_plain}
 use Rattle.nj_app.proofs.laws.won_text_is_a_movie.Goals as goal
 
@@ -18,12 +18,14 @@ behind_steps frames reward = codes " frames=" ++ (decimal frames ++ behind_frame
 abbrev won_words : ℕ → ℕ → ℤ → List ℕ
 won_words step frames reward = codes " won step=" ++ (decimal step ++ behind_steps frames reward)
 
-won_line : (step frames : ℕ) (reward : ℤ) → (35 ∷ won_words step frames reward) ++ 10 ∷ [] ≡ outcome_line (codes "won") step frames reward
+won_line : (step frames : ℕ) (reward : ℤ) →
+    (35 ∷ won_words step frames reward) ++ 10 ∷ [] ≡ outcome_line (codes "won") step frames reward
 unfolding outcome_line
 won_line step frames reward =
     ap (λ rest. codes "# won step=" ++ rest)
     (append_assoc (decimal step) (behind_steps frames reward) (10 ∷ [])
-    ∙ ap (λ rest. decimal step ++ (codes " frames=" ++ rest)) (append_assoc (decimal frames) (behind_frames reward) (10 ∷ [])))
+    ∙ ap (λ rest. decimal step ++ (codes " frames=" ++ rest))
+    (append_assoc (decimal frames) (behind_frames reward) (10 ∷ [])))
 
 pub returns : goal.returns
 returns c = λ step frames reward pads bytes few.

@@ -16,10 +16,12 @@ use Rattle.nj_search.specs.Ends.{outcome_of, reward_in, told_of}
 use Rattle.nj_search.specs.Plans.{Planned}
 use Rattle.nj_search.specs.declared.searching.Outcome.{Outcome}
 use Rattle.nj_search.specs.declared.searching.Outcome.TheVariants.{Won}
-use Rattle.nj_app.specs.Outcomes.{outcome_head, outcome_text}
-use Rattle.nj_app.specs.Play.{movie_limit, movie_reading}
+use Rattle.nj_app.specs.Formats.{movie_format, reading_of}
+use Rattle.nj_app.specs.Outcomes.{outcome_head, outcome_line, outcome_text}
 use Rattle.nj_app.specs.Refusals.{movie_refusal, replay_refusal}
-use Rattle.nj_app.specs.Replay.{judged_work, outcome_line, replay_done}
+use Rattle.nj_app.specs.Replay.{judged_work, replay_done, replay_reading}
+use Rattle.nj_app.specs.declared.formats.TheConstants.{MOVIE}
+use Rattle.nj_app.specs.declared.stops.Kind.TheVariants as kinds
 use Rattle.nj_app.specs.Search.{told}
 use Rattle.nj_app.specs.Work.{Done, accepted, done, refusal_told}
 use Rattle.nj_app.proofs.Bytes.{AreBytes, won_movie_bytes}
@@ -49,44 +51,56 @@ told_won : (planned : Planned) (step : ℕ) (word : Word) → outcome_of planned
 unfolding told_of
 told_won planned step word won = ap (told_of planned.plan) won
 
-text_won : (step : ℕ) (reward : ℤ) (pads : List ℕ) → outcome_text (Won step reward pads) ≡ outcome_line (codes "won") step (length pads) reward ++ movie_text pads
+text_won : (step : ℕ) (reward : ℤ) (pads : List ℕ) →
+    outcome_text (Won step reward pads) ≡ outcome_line (codes "won") step (length pads) reward ++ movie_text pads
 unfolding outcome_text
 text_won step reward pads = refl
 
 -- bytes within the limit are read as the movie that they are
-reading_within : (bytes pads : List ℕ) → length bytes ≤ movie_limit → movie_of bytes ≡ Ok pads → movie_reading bytes ≡ Ok pads
-unfolding movie_reading
+reading_within : (bytes pads : List ℕ) → length bytes ≤ MOVIE.limit → movie_of bytes ≡ Ok pads →
+    reading_of movie_format bytes ≡ Ok pads
+unfolding movie_format
 reading_within bytes pads short read =
-    let test : nat_lt movie_limit (length bytes) ≡ false = grind (arith, nat_tests) in
+    let test : nat_lt MOVIE.limit (length bytes) ≡ false = grind (arith, nat_tests) in
     rw test (ap (refusal_told movie_refusal) read)
 
 won_read : (step : ℕ) (reward : ℤ) (pads : List ℕ) → length pads ≤ 1048576 →
-    movie_of (outcome_line (codes "won") step (length pads) reward ++ movie_text pads) ≡ Ok pads → movie_reading (outcome_text (Won step reward pads)) ≡ Ok pads
+    movie_of (outcome_line (codes "won") step (length pads) reward ++ movie_text pads) ≡ Ok pads →
+    reading_of movie_format (outcome_text (Won step reward pads)) ≡ Ok pads
 won_read step reward pads few read =
-    ap movie_reading (text_won step reward pads)
+    ap (reading_of movie_format) (text_won step reward pads)
     ∙ reading_within (outcome_line (codes "won") step (length pads) reward ++ movie_text pads) pads
-    (omega (arith, length-append (outcome_line (codes "won") step (length pads) reward) (movie_text pads), head_length step (length pads) reward, lines_length pads))
+    (omega (
+      arith,
+      length-append (outcome_line (codes "won") step (length pads) reward) (movie_text pads),
+      head_length step (length pads) reward,
+      lines_length pads,
+    ))
     read
 
 won_answered : (plan : Plan) (step : ℕ) (reward : ℤ) (pads : List ℕ) →
     replay_of plan pads ≡ Ok (record { step = step; frames = length pads; reward = reward; verdict = Win }) →
-    judged_work plan.cartridge plan.script plan.start pads ≡ Done (done 0 (outcome_line (codes "won") step (length pads) reward) (length pads))
-unfolding judged_work
+    judged_work plan.cartridge plan.script plan.start pads
+    ≡ Done (done 0 (outcome_line (codes "won") step (length pads) reward) (length pads))
+unfolding judged_work replay_reading
 won_answered plan step reward pads replayed =
-    ap (λ (r : Result Replayed ReplayRefused). accepted 6 (codes "movie") (replay_done (length pads)) (refusal_told replay_refusal r)) replayed
+    ap (λ (r : Result Replayed ReplayRefused). accepted kinds.Movie (replay_done (length pads))
+    (refusal_told replay_refusal r)) replayed
 
 -- the pads that lines say are bytes
 said_bytes : (parts : List (List ℕ)) (pads : List ℕ) → Says parts pads → AreBytes pads
 said_bytes parts whole nothing = All-nil (λ pad. pad < 256)
 said_bytes parts whole (skip line rest pads skipped says) = said_bytes rest pads says
-said_bytes parts whole (press line rest pad pads frame says) = All-cons (λ pad. pad < 256) pad pads frame.0 (said_bytes rest pads says)
+said_bytes parts whole (press line rest pad pads frame says) = All-cons (λ pad. pad < 256) pad pads frame.0
+    (said_bytes rest pads says)
 
 pub returns : goal.returns
 returns c = λ planned step word script start script_read start_read none won.
     let in_range = c.what_is_read_is_in_range.ensures script planned.plan.script script_read in
     let says = (c.a_text_says_its_pads.ensures.said start planned.plan.start start_read).0 in
     let bytes =
-    won_movie_bytes c.parents_stood_before.ensures c.winner_is_best.ensures planned step word won (said_bytes _ planned.plan.start says)
+    won_movie_bytes c.parents_stood_before.ensures c.winner_is_best.ensures planned step word won
+    (said_bytes _ planned.plan.start says)
     in_range.1 in
     let replays = c.a_won_word_replays.ensures planned step word in_range.0.hold_low none won in
     let pads = movie_of_word planned.plan word in
@@ -95,7 +109,7 @@ returns c = λ planned step word script start script_read start_read none won.
     let few : length pads ≤ 1048576 = replays.short_enough in
     record {
       read =
-          ap (λ (o : Outcome). movie_reading (outcome_text o)) is_told
+          ap (λ (o : Outcome). reading_of movie_format (outcome_text o)) is_told
           ∙ won_read step reward pads few (c.won_text_is_a_movie.ensures step (length pads) reward pads bytes few);
       is_of_word = replays.read;
       replayed = replays.replayed;

@@ -10,10 +10,10 @@ invariant-loop-row g l =
     let before : Before = record { rom = rom_of l.fn.machine; script = l.script; images = l.front.images; statuses = statuses_of l.judged } in
     record {
       cartridge : rom_of l.machine ≡ rom_of l.fn.machine;
-      long : length l.image.items ≡ l.front.size;
-      pool : l.again.pool ≡ pool_again before l.front.size l.limit (take l.row-index l.kept);
+      long : length l.image.items ≡ length l.front.base;
+      pool : l.again.pool ≡ pool_again before l.front.base l.limit (take l.row-index l.kept);
       judged : l.again.judged.items ≡ map (judged_again before) (take l.row-index l.kept);
-      bytes : bytes_held l.again.pool ≡ l.row-index * (l.front.size + 16);
+      bytes : bytes_held l.again.pool ≤ l.row-index * (length l.front.base + 16);
       frames : l.steps ≤ l.fn.steps + l.script.hold * l.row-index;
       never_falls : l.fn.steps ≤ l.steps;
     }

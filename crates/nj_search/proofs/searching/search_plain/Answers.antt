@@ -1,54 +1,27 @@
-use Rattle.std.proofs.Common.{◌≡◌, sym, ◌∙◌, arith}
+use Rattle.std.proofs.Common.{◌≡◌, sym, subst, ap, ◌∙◌}
 use Rattle.std.proofs.lemmas.Result.{IfOk-weaker}
 use Rattle.nj_search.specs.Ends.{outcome_of, told_of}
 use Rattle.nj_search.specs.Rests.{rest_of}
-use Rattle.nj_search.proofs.Going.{begun, start_within, all_within, goes_on, start_wins, start_fails}
+use Rattle.nj_search.specs.Starts.{IsBegun}
+use Rattle.nj_search.specs.declared.searching.Begun.{Begun}
+use Rattle.nj_search.proofs.Going.{start_within, frames_going}
 use Rattle.nj_search.proofs.searching.search_plain.Goals as goal
 
-pub returns-in_err-search-clause-frames : goal.returns-in_err-search-clause-frames
-returns-in_err-search-clause-frames g c = start_within c.args.plan _ _ c.open.ensures.frames
+pub returns-in_err-outcome-clause-frames : goal.returns-in_err-outcome-clause-frames
+returns-in_err-outcome-clause-frames g c = start_within c.args.plan _ _ c.begin.ensures.frames
 
-pub judged-first-requires-clause-spent : goal.judged-first-requires-clause-spent
-judged-first-requires-clause-spent g c = (begun c.args.plan _ c.in_ok-search.ensures.opened).unspent
+pub returns-in-Ended-clause-frames : goal.returns-in-Ended-clause-frames
+returns-in-Ended-clause-frames g c = start_within c.args.plan _ _ c.begin.ensures.frames
 
-pub search_on-requires-clause-spent : goal.search_on-requires-clause-spent
-search_on-requires-clause-spent g c = (begun c.args.plan _ c.in_ok-search.ensures.opened).unspent
-
-pub search_on-requires-clause-limit : goal.search_on-requires-clause-limit
-search_on-requires-clause-limit g c = omega (arith, (begun c.args.plan _ c.in_ok-search.ensures.opened).step)
-
-pub movie-requires-clause-spent : goal.movie-requires-clause-spent
-movie-requires-clause-spent g c = (begun c.args.plan _ c.in_ok-search.ensures.opened).unspent
-
-pub returns-in_err-movie-in-Win-clause-frames : goal.returns-in_err-movie-in-Win-clause-frames
-returns-in_err-movie-in-Win-clause-frames g c = start_within c.args.plan _ _ c.open.ensures.frames
-
-pub returns-in_ok-movie-in-Win-clause-frames : goal.returns-in_ok-movie-in-Win-clause-frames
-returns-in_ok-movie-in-Win-clause-frames g c = start_within c.args.plan _ _ c.open.ensures.frames
-
-pub returns-in-Fail-clause-frames : goal.returns-in-Fail-clause-frames
-returns-in-Fail-clause-frames g c = start_within c.args.plan _ _ c.open.ensures.frames
-
-pub returns-in-Go-clause-frames : goal.returns-in-Go-clause-frames
-returns-in-Go-clause-frames g c =
-    all_within c.args.plan c.in_ok-search.search _ _ _ c.steps-limit.result (begun c.args.plan _ c.in_ok-search.ensures.opened) c.open.ensures.frames
-    c.steps-limit.ensures.steps c.search_on.ensures.frames
-
-pub returns-in-Go-clause-outcome : goal.returns-in-Go-clause-outcome
-returns-in-Go-clause-outcome g c =
-    let search = c.in_ok-search.search in
+pub returns-in-Going-clause-outcome : goal.returns-in-Going-clause-outcome
+returns-in-Going-clause-outcome g c =
+    let search = c.in-Going.search in
+    let going = subst (λ (b : Begun). IsBegun c.args.plan b) c.in-Going.is c.in_ok-outcome.ensures.begun in
     IfOk-weaker c.search_on.result (λ outcome. told_of search.plan (rest_of search c.steps-limit.result) ≡ outcome)
     (λ outcome. told_of c.args.plan.plan (outcome_of c.args.plan) ≡ outcome)
-    (λ outcome told. goes_on c.args.plan search c.judged-first.result c.steps-limit.result outcome (begun c.args.plan _ c.in_ok-search.ensures.opened)
-    c.judged-first.ensures.judged c.in-Go.is c.steps-limit.ensures.steps told)
-    c.search_on.ensures.outcome
+    (λ outcome told. going.told outcome (ap (λ n. told_of search.plan (rest_of search n)) (sym c.steps-limit.ensures.steps) ∙ told)) c.search_on.ensures.outcome
 
-pub returns-in_ok-movie-in-Win-clause-outcome : goal.returns-in_ok-movie-in-Win-clause-outcome
-returns-in_ok-movie-in-Win-clause-outcome g c =
-    start_wins c.args.plan _ c.judged-first.result c.in_ok-movie-in-Win.movie (begun c.args.plan _ c.in_ok-search.ensures.opened)
-    c.judged-first.ensures.judged c.in-Win.is c.in_ok-movie-in-Win.ensures
-    ∙ sym c.won_at_once.ensures
-
-pub returns-in-Fail-clause-outcome : goal.returns-in-Fail-clause-outcome
-returns-in-Fail-clause-outcome g c =
-    start_fails c.args.plan _ c.judged-first.result (begun c.args.plan _ c.in_ok-search.ensures.opened) c.judged-first.ensures.judged c.in-Fail.is
+pub returns-in-Going-clause-frames : goal.returns-in-Going-clause-frames
+returns-in-Going-clause-frames g c =
+    let going = subst (λ (b : Begun). IsBegun c.args.plan b) c.in-Going.is c.in_ok-outcome.ensures.begun in
+    frames_going c.args.plan c.in-Going.search c.steps-limit.result _ _ _ going c.steps-limit.ensures.steps c.begin.ensures.frames c.search_on.ensures.frames

@@ -1,5 +1,5 @@
 -- One row more.
-use Rattle.std.proofs.Common.{ℕ, ◌-◌, drop, nat_eq, rules}
+use Rattle.std.proofs.Common.{◌-◌, drop, nat_eq, rules}
 use Rattle.std.specs.HashSet.{contains}
 use Rattle.nj_seen.specs.Held.{oldest_step}
 use Rattle.nj_seen.proofs.Firsts.{all_met}

@@ -1,8 +1,8 @@
 -- What is left, where nothing is forgotten and where the oldest generations are.
-use Rattle.std.proofs.Common.{◌≡◌, ℕ, ◌-◌, List, ap, sym, ◌∙◌, drop}
-use Rattle.nj_search_defs.specs.Pruning.{Seen, forgotten, key_count}
+use Rattle.std.proofs.Common.{◌-◌, ap, ◌∙◌, drop}
+use Rattle.nj_search_defs.specs.Pruning.{key_count}
 use Rattle.nj_claims.specs.Tables.{slot_count}
-use Rattle.nj_seen.specs.Held.{HoldsSeen, oldest_step}
+use Rattle.nj_seen.specs.Held.{oldest_step}
 use Rattle.nj_seen.proofs.Counting.{IsMap, is_map}
 use Rattle.nj_seen.proofs.Leaving.{left_gone, left_oldest, left_count, stay, none_gone}
 use Rattle.nj_seen.proofs.forgetting.left.Goals as goal

@@ -1,17 +1,18 @@
-use Rattle.std.proofs.Common.{ℕ, arith, [], ◌∷◌, length, ap, subst, ◌∙◌}
+use Rattle.std.proofs.Common.{ℕ, [], ◌∷◌, length, ap, subst, ◌∙◌}
 use Rattle.nj_seen.specs.Held.{HoldsSeen}
 use Rattle.nj_game.specs.Plan.{plan_of}
 use Rattle.nj_expand.proofs.Starts.{start_state, start_judged, start_key, start_image, start_pool}
+use Rattle.nj_expand.proofs.Words.{image_size}
 use Rattle.nj_expand.proofs.opening.First.run.Goals as goal
 
-pub pool_of-requires-clause-long : goal.pool_of-requires-clause-long
-pool_of-requires-clause-long g c =
+pub pool_of-requires-clause-size : goal.pool_of-requires-clause-size
+pool_of-requires-clause-size g c =
     let plan = plan_of c.args.cart.now c.args.script.now c.args.start.now in
     let ran =
     start_state c.args.cart.now c.args.script.now c.args.start.now c.pads.result.now c.in_ok-machine.machine c.play.new.self
     c.in_ok-machine.ensures.begun c.pads.ensures.pads c.play.ensures.played (c.the_empty_word_is_the_start.ensures.state plan) in
     let is = start_image plan c.play.new.self c.as_slice.result.now ran (c.as_slice.ensures.value ∙ c.in_ok-image.ensures) in
-    omega (arith, ap length is, c.an_image_stands_for_its_word.ensures.len plan [] c.is_cartridge.ensures, c.an_image_stands_for_its_word.ensures.few plan)
+    image_size plan c.as_slice.result.now (ap length is ∙ c.an_image_stands_for_its_word.ensures.len plan [] c.is_cartridge.ensures)
 
 pub returns-clause-pool : goal.returns-clause-pool
 returns-clause-pool g c =

@@ -15,8 +15,8 @@ pub invariant_of-result : goal.invariant_of-result
 invariant_of-result c =
     let plan = plan_of c.args.cart c.args.script c.args.start in (
       c.requires.bounds,
-      first_front plan c.args.bounds.front c.args.first.pool c.args.first.judged.items c.requires.nrom c.requires.bounds.some
-          (c.an_image_stands_for_its_word.ensures.len plan [] c.requires.nrom) c.requires.pool c.requires.judged,
+      first_front plan c.args.bounds.front c.args.first.pool c.args.first.judged.items c.requires.cartridge c.requires.bounds.some
+          (c.an_image_stands_for_its_word.ensures.len plan [] c.requires.cartridge) c.requires.pool c.requires.judged,
       (first c).at,
     )
 

@@ -24,4 +24,3 @@ returns c =
     subst (λ (h : Held). HoldsLeft h c.in_ok-words.words.items) c.self.view_is
     (holds_left h c.as_slice.result.now c.in_ok-words.words.items (c.len-front.result * s.bounds.inputs) own (ap (λ n. n * s.bounds.inputs) (c.len-front.ensures ∙ images_long h.plan s.bounds.front s.pool s.judged.items c.self.invariant.1))
     c.in_ok-words.ensures.table c.in_ok-words.ensures.size c.in_ok-words.ensures.seen)
-

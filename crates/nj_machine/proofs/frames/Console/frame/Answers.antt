@@ -1,5 +1,5 @@
 -- The unit that ended the loop ends the frame that it is in.
-use Rattle.std.proofs.Common.{sym, ◌∙◌}
+use Rattle.std.proofs.Common.{sym, ◌∙◌, arith}
 use Rattle.nj_machine.proofs.Units.{end_tells}
 use Rattle.nj_machine.proofs.Fuel.{frame_ends, frame_goes_on, fewer_left}
 use Rattle.nj_machine.proofs.frames.Console.frame.Goals as goal
@@ -15,10 +15,13 @@ pub returns-in-Some-clause-cartridge : goal.returns-in-Some-clause-cartridge
 returns-in-Some-clause-cartridge g c = c.in-Some.ensures.cartridge ∙ c.loop-end.invariant.same_rom
 
 pub loop-end-smaller : goal.loop-end-smaller
-loop-end-smaller g c = fewer_left _ _ _ c.in_default.ensures.began c.in_default.ensures.step
+loop-end-smaller g c =
+    omega (arith, fewer_left _ _ _ c.in_default.ensures.began c.in_default.ensures.step, c.look_for_turns.ensures.fewer)
 
 pub loop-end-preserved : goal.loop-end-preserved
 loop-end-preserved g c = record {
-  same_frame = frame_goes_on _ _ _ c.in_default.ensures.began c.in_default.ensures.step ∙ c.loop-end.invariant.same_frame;
-  same_rom = c.in_default.ensures.cartridge ∙ c.loop-end.invariant.same_rom;
+  same_frame =
+      c.look_for_turns.ensures.same _ ∙ frame_goes_on _ _ _ c.in_default.ensures.began c.in_default.ensures.step
+      ∙ c.loop-end.invariant.same_frame;
+  same_rom = c.look_for_turns.ensures.cartridge ∙ c.in_default.ensures.cartridge ∙ c.loop-end.invariant.same_rom;
 }

@@ -1,0 +1,67 @@
+-- Each command's work is what it reads and does.
+use Rattle.std.proofs.Common.{◌+◌, ◌≤◌, subst}
+use Rattle.nj_app.specs.Answer.{frames_of}
+use Rattle.nj_app.specs.Stops.{Serves}
+use Rattle.nj_app.specs.Work.{given}
+use Rattle.nj_app.proofs.Works.{asm_is, check_is, play_is, replay_is, search_is}
+use Rattle.nj_app.proofs.running.carry_out.Goals as goal
+
+pub returns-in-Play-clause-serves : goal.returns-in-Play-clause-serves
+returns-in-Play-clause-serves g c = λ files told.
+    subst (λ work. Serves files work (g.S.Shelf.failed_read c.serve.new.shelf) c.serve.result)
+    (play_is c.args.command.now _ _ _ _ c.in-Play.is c.named.ensures c.named-in-Play.ensures)
+    (c.serve.ensures.serves files told)
+
+pub returns-in-Play-clause-frames : goal.returns-in-Play-clause-frames
+returns-in-Play-clause-frames g c = λ files told.
+    subst (λ work. c.serve.new.steps ≤ c.args.steps.now + frames_of (given files work))
+    (play_is c.args.command.now _ _ _ _ c.in-Play.is c.named.ensures c.named-in-Play.ensures)
+    (c.serve.ensures.frames files told)
+
+pub returns-in-Replay-clause-serves : goal.returns-in-Replay-clause-serves
+returns-in-Replay-clause-serves g c = λ files told.
+    subst (λ work. Serves files work (g.S.Shelf.failed_read c.serve-in-Replay.new.shelf) c.serve-in-Replay.result)
+    (replay_is c.args.command.now _ _ _ _ _ _ _ _ c.in-Replay.is c.named-in-Replay.ensures c.named-in-Replay-2.ensures c.named-in-Replay-3.ensures c.named-in-Replay-4.ensures)
+    (c.serve-in-Replay.ensures.serves files told)
+
+pub returns-in-Replay-clause-frames : goal.returns-in-Replay-clause-frames
+returns-in-Replay-clause-frames g c = λ files told.
+    subst (λ work. c.serve-in-Replay.new.steps ≤ c.args.steps.now + frames_of (given files work))
+    (replay_is c.args.command.now _ _ _ _ _ _ _ _ c.in-Replay.is c.named-in-Replay.ensures c.named-in-Replay-2.ensures c.named-in-Replay-3.ensures c.named-in-Replay-4.ensures)
+    (c.serve-in-Replay.ensures.frames files told)
+
+pub returns-in-Search-clause-serves : goal.returns-in-Search-clause-serves
+returns-in-Search-clause-serves g c = λ files told.
+    subst (λ work. Serves files work (g.S.Shelf.failed_read c.serve-in-Search.new.shelf) c.serve-in-Search.result)
+    (search_is c.args.command.now _ _ _ _ _ _ c.in-Search.options c.in-Search.is c.named-in-Search.ensures c.named-in-Search-2.ensures c.named-in-Search-3.ensures)
+    (c.serve-in-Search.ensures.serves files told)
+
+pub returns-in-Search-clause-frames : goal.returns-in-Search-clause-frames
+returns-in-Search-clause-frames g c = λ files told.
+    subst (λ work. c.serve-in-Search.new.steps ≤ c.args.steps.now + frames_of (given files work))
+    (search_is c.args.command.now _ _ _ _ _ _ c.in-Search.options c.in-Search.is c.named-in-Search.ensures c.named-in-Search-2.ensures c.named-in-Search-3.ensures)
+    (c.serve-in-Search.ensures.frames files told)
+
+pub returns-in-Check-clause-serves : goal.returns-in-Check-clause-serves
+returns-in-Check-clause-serves g c = λ files told.
+    subst (λ work. Serves files work (g.S.Shelf.failed_read c.serve-in-Check.new.shelf) c.serve-in-Check.result)
+    (check_is c.args.command.now _ _ _ _ c.in-Check.is c.named-in-Check.ensures c.named-in-Check-2.ensures)
+    (c.serve-in-Check.ensures.serves files told)
+
+pub returns-in-Check-clause-frames : goal.returns-in-Check-clause-frames
+returns-in-Check-clause-frames g c = λ files told.
+    subst (λ work. c.serve-in-Check.new.steps ≤ c.args.steps.now + frames_of (given files work))
+    (check_is c.args.command.now _ _ _ _ c.in-Check.is c.named-in-Check.ensures c.named-in-Check-2.ensures)
+    (c.serve-in-Check.ensures.frames files told)
+
+pub returns-in-Asm-clause-serves : goal.returns-in-Asm-clause-serves
+returns-in-Asm-clause-serves g c = λ files told.
+    subst (λ work. Serves files work (g.S.Shelf.failed_read c.serve-in-Asm.new.shelf) c.serve-in-Asm.result)
+    (asm_is c.args.command.now _ _ c.in-Asm.is c.named-in-Asm.ensures)
+    (c.serve-in-Asm.ensures.serves files told)
+
+pub returns-in-Asm-clause-frames : goal.returns-in-Asm-clause-frames
+returns-in-Asm-clause-frames g c = λ files told.
+    subst (λ work. c.serve-in-Asm.new.steps ≤ c.args.steps.now + frames_of (given files work))
+    (asm_is c.args.command.now _ _ c.in-Asm.is c.named-in-Asm.ensures)
+    (c.serve-in-Asm.ensures.frames files told)

@@ -1,0 +1,490 @@
+//! Command lines and what they come to. A case has its words behind `$`, the lines of the file `movie` behind `<` (with `^`
+//! for a carriage return), those of `out` behind `>`, the line of `err` behind `!`, and its status behind `=`.
+
+/// Of `play`, and of words that are no command line.
+pub const PLAYS: &str = r#"$ play count -
+> # play frames=0 state=run
+= 0
+
+$ play count movie
+> # play frames=0 state=run
+= 0
+
+$ play count movie
+< |..|........|
+> # play frames=1 state=run
+> 0010 61
+= 0
+
+$ play count movie
+< |..|........|
+< |..|........|
+> # play frames=2 state=run
+> 0010 EB
+= 0
+
+$ play jam movie
+< |..|........|
+> # play frames=1 state=jam
+= 0
+
+$ play jam movie
+< |..|........|
+< |..|........|
+< |..|........|
+> # play frames=3 state=jam
+= 0
+
+$ 
+! nj: usage
+= 3
+
+$ play count
+! nj: usage
+= 3
+
+$ play count - -
+! nj: usage
+= 3
+
+$ stop count -
+! nj: usage
+= 3
+
+$ play -count -
+! nj: usage
+= 3
+
+$ play short movie
+< |..|R.......|
+! nj: cartridge 8 Short need=16 have=15
+= 4
+
+$ play count movie
+< |..|........|
+< |..|R.......|
+! nj: movie 1 Line line=2
+= 6
+
+$ play none movie
+! nj: read fault
+= 7
+
+$ play count none
+! nj: read fault
+= 7
+
+$ play count movie
+< # x^
+< |..|........|^
+< |..|...R....|
+> # play frames=2 state=run
+> 0010 EB
+= 0
+
+$ replay walk goal start
+! nj: usage
+= 3
+
+$ search walk goal start --steps=0
+! nj: usage
+= 3
+
+$ play walk movie
+< # won step=5 frames=8 reward=105
+< |..|........|
+< |..|........|
+< |..|........|
+< |..|...R....|
+< |..|...R....|
+< |..|...R....|
+< |..|...R....|
+< |..|...R....|
+> # play frames=8 state=run
+> 0010 05
+> 0011 07
+> 01FB A4
+> 01FC 06
+> 01FD 80
+= 0
+"#;
+
+/// Of `replay`.
+pub const REPLAYS: &str = r#"$ replay walk goal start movie
+< |..|........|
+< |..|........|
+< |..|........|
+< |..|...R....|
+< |..|...R....|
+< |..|...R....|
+< |..|...R....|
+< |..|...R....|
+> # won step=5 frames=8 reward=105
+= 0
+
+$ replay walk goal start movie
+< # won
+< |..|........|
+< |..|........|
+< |..|........|
+< |..|...R....|
+< |..|...R....|
+< |..|...R....|
+< |..|...R....|
+> # notwon step=4 frames=7 reward=4
+= 10
+
+$ replay walk goal start movie
+< |..|........|
+< |..|........|
+! nj: movie 3 NotStart frame=2
+= 6
+
+$ replay walk movie start -
+! nj: script 1 NotJson
+= 5
+
+$ replay walk movie start -
+< {"version":3}
+! nj: script 9 Version n=3
+= 5
+
+$ replay walk movie start -
+< {"version":1,"\u00e9":2}
+! nj: script 3 UnknownKey key=??
+= 5
+
+$ replay walk goal start movie
+< # won step=5 frames=8 reward=105
+< |..|........|
+< |..|........|
+< |..|........|
+< |..|...R....|
+< |..|...R....|
+< |..|...R....|
+< |..|...R....|
+< |..|...R....|
+> # won step=5 frames=8 reward=105
+= 0
+"#;
+
+/// Of `check`: each refusal of a cartridge, and of a script.
+pub const CHECKS: &str = r#"$ check walk goal
+> # check prg=1 chr=1 mirror=H properties=2 rules=2 inputs=2 cost=8992
+= 0
+
+$ check disk goal
+> # check prg=1 chr=1 mirror=H properties=2 rules=2 inputs=2 cost=8992
+= 0
+
+$ check pal goal
+! nj: cartridge 7 Timing n=1
+= 4
+
+$ check multi goal
+> # check prg=1 chr=1 mirror=H properties=2 rules=2 inputs=2 cost=8992
+= 0
+
+$ check trainer goal
+! nj: cartridge 2 Trainer
+= 4
+
+$ check cut goal
+! nj: cartridge 8 Short need=24592 have=24591
+= 4
+
+$ check long goal
+> # check prg=1 chr=1 mirror=H properties=2 rules=2 inputs=2 cost=8992
+= 0
+
+$ check walk movie
+! nj: script 1 NotJson
+= 5
+
+$ check goal goal
+! nj: cartridge 1 NotInes
+= 4
+
+$ check four goal
+! nj: cartridge 3 FourScreen
+= 4
+
+$ check mapper goal
+! nj: cartridge 4 Mapper number=1
+= 4
+
+$ check three goal
+! nj: cartridge 5 PrgUnits n=3
+= 4
+
+$ check patterns goal
+! nj: cartridge 6 ChrUnits n=2
+= 4
+
+$ check huge goal
+! nj: cartridge 9 TooLong limit=1048576
+= 4
+
+$ check walk huge
+! nj: script 10 TooLong limit=1048576
+= 5
+
+$ check walk movie
+< {"version":1}
+! nj: script 2 Missing key=properties
+= 5
+
+$ check walk movie
+< {"version":1,"properties":[{"name":"x","kind":"u8","at":2048}]}
+! nj: script 5 OutOfRange key=at value=2048
+= 5
+
+$ check walk movie
+< {"version":1,"properties":7}
+! nj: script 4 WrongKind key=properties
+= 5
+
+$ check walk movie
+< {"version":1,"properties":[],"hash":["y"]}
+! nj: script 6 UnknownName name=y
+= 5
+
+$ check walk movie
+< {"version":1,"properties":[{"name":"x","kind":"u8","at":1},{"name":"x","kind":"u8","at":2}]}
+! nj: script 7 TwiceNamed name=x
+= 5
+"#;
+
+/// Of `search`: each refusal of a plan.
+pub const PLANS: &str = r#"$ search walk goal start --budget 8991
+! nj: plan 1 BudgetTooSmall budget=8991 cost=8992
+= 5
+
+$ search walk goal start --slots 10
+! nj: plan 2 SeenTooSmall need=14926 slots=1024
+= 5
+
+$ search walk goal start --steps 9000
+! nj: plan 3 TrailTooLong rows=67167000 limit=67108864
+= 5
+
+$ search walk goal start --budget 8992 --steps 1048574
+! nj: plan 4 MovieTooLong frames=1048577 limit=1048576
+= 5
+
+$ search walk none start
+! nj: read fault
+= 7
+"#;
+
+/// Of `asm`: the refusals of a source.
+pub const SOURCES: &str = r#"$ asm movie
+= 0
+
+$ asm movie
+< .org $8000
+< SEI
+< LDA #$80
+< STA $2000
+< loop: JMP loop
+> 8000 78       SEI
+> 8001 A9 80    LDA #$80
+> 8003 8D 00 20 STA $2000
+> 8006 4C 06 80 JMP $8006
+= 0
+
+$ asm movie
+< .org $8000
+< FOO
+! nj: asm 2 UnknownOp line=2
+= 12
+
+$ asm movie
+< BNE $9000
+! nj: asm 4 Range line=1
+= 12
+
+$ asm movie
+< x:
+< x:
+! nj: asm 6 TwiceLabel line=2
+= 12
+
+$ asm none
+! nj: read fault
+= 7
+
+$ asm movie
+< LDA $
+! nj: asm 1 Syntax line=1
+= 12
+
+$ asm movie
+< STX $10,X
+! nj: asm 3 NoMode line=1
+= 12
+
+$ asm movie
+< JMP nowhere
+! nj: asm 5 UnknownLabel line=1
+= 12
+
+$ asm huge
+! nj: asm 8 TooLong limit=1048576
+= 12
+"#;
+
+/// A search that is won, with the least budget too.
+pub const WINS: &str = r#"$ search walk goal start --steps 5
+> # won step=5 frames=8 reward=105
+> |..|........|
+> |..|........|
+> |..|........|
+> |..|...R....|
+> |..|...R....|
+> |..|...R....|
+> |..|...R....|
+> |..|...R....|
+= 0
+
+$ search walk goal start --budget 8992
+> # won step=5 frames=8 reward=105
+> |..|........|
+> |..|........|
+> |..|........|
+> |..|...R....|
+> |..|...R....|
+> |..|...R....|
+> |..|...R....|
+> |..|...R....|
+= 0
+"#;
+
+/// Other whole searches.
+pub const SEARCHES: &str = r#"$ search walk goal -
+> # exhausted step=1
+= 1
+
+$ search walk movie start --budget 8992 --steps 1
+< {"version":1,
+< "properties":[{"name":"x","at":16,"kind":"u8"},{"name":"t","at":17,"kind":"u8"}],
+< "hash":["x","t"],
+< "inputs":[{"pads":["...R....","........"]}],
+< "rules":[]}
+> # limit step=1 frames=4 reward=0
+> |..|........|
+> |..|........|
+> |..|........|
+> |..|...R....|
+= 2
+
+$ search walk movie start --budget 8992 --steps 1
+< {"version":1,
+< "properties":[{"name":"x","at":16,"kind":"u8"},{"name":"t","at":17,"kind":"u8"}],
+< "hash":["x","t"],
+< "inputs":[{"pads":["........","...R...."]}],
+< "rules":[]}
+> # limit step=1 frames=4 reward=0
+> |..|........|
+> |..|........|
+> |..|........|
+> |..|........|
+= 2
+
+$ search walk movie start
+< {"version":1,
+< "properties":[{"name":"x","at":16,"kind":"u8"},{"name":"t","at":17,"kind":"u8"}],
+< "hash":["x"],
+< "inputs":[{"pads":["........","...R...."]}],
+< "rules":[{"name":"go","weights":[{"property":"x","weight":1}]},
+< {"name":"goal","when":[{"property":"x","op":"==","value":0}],"win":true,"reward":100}]}
+> # won step=0 frames=3 reward=100
+> |..|........|
+> |..|........|
+> |..|........|
+= 0
+
+$ search walk movie start
+< {"version":1,
+< "properties":[{"name":"x","at":16,"kind":"u8"},{"name":"t","at":17,"kind":"u8"}],
+< "hash":["x"],
+< "inputs":[{"pads":["........","...R...."]}],
+< "rules":[{"name":"go","weights":[{"property":"x","weight":1}]},
+< {"name":"goal","when":[{"property":"x","op":"==","value":0}],"win":true,"reward":100},
+< {"name":"lost","when":[{"property":"x","op":"==","value":0}],"fail":true}]}
+> # exhausted step=0
+= 1
+
+$ search walk movie start --steps 2 --budget 35968
+< {"version":1,
+< "properties":[{"name":"x","at":16,"kind":"u8"},{"name":"t","at":17,"kind":"u8"}],
+< "hash":["x","t"],"tolerance":0,
+< "inputs":[{"pads":["........","...R...."]}],
+< "rules":[{"name":"go","weights":[{"property":"x","weight":1}]},
+< {"name":"moved","when":[{"property":"x","op":">=","value":1}],"checkpoint":true},
+< {"name":"goal","when":[{"property":"x","op":"==","value":0},{"property":"t","op":"==","value":4}],
+< "win":true,"reward":100}]}
+> # limit step=2 frames=5 reward=2
+> |..|........|
+> |..|........|
+> |..|........|
+> |..|...R....|
+> |..|...R....|
+= 2
+
+$ search walk movie start --steps 2 --budget 35968
+< {"version":1,
+< "properties":[{"name":"x","at":16,"kind":"u8"},{"name":"t","at":17,"kind":"u8"}],
+< "hash":["x","t"],"tolerance":2,
+< "inputs":[{"pads":["........","...R...."]}],
+< "rules":[{"name":"go","weights":[{"property":"x","weight":1}]},
+< {"name":"moved","when":[{"property":"x","op":">=","value":1}],"checkpoint":true},
+< {"name":"goal","when":[{"property":"x","op":"==","value":0},{"property":"t","op":"==","value":4}],
+< "win":true,"reward":100}]}
+> # won step=2 frames=5 reward=100
+> |..|........|
+> |..|........|
+> |..|........|
+> |..|........|
+> |..|........|
+= 0
+
+$ search walk movie start --steps 4 --budget 35968
+< {"version":1,
+< "properties":[{"name":"x","at":16,"kind":"u8"},{"name":"t","at":17,"kind":"u8"}],
+< "hash":["x","t"],"tolerance":2,
+< "inputs":[{"pads":["........","...R...."]}],
+< "rules":[{"name":"go","weights":[{"property":"x","weight":1}]},
+< {"name":"moved","when":[{"property":"x","op":">=","value":1}],"checkpoint":true},
+< {"name":"goal","when":[{"property":"x","op":"==","value":0},{"property":"t","op":"==","value":6}],
+< "win":true,"reward":100}]}
+> # limit step=4 frames=7 reward=4
+> |..|........|
+> |..|........|
+> |..|........|
+> |..|...R....|
+> |..|...R....|
+> |..|...R....|
+> |..|...R....|
+= 2
+
+$ search button movie -
+< {"version":1,
+< "properties":[{"name":"x","at":16,"kind":"u8"},{"name":"t","at":17,"kind":"u8"}],
+< "hash":["x"],
+< "inputs":[{"pads":["........",".......A"]}],
+< "rules":[{"name":"go","weights":[{"property":"x","weight":1}]},
+< {"name":"goal","when":[{"property":"x","op":"==","value":1}],"win":true,"reward":100}]}
+> # won step=1 frames=1 reward=101
+> |..|.......A|
+= 0
+
+$ search large movie -
+< {"version":1,
+< "properties":[{"name":"x","at":16,"kind":"u8"}],
+< "hash":["x"],
+< "inputs":[{"pads":["........","U.......",".D......","..L.....","...R....","......B.",".......A","U..R...."]}],
+< "rules":[{"name":"goal","when":[{"property":"x","op":"==","value":0}],"win":true}]}
+> # won step=0 frames=0 reward=0
+= 0
+"#;

@@ -1,5 +1,0 @@
--- The ledger of each call is the one that its blank names.
-use Rattle.nj_machine.proofs.tests.kept_at_10.Given as goal
-
-abbrev pub ghosts-played : goal.ghosts-played
-ghosts-played g a = record { name = a.blank.name; parts = a.blank.parts }

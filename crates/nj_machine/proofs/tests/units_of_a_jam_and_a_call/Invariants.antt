@@ -1,5 +1,0 @@
--- The ledger of each call is the one that its blank names.
-use Rattle.nj_machine.proofs.tests.units_of_a_jam_and_a_call.Given as goal
-
-abbrev pub ghosts-frame_seen : goal.ghosts-frame_seen
-ghosts-frame_seen g a = record { name = a.blank.name; parts = a.blank.parts }

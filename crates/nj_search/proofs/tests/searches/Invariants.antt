@@ -1,5 +1,0 @@
--- The ledger of each call is the one that its blank names.
-use Rattle.nj_search.proofs.tests.searches.Given as goal
-
-abbrev pub ghosts-found : goal.ghosts-found
-ghosts-found g a = record { name = a.blank.name; parts = a.blank.parts }

@@ -1,0 +1,4 @@
+pub mod Past
+pub mod Alike
+pub mod Turning
+pub mod Found

@@ -1,0 +1,6 @@
+pub mod Claimed
+pub mod Shares
+pub mod Hands
+pub mod Desks
+pub mod Room
+pub mod Counted

@@ -1,0 +1,83 @@
+//! The whole of a step by several workers.
+
+ghost use Rattle.std.specs.Prelude.{◌≡◌, ◌≤◌, ◌<◌, ◌+◌, ◌*◌, false, true, length, IfOk, OnErr};
+ghost use Rattle.nj_expand.specs.Held.{candidates_in, kept_in};
+ghost use Rattle.nj_expand.specs.Step.{IsStep};
+ghost use Rattle.nj_expand.specs.Closed.{AreRowsOf, IsClosedFor};
+ghost use Rattle.nj_workers.specs.Room.{IsOpenFor};
+ghost use Rattle.nj_workers.specs.Counted.{AreCounted};
+
+use crate::step::shared;
+use nj_expand::{Row, Search, Stepped};
+use nj_outside::Gate;
+use nj_seen::{room, seen_keys_stand};
+use nj_steps::Steps;
+use std::alloc::{AllocError, Global};
+use std::sync::Wait;
+use std::sync::ledger::Ledger;
+use std::thread::Threads;
+
+/// Makes the next step by so many workers, from 1 to 64: they run the candidates of the front's pieces, each in a
+/// thread where one can be made, and claim their keys in one table; the step ends as one thread would end it. Each
+/// worker counts frames by the counter at its place, and the first one those of the end as well. After want of memory
+/// the search is spent.
+pub fn next_shared<R: Threads + Wait + Sync, G: Gate, L: Ledger + Send>(
+    rt: &R,
+    search: &mut Search,
+    alloc: Global,
+    workers: u32,
+    gate: &G,
+    steps: &mut Vec<Steps<L>>,
+) -> Result<Stepped, AllocError>
+    requires spent { search.old.spent ≡ false }
+    requires step { search.old.state.step < 16777215 }
+    requires workers { (1 ≤ workers) × (workers ≤ 64) }
+    requires counters { workers ≤ length steps.old.items }
+    ensures next { IfOk result (λ stepped. IsStep search.old stepped search.new) }
+    ensures spent { OnErr result (search.new.spent ≡ true) }
+    ensures plan { search.new.plan ≡ search.old.plan }
+    ensures bounds { search.new.bounds ≡ search.old.bounds }
+    ensures frames { AreCounted workers steps.old.items steps.new.items (search.old.plan.script.hold * (length (candidates_in search.old) + length (kept_in search.old))) }
+{
+    match made(rt, search, alloc, workers, gate, steps) {
+        Ok((rows, words)) => search.finish(alloc, rows, words, &mut steps[0]),
+        Err(error) => {
+            search.spend();
+            Err(error)
+        }
+    }
+}
+
+// The rows and the closed table of the next step.
+fn made<R: Threads + Wait + Sync, G: Gate, L: Ledger + Send>(
+    rt: &R,
+    search: &Search,
+    alloc: Global,
+    workers: u32,
+    gate: &G,
+    steps: &mut Vec<Steps<L>>,
+) -> Result<(Vec<Row>, Vec<u64>), AllocError>
+    requires spent { search.now.spent ≡ false }
+    requires step { search.now.state.step < 16777215 }
+    requires some { 1 ≤ workers }
+    requires few { workers ≤ 64 }
+    requires counters { workers ≤ length steps.old.items }
+    ensures rows { IfOk result (λ pair. AreRowsOf search.now pair.0.items) }
+    ensures words { IfOk result (λ pair. IsClosedFor search.now pair.1.items) }
+    ensures frames { AreCounted workers steps.old.items steps.new.items (search.now.plan.script.hold * length (candidates_in search.now)) }
+{
+    let words = opening(search, alloc)?;
+    shared(rt, alloc, search, words, workers, gate, steps)
+}
+
+// The search's table with room for the next step.
+fn opening(search: &Search, alloc: Global) -> Result<Vec<u64>, AllocError>
+    requires step { search.now.state.step < 16777215 }
+    ensures { IfOk result (λ words. IsOpenFor search.now words.items) }
+{
+    seen_keys_stand();
+    let inputs = search.bounds().inputs;
+    let front = search.front_len() as u64;
+    let words = room(alloc, search.words(), front, inputs)?;
+    Ok(words)
+}
