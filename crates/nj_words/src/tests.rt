@@ -108,7 +108,46 @@ fn names_of_the_others(rt: HostRuntime) -> Result<(), Fail> {
     Ok(())
 }
 
-static UNREADABLE: [&str; 27] = [
+#[test]
+fn names_of_those_that_look_into_movies(rt: HostRuntime) -> Result<(), Fail> {
+    match read_line(rt.alloc(), "clean W S - M")? {
+        Command::Clean {
+            cart,
+            script,
+            start,
+            movie,
+        } => {
+            assert_eq!(rt; cart.as_str(), "W");
+            assert_eq!(rt; script.as_str(), "S");
+            assert_eq!(rt; start.as_str(), "-");
+            assert_eq!(rt; movie.as_str(), "M");
+        }
+        _other => assert!(rt; false, "another command"),
+    }
+    match read_line(rt.alloc(), "trace W M --frame 1048576")? {
+        Command::Trace { cart, movie, frame } => {
+            assert_eq!(rt; cart.as_str(), "W");
+            assert_eq!(rt; movie.as_str(), "M");
+            assert_eq!(rt; frame, 1_048_576);
+        }
+        _other => assert!(rt; false, "another command"),
+    }
+    match read_line(rt.alloc(), "watch W S M")? {
+        Command::Watch {
+            cart,
+            script,
+            movie,
+        } => {
+            assert_eq!(rt; cart.as_str(), "W");
+            assert_eq!(rt; script.as_str(), "S");
+            assert_eq!(rt; movie.as_str(), "M");
+        }
+        _other => assert!(rt; false, "another command"),
+    }
+    Ok(())
+}
+
+static UNREADABLE: [&str; 33] = [
     "",
     "-- play L M",
     "Play L M",
@@ -136,6 +175,12 @@ static UNREADABLE: [&str; 27] = [
     "workload +1",
     "workload 18446744073709551616",
     "asm A B",
+    "clean W S M",
+    "clean W S - M --frame 1",
+    "trace W",
+    "trace W M --frame 0",
+    "trace W M --frame 1048577",
+    "watch W S M --frame 1",
 ];
 
 #[test]
