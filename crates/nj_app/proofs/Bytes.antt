@@ -35,7 +35,7 @@ offered_bytes (set ∷ sets) ram all =
     let stopped = either_bytes set.stop [] (offered_pads sets ram) (All-nil (λ pad. pad < 256)) rest in
     either_bytes _ (set.pads ++ cond set.stop [] (offered_pads sets ram)) (offered_pads sets ram)
     (All-append (λ pad. pad < 256) set.pads (cond set.stop [] (offered_pads sets ram))
-        (All-head (λ (s : InputSet). AreBytes s.pads) set sets all) stopped)
+    (All-head (λ (s : InputSet). AreBytes s.pads) set sets all) stopped)
     rest
 
 distinct_bytes : (xs : List ℕ) → AreBytes xs → AreBytes (distinct xs)
@@ -49,7 +49,7 @@ allowed_bytes : (plan : Plan) (word : Word) → SetsAreBytes plan.script.inputs.
 unfolding game_of allowed_of allowed_pads
 allowed_bytes plan word all =
     distinct_bytes (offered_pads plan.script.inputs.sets (ram_after plan word))
-        (offered_bytes plan.script.inputs.sets (ram_after plan word) all)
+    (offered_bytes plan.script.inputs.sets (ram_after plan word) all)
 
 -- ---- the words of a search
 
@@ -63,7 +63,7 @@ extended_bytes number word [] whole all = All-nil IsOfBytes
 extended_bytes number word (pad ∷ pads) whole all =
     All-cons IsOfBytes (record { number = number; parent = word; pad = pad }) (extensions (number + 1) word pads)
     (All-append (λ p. p < 256) word (pad ∷ []) whole
-        (All-cons (λ p. p < 256) pad [] (All-head (λ p. p < 256) pad pads all) (All-nil (λ p. p < 256))))
+    (All-cons (λ p. p < 256) pad [] (All-head (λ p. p < 256) pad pads all) (All-nil (λ p. p < 256))))
     (extended_bytes (number + 1) word pads whole (All-tail (λ p. p < 256) pad pads all))
 
 exhausted_or-Won : (ks : List Candidate) (f : List Candidate → State) (c : Candidate) → exhausted_or ks f ≡ Won c → ⊥
@@ -111,9 +111,9 @@ module _ (parents : ParentsStoodBefore) (best : WinnerIsBest) (game : Game) (all
   child_bytes front all word child =
       subst AreBytes (sym child.is)
       (All-append (λ p. p < 256) child.parent (child.pad ∷ [])
-          (All-contains AreBytes front child.parent all child.stood)
+      (All-contains AreBytes front child.parent all child.stood)
       (All-cons (λ p. p < 256) child.pad [] (All-contains (λ p. p < 256) (game.allowed child.parent) child.pad
-          (allowed child.parent) child.is_allowed)
+      (allowed child.parent) child.is_allowed)
       (All-nil (λ p. p < 256))))
 
   leads_bytes : (bounds : Bounds) (state : State) (n : Next) → All AreBytes state.front → next game bounds state ≡ n →
@@ -121,11 +121,11 @@ module _ (parents : ParentsStoodBefore) (best : WinnerIsBest) (game : Game) (all
   unfolding LeadsToBytes
   leads_bytes bounds state (Won c) all h =
       All-contains IsOfBytes (lives_of game state) c (lives_bytes state all)
-          (best game (lives_of game state) c (winner_of game bounds state c h)).is_live
+      (best game (lives_of game state) c (winner_of game bounds state c h)).is_live
   leads_bytes bounds state Exhausted all h = tt
   leads_bytes bounds state (Goes new) all h =
       All-weaker (IsChild game state.front) AreBytes (child_bytes state.front all) new.front
-          (parents game bounds state new h)
+      (parents game bounds state new h)
 
   ends_by : (n : Next) (step : ℕ) (f : State → Outcome) → LeadsToBytes n →
       ((s : State) → All AreBytes s.front → EndsInBytes (f s)) →
@@ -141,7 +141,7 @@ module _ (parents : ParentsStoodBefore) (best : WinnerIsBest) (game : Game) (all
   searched_bytes bounds zero state all = tt
   searched_bytes bounds (suc left) state all =
       ends_by (next game bounds state) (state.step + 1) (searched game bounds left)
-          (leads_bytes bounds state (next game bounds state) all refl)
+      (leads_bytes bounds state (next game bounds state) all refl)
       (λ s front. searched_bytes bounds left s front)
 
   first_bytes : (v : Verdict) (o : Outcome) → EndsInBytes o → EndsInBytes (judged_first v o)
@@ -156,13 +156,13 @@ module _ (parents : ParentsStoodBefore) (best : WinnerIsBest) (game : Game) (all
   won_bytes bounds limit step word h =
       subst EndsInBytes h (first_bytes (game.judged []).verdict (searched game bounds limit (opening game))
       (searched_bytes bounds limit (opening game)
-          (All-cons AreBytes [] [] (All-nil (λ p. p < 256)) (All-nil AreBytes))))
+      (All-cons AreBytes [] [] (All-nil (λ p. p < 256)) (All-nil AreBytes))))
 
 held_bytes : (hold : ℕ) (word : Word) → AreBytes word → AreBytes (held_pads hold word)
 held_bytes hold [] all = All-nil (λ p. p < 256)
 held_bytes hold (pad ∷ word) all =
     All-append (λ p. p < 256) (replicate hold pad) (held_pads hold word)
-        (All-replicate (λ p. p < 256) hold pad (All-head (λ p. p < 256) pad word all))
+    (All-replicate (λ p. p < 256) hold pad (All-head (λ p. p < 256) pad word all))
     (held_bytes hold word (All-tail (λ p. p < 256) pad word all))
 
 -- the movie of a word that wins a planned search is of bytes
@@ -174,4 +174,4 @@ won_movie_bytes parents best planned step word won start sets =
     All-append (λ p. p < 256) planned.plan.start (held_pads planned.plan.script.hold word) start
     (held_bytes planned.plan.script.hold word
     (won_bytes parents best (game_of planned.plan) (λ w. allowed_bytes planned.plan w sets) (bounds_in planned)
-        planned.limits.steps step word won))
+    planned.limits.steps step word won))

@@ -25,7 +25,7 @@ digits_plain zero n acc plain = plain
 digits_plain (suc k) n acc plain =
     let next = plain_more (digit_glyph false (n % 10)) acc (glyph_other (n % 10)) plain in
     plain_either (n / 10 == 0) (digit_glyph false (n % 10) ∷ acc)
-        (digits_onto k 10 false (n / 10) (digit_glyph false (n % 10) ∷ acc)) next
+    (digits_onto k 10 false (n / 10) (digit_glyph false (n % 10) ∷ acc)) next
     (digits_plain k (n / 10) (digit_glyph false (n % 10) ∷ acc) next)
 
 short_either : (b : Bool) (one more : List ℕ) (k : ℕ) → length one ≤ k → length more ≤ k → length (cond b one more) ≤ k
@@ -37,7 +37,7 @@ digits_short zero n acc = omega arith
 digits_short (suc k) n acc =
     let rest = digits_short k (n / 10) (digit_glyph false (n % 10) ∷ acc) in
     short_either (n / 10 == 0) (digit_glyph false (n % 10) ∷ acc)
-        (digits_onto k 10 false (n / 10) (digit_glyph false (n % 10) ∷ acc)) (suc k + length acc)
+    (digits_onto k 10 false (n / 10) (digit_glyph false (n % 10) ∷ acc)) (suc k + length acc)
     (omega arith) (omega (arith, rest))
 
 pub decimal_plain : (n : ℕ) → IsPlain (decimal n)

@@ -27,11 +27,11 @@ module _ {A : Type 0} (files : Files) (format : FileFormat A) (failed : ℕ) whe
       Reads format.bounds.kind (format.says bytes) result → Loads files (made format bytes) failed result
   made_loads bytes result within reads =
       reads_load files format.bounds.kind (reading_of format bytes) failed result
-          (rw (reading_within bytes within) reads)
+      (rw (reading_within bytes within) reads)
 
   pub made_past : (bytes : List ℕ) (stop : Stop) → format.bounds.limit < length bytes →
       IsRefusal format.bounds.kind (too_long format.bounds.too_long format.bounds.limit) stop →
-          Loads files (made format bytes) failed (Err stop)
+      Loads files (made format bytes) failed (Err stop)
   made_past bytes stop past refusal =
       reads_load files format.bounds.kind (reading_of format bytes) failed (Err stop)
       (refused_reads format.bounds.kind (reading_of format bytes) _ stop (reading_past bytes past) refusal)

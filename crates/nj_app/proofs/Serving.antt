@@ -53,7 +53,7 @@ module _ {A B : Type 0} (files : Files) (first : (A → Work) → Work) (second 
   -- a stop of the second
   pub both_stops : (before failed : ℕ) (a : A) (stop : Stop) (result : Result (A × B) Stop) → result ≡ Err stop →
       Loads files first before (Ok a) → Loads files second failed (Err stop) →
-          Loads files (both first second) failed result
+      Loads files (both first second) failed result
   unfolding Loads
   both_stops before failed a stop result e h k =
       rw e (λ next. ends_then files _ _ failed stop (h (λ a. second (λ b. next (a, b)))) (k (λ b. next (a, b))))
@@ -120,8 +120,10 @@ pub serves_reply : (files : Files) (failed status frames : ℕ) (text : List ℕ
     reply.text ≡ text →
     Serves files (Done (done status text frames)) failed (Ok reply)
 unfolding Serves Replies
-serves_reply files failed status frames text reply is_status is_text = (frames,
-    λ i. Some (done (sym is_status i) (sym is_text i) frames))
+serves_reply files failed status frames text reply is_status is_text = (
+  frames,
+  λ i. Some (done (sym is_status i) (sym is_text i) frames),
+)
 
 -- want of memory ends any work
 pub serves_no_memory : (files : Files) (work : Work) (failed : ℕ) (result : Result Reply Stop) (stop : Stop) →
@@ -147,14 +149,14 @@ module _ {A : Type 0} (files : Files) (kind : Kind) (reading : Result A (List �
         Serves files (accepted kind rest reading) failed result
     reading_stops failed stop result e reads =
         serves_unloaded files (λ next. accepted kind next reading) rest failed stop result e
-            (reads_load failed (Err stop) reads)
+        (reads_load failed (Err stop) reads)
 
     -- what was read is served as the rest is
     pub reading_serves : (failed : ℕ) (value : A) (result : Result Reply Stop) → Reads kind reading (Ok value) →
         Serves files (rest value) failed result → Serves files (accepted kind rest reading) failed result
     reading_serves failed value result reads h =
         serves_loaded files (λ next. accepted kind next reading) rest failed failed value result
-            (reads_load failed (Ok value) reads) h
+        (reads_load failed (Ok value) reads) h
 
     -- the frames of a reading whose answers have so many
     pub reading_frames : (frames new old : ℕ) → ((value : A) → frames_of (given files (rest value)) ≡ frames) →

@@ -33,7 +33,7 @@ module _ (files : Files) (work : Work) (failed : ℕ) where
   pub reply_cut_short : (reply : Reply) (old new : Option (List ℕ)) (bytes : List ℕ) (count : ℕ) →
       Serves files work failed (Ok reply) →
       bytes ≡ reply.text → count ≤ length bytes → new ≡ appended old (take count bytes) →
-          IsCutShort (given files work) old new
+      IsCutShort (given files work) old new
   unfolding Serves Replies
   reply_cut_short reply old new bytes count serves is_text within written = record {
     whole = done reply.status reply.text serves.0;

@@ -102,8 +102,8 @@ other_workers : (cart script start : Word) (budget steps exponent workers others
 unfolding work_of search_work
 other_workers cart script start (Some b) (Some s) (Some e) (Some w) (Some o) c d p q =
     ap work_of (some_is c _ (sym p)) ∙ refl ∙ ap work_of (sym (some_is d _ (sym q))) where
-  some_is : (x y : Command) → Some x ≡ Some y → x ≡ y
-  some_is x y h = cc
+      some_is : (x y : Command) → Some x ≡ Some y → x ≡ y
+      some_is x y h = cc
 other_workers cart script start None steps exponent workers others c d p q = cc
 other_workers cart script start (Some b) None exponent workers others c d p q = cc
 other_workers cart script start (Some b) (Some s) None workers others c d p q = cc
@@ -123,6 +123,7 @@ module _ (said others : List Piece) (same : beside_workers said ≡ beside_worke
   plain_row row none = one_command _ _ (ap row.made (taken_same (same_names said others same))) where
     no_values : (p : List Piece) → map (value_in p) row.form.options ≡ []
     no_values p = rw none refl
+
     taken_same : names_in said ≡ names_in others → taken_as row.form said ≡ taken_as row.form others
     taken_same e = λ i. record { names = e i; values = (no_values said ∙ sym (no_values others)) i }
 
@@ -136,14 +137,14 @@ module _ (said others : List Piece) (same : beside_workers said ≡ beside_worke
       let slots = same_value (codes "slots") refl said others same in
       subst (λ second. AreOneWork (search_of (taken_as search_form said)) second)
       (λ i. searching (name_at (with_names (names i)) 0) (name_at (with_names (names i)) 1) (name_at (with_names (names i)) 2)
-          (numbers (number_or 1 2147483648 67108864 (budget i)) (number_or 1 16777215 1000 (steps i))
-              (number_or 10 25 20 (slots i)) (number_or 1 64 1 (value_in others (codes "workers")))))
+      (numbers (number_or 1 2147483648 67108864 (budget i)) (number_or 1 16777215 1000 (steps i))
+      (number_or 10 25 20 (slots i)) (number_or 1 64 1 (value_in others (codes "workers")))))
       (other_workers (name_at (taken_as search_form said) 0) (name_at (taken_as search_form said) 1)
-          (name_at (taken_as search_form said) 2) (number_or 1 2147483648 67108864 (value_in said (codes "budget")))
-          (number_or 1 16777215 1000 (value_in said (codes "steps"))) (number_or 10 25 20 (value_in said (codes "slots")))
-          (number_or 1 64 1 (value_in said (codes "workers"))) (number_or 1 64 1 (value_in others (codes "workers")))) where
-    with_names : List Word → Taken
-    with_names words = record { names = words; values = [] }
+      (name_at (taken_as search_form said) 2) (number_or 1 2147483648 67108864 (value_in said (codes "budget")))
+      (number_or 1 16777215 1000 (value_in said (codes "steps"))) (number_or 10 25 20 (value_in said (codes "slots")))
+      (number_or 1 64 1 (value_in said (codes "workers"))) (number_or 1 64 1 (value_in others (codes "workers")))) where
+        with_names : List Word → Taken
+        with_names words = record { names = words; values = [] }
 
   -- a trace takes the same names and the same frame
   tracing_row : IsOneWork trace_row
@@ -178,20 +179,22 @@ unfolding reading command_of taken
 one_work law words others h =
     go (find (λ row. bytes_eq h.command row.word) table)
     (found_row (IsOneWork h.said h.other_said h.same) (λ row. bytes_eq h.command row.word) table
-        (each_row h.said h.other_said h.same))
+    (each_row h.said h.other_said h.same))
     (ap reading (sym h.is) ∙ h.reads) (ap reading (sym h.other_is) ∙ h.other_reads) where
-  first_said : pieces None h.rest ≡ Some h.said
-  first_said = (law h.rest h.said).1 h.says
-  other_said : pieces None h.other_rest ≡ Some h.other_said
-  other_said = (law h.other_rest h.other_said).1 h.other_says
-  go : (row : Option Row) → IfSome row (IsOneWork h.said h.other_said h.same) →
-      option_and_then (λ r. command_of r h.rest) row ≡ Some h.read →
-      option_and_then (λ r. command_of r h.other_rest) row ≡ Some h.other_read → work_of h.read ≡ work_of h.other_read
-  go None same p q = cc
-  go (Some row) same p q =
-      made_from row h.said h.other_said same h.read h.other_read
-      (ap (λ said. option_and_then row.made (option_and_then (taken_from row.form) said)) (sym first_said) ∙ p)
-      (ap (λ said. option_and_then row.made (option_and_then (taken_from row.form) said)) (sym other_said) ∙ q)
+      first_said : pieces None h.rest ≡ Some h.said
+      first_said = (law h.rest h.said).1 h.says
+
+      other_said : pieces None h.other_rest ≡ Some h.other_said
+      other_said = (law h.other_rest h.other_said).1 h.other_says
+
+      go : (row : Option Row) → IfSome row (IsOneWork h.said h.other_said h.same) →
+          option_and_then (λ r. command_of r h.rest) row ≡ Some h.read →
+          option_and_then (λ r. command_of r h.other_rest) row ≡ Some h.other_read → work_of h.read ≡ work_of h.other_read
+      go None same p q = cc
+      go (Some row) same p q =
+          made_from row h.said h.other_said same h.read h.other_read
+          (ap (λ said. option_and_then row.made (option_and_then (taken_from row.form) said)) (sym first_said) ∙ p)
+          (ap (λ said. option_and_then row.made (option_and_then (taken_from row.form) said)) (sym other_said) ∙ q)
 
 -- the answer is that of the work
 pub one_answer : PiecesAreSaid → (words others : List Word) (files : Files) → AreOneBesideWorkers words others →

@@ -58,7 +58,7 @@ module _ (command : Command) where
   pub replay_is : (cart script start movie a b d e : List ℕ) → command ≡ Replay cart script start movie →
       a ≡ cart → b ≡ script → d ≡ start → e ≡ movie →
       both (both (loaded cart_format a) (loaded script_format b)) (both (loaded movie_format d) (loaded movie_format e))
-          (λ said. judged_work said.0.0 said.0.1 said.1.0 said.1.1)
+      (λ said. judged_work said.0.0 said.0.1 said.1.0 said.1.1)
       ≡ work_of command
   unfolding work_of replay_work
   replay_is cart script start movie a b d e is p q r t =

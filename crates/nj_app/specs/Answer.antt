@@ -47,7 +47,7 @@ abbrev pub file_names : Command → List (List ℕ)
 file_names (Play cart movie) = names_of cart_format cart ++ names_of movie_format movie
 file_names (Replay cart script start movie) =
     (names_of cart_format cart ++ names_of script_format script) ++
-        (names_of movie_format start ++ names_of movie_format movie)
+    (names_of movie_format start ++ names_of movie_format movie)
 file_names (Search cart script start options) =
     (names_of cart_format cart ++ names_of script_format script) ++ names_of movie_format start
 file_names (Check cart script) = names_of cart_format cart ++ names_of script_format script

@@ -33,15 +33,15 @@ mirror_letter vertical = if vertical then codes "V" else codes "H"
 unfoldable pub cart_counts : Counts → List ℕ
 cart_counts counts =
     codes "# check prg=" ++
-        (decimal counts.prg ++
-        (codes " chr=" ++ (decimal counts.chr ++ (codes " mirror=" ++ mirror_letter counts.vertical))))
+    (decimal counts.prg ++
+    (codes " chr=" ++ (decimal counts.chr ++ (codes " mirror=" ++ mirror_letter counts.vertical))))
 
 -- the counts of the script, and the cost of a state
 unfoldable pub script_counts : Counts → List ℕ
 script_counts counts =
     codes " properties=" ++
-        (decimal counts.properties ++
-        (codes " rules=" ++ (decimal counts.rules ++ (codes " inputs=" ++ (decimal counts.inputs
+    (decimal counts.properties ++
+    (codes " rules=" ++ (decimal counts.rules ++ (codes " inputs=" ++ (decimal counts.inputs
     ++ (codes " cost=" ++ (decimal counts.cost ++ 10 ∷ [])))))))
 
 -- the line of these counts

@@ -24,7 +24,7 @@ pub record FileFormat (A : Type 0) : Type 0 where
 abbrev pub reading_of : {A : Type 0} → FileFormat A → List ℕ → Result A (List ℕ)
 reading_of format bytes =
     if nat_lt format.bounds.limit (length bytes) then Err (too_long format.bounds.too_long format.bounds.limit) else
-        format.says bytes
+    format.says bytes
 
 -- these bytes are read
 abbrev pub made : {A : Type 0} → FileFormat A → List ℕ → (A → Work) → Work
@@ -40,13 +40,19 @@ names_of format name = option_map_or (λ _. []) (format.without name) (name ∷ 
 
 -- a cartridge
 unfoldable pub cart_format : FileFormat Cartridge
-cart_format = record { bounds = CART; says = λ bytes. refusal_told cart_refusal (cartridge_of bytes);
-    without = λ _. None }
+cart_format = record {
+  bounds = CART;
+  says = λ bytes. refusal_told cart_refusal (cartridge_of bytes);
+  without = λ _. None;
+}
 
 -- a script
 unfoldable pub script_format : FileFormat Record
-script_format = record { bounds = SCRIPT; says = λ bytes. refusal_told script_refusal (script_of bytes);
-    without = λ _. None }
+script_format = record {
+  bounds = SCRIPT;
+  says = λ bytes. refusal_told script_refusal (script_of bytes);
+  without = λ _. None;
+}
 
 -- a movie; `-` is the empty movie and no file
 unfoldable pub movie_format : FileFormat (List ℕ)
@@ -58,5 +64,8 @@ movie_format = record {
 
 -- a source, assembled
 unfoldable pub source_format : FileFormat Assembled
-source_format = record { bounds = SOURCE; says = λ bytes. refusal_told asm_refusal (assembly_of bytes);
-    without = λ _. None }
+source_format = record {
+  bounds = SOURCE;
+  says = λ bytes. refusal_told asm_refusal (assembly_of bytes);
+  without = λ _. None;
+}

@@ -43,4 +43,4 @@ abbrev pub WonTextReplays : Type 0
 WonTextReplays = (planned : Planned) (step : ℕ) (word : Word) (script start : List ℕ)
     → script_of script ≡ Ok planned.plan.script → movie_of start ≡ Ok planned.plan.start
     → refusal_of planned.plan planned.limits ≡ None → outcome_of planned ≡ WonAt step word →
-        ReplaysToItsLine planned step word
+    ReplaysToItsLine planned step word

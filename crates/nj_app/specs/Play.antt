@@ -28,7 +28,7 @@ ram_lines at ram = flat_map ram_line (enumerate_from at ram)
 unfoldable pub play_line : ℕ → Bool → List ℕ
 play_line frames jammed =
     codes "# play frames=" ++
-        (decimal frames ++ (codes " state=" ++ ((if jammed then codes "jam" else codes "run") ++ 10 ∷ [])))
+    (decimal frames ++ (codes " state=" ++ ((if jammed then codes "jam" else codes "run") ++ 10 ∷ [])))
 
 -- the text of a state after so many frames
 unfoldable pub play_text : ℕ → State → List ℕ

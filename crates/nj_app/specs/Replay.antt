@@ -48,5 +48,5 @@ judged_work cart script start movie = accepted kinds.Movie (replay_done (length 
 unfoldable pub replay_work : List ℕ → List ℕ → List ℕ → List ℕ → Work
 replay_work cart script start movie =
     both (both (loaded cart_format cart) (loaded script_format script))
-        (both (loaded movie_format start) (loaded movie_format movie))
+    (both (loaded movie_format start) (loaded movie_format movie))
     (λ said. judged_work said.0.0 said.0.1 said.1.0 said.1.1)

@@ -32,7 +32,7 @@ abbrev pub Reads : {A : Type 0} → Kind → Result A (List ℕ) → Result A St
 Reads kind reading result =
     MatchResult result (λ value. reading ≡ Ok value)
     (λ stop. (stop ≡ NoMemory) ⊎ ((refusal : List ℕ) × (reading ≡ Err refusal)
-        × (stop ≡ Refused kind (refusal_line kind refusal))))
+    × (stop ≡ Refused kind (refusal_line kind refusal))))
 
 -- the stop is the work's end over these files: a refusal is its answer, and at a failed read the work comes to a file
 -- whose

@@ -22,7 +22,7 @@ workload_line number size = codes "# workload number=" ++
 abbrev pub reported : ℕ → Plan → Outcome → Work
 reported number plan outcome =
     Done (done 0 (workload_line number (length (game_file number)) ++ outcome_head outcome)
-        (frames_most (planned plan LIMITS)))
+    (frames_most (planned plan LIMITS)))
 
 -- the answer of a workload that was read
 unfoldable pub reported_work : ℕ → Plan → Work
@@ -32,5 +32,5 @@ reported_work number plan = accepted kinds.Plan (reported number plan) (search_r
 unfoldable pub workload_work : ℕ → Work
 workload_work number =
     both (both (made cart_format (game_file number)) (made script_format (script_text number)))
-        (made movie_format start_text)
+    (made movie_format start_text)
     (λ said. reported_work number (plan_of said.0.0 said.0.1 said.1))

@@ -24,12 +24,7 @@ pub trait Job<V> {
     /// What the job has to know of itself and of what was read.
     ghost needs: { Self → V → Type 0 };
 
-    fn answer<L: Ledger>(
-        &self,
-        alloc: Global,
-        said: V,
-        steps: &mut Steps<L>,
-    ) -> Result<Reply, Stop>
+    fn answer<L: Ledger>(&self, alloc: Global, said: V, steps: &mut Steps<L>) -> Result<Reply, Stop>
         requires needs { needs self.now said }
         ensures serves { (files : Files) (failed : ℕ) → Serves files (rest self.now said) failed result }
         ensures done { IfOk result (λ reply. IsCarriedOut reply.status) }

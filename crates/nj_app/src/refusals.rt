@@ -49,7 +49,11 @@ pub fn too_long(alloc: Global, bounds: Bounds) -> Stop
 fn too_long_text(alloc: Global, bounds: Bounds) -> Result<String, AllocError>
     ensures { IfOk result (λ text. string_bytes text ≡ too_long bounds.too_long bounds.limit) }
 {
-    let Bounds { kind: _, limit, too_long } = bounds;
+    let Bounds {
+        kind: _,
+        limit,
+        too_long,
+    } = bounds;
     format!(in alloc; "{too_long} TooLong limit={limit}")
 }
 
@@ -99,7 +103,9 @@ impl Refusal for MovieRefused {
     fn text(&self, alloc: Global) -> Result<String, AllocError> {
         match self {
             MovieRefused::Line { line } => format!(in alloc; "1 Line line={line}"),
-            MovieRefused::TooManyFrames { line } => format!(in alloc; "2 TooManyFrames line={line}"),
+            MovieRefused::TooManyFrames { line } => format!(in alloc;
+                "2 TooManyFrames line={line}"
+            ),
             MovieRefused::NoMemory => Err(AllocError),
         }
     }

@@ -52,7 +52,7 @@ pub fn run_plain<S: Shelf, O: Sink, E: Sink, L: Ledger>(
     ensures complete { (files : Files) → S.content shelf.old ≡ Some files →
         ¬ Rose (S.read_faults shelf.old) (S.read_faults shelf.new) → ¬ Rose (O.faults out.old) (O.faults out.new) →
         result ≢ 9 → IsAnswered (answer (map string_bytes words.now) files) result (O.written out.old)
-            (O.written out.new) }
+        (O.written out.new) }
 
     // status 3 tells that the words have no reading, and such words have it unless memory ran out
     ensures usage { result ≡ 3 → reading (map string_bytes words.now) ≡ None }
@@ -172,7 +172,13 @@ pub fn carry_out<S: Shelf, L: Ledger>(
         } => {
             let game = (named(CartFormat, cart), named(ScriptFormat, script));
             let job = Search { options: *options };
-            serve(alloc, &(game, named(MovieFormat, start)), &job, shelf, steps)
+            serve(
+                alloc,
+                &(game, named(MovieFormat, start)),
+                &job,
+                shelf,
+                steps,
+            )
         }
         Command::Check { cart, script } => {
             let files = (named(CartFormat, cart), named(ScriptFormat, script));

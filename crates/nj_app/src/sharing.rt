@@ -56,7 +56,7 @@ pub fn run<R: Threads + Wait + Sync, S: Shelf, O: Sink, E: Sink, G: Gate, L: Led
     ensures complete { (files : Files) → S.content shelf.old ≡ Some files →
         ¬ Rose (S.read_faults shelf.old) (S.read_faults shelf.new) → ¬ Rose (O.faults out.old) (O.faults out.new) →
         result ≢ 9 → IsAnswered (answer (map string_bytes words.now) files) result (O.written out.old)
-            (O.written out.new) }
+        (O.written out.new) }
 
     // status 3 tells that the words have no reading, and such words have it unless memory ran out
     ensures usage { result ≡ 3 → reading (map string_bytes words.now) ≡ None }

@@ -73,7 +73,15 @@ pub fn answer_by_workers<R: Threads + Wait + Sync, G: Gate, L: Ledger + Send>(
     ensures frames { (files : Files) → AreCounted COUNTERS steps.old.items steps.new.items
         (frames_of (given files (found_work (plan_of said.0.0 said.0.1 said.1) (limits_of options)))) }
 {
-    let outcome = searched_by_workers(rt, alloc, said, limits_of(options), options.workers, gate, steps)?;
+    let outcome = searched_by_workers(
+        rt,
+        alloc,
+        said,
+        limits_of(options),
+        options.workers,
+        gate,
+        steps,
+    )?;
     Ok(reply_of(alloc, &outcome)?)
 }
 
@@ -122,7 +130,7 @@ pub fn searched<L: Ledger>(
     ensures not_unread { result ≢ Err Stop.ReadFault }
     ensures frames { steps.new ≤ steps.old
         + frames_for (search_reading (plan_of said.0.0 said.0.1 said.1) limits)
-            (frames_most (planned (plan_of said.0.0 said.0.1 said.1) limits)) }
+        (frames_most (planned (plan_of said.0.0 said.0.1 said.1) limits)) }
     ensures never_falls { steps.old ≤ steps.new }
 {
     let ((cart, script), start) = said;
@@ -151,7 +159,7 @@ fn searched_by_workers<R: Threads + Wait + Sync, G: Gate, L: Ledger + Send>(
     ensures not_unread { result ≢ Err Stop.ReadFault }
     ensures frames { AreCounted COUNTERS steps.old.items steps.new.items
         (frames_for (search_reading (plan_of said.0.0 said.0.1 said.1) limits)
-            (frames_most (planned (plan_of said.0.0 said.0.1 said.1) limits))) }
+        (frames_most (planned (plan_of said.0.0 said.0.1 said.1) limits))) }
 {
     let ((cart, script), start) = said;
     match Plan::new(cart, script, start, limits) {

@@ -91,7 +91,13 @@ pub fn workload<S: Shelf, L: Ledger>(
         bytes: made.start.as_bytes(),
     };
     let size = made.cart.len() as u64;
-    serve(alloc, &((cart, script), start), &Report { number, size }, shelf, steps)
+    serve(
+        alloc,
+        &((cart, script), start),
+        &Report { number, size },
+        shelf,
+        steps,
+    )
 }
 
 fn report_text(alloc: Global, number: u64, size: u64, outcome: &Outcome) -> Result<Text, AllocError>

@@ -25,7 +25,7 @@ won_line step frames reward =
     ap (λ rest. codes "# won step=" ++ rest)
     (append_assoc (decimal step) (behind_steps frames reward) (10 ∷ [])
     ∙ ap (λ rest. decimal step ++ (codes " frames=" ++ rest))
-        (append_assoc (decimal frames) (behind_frames reward) (10 ∷ [])))
+    (append_assoc (decimal frames) (behind_frames reward) (10 ∷ [])))
 
 pub returns : goal.returns
 returns c = λ step frames reward pads bytes few.

@@ -66,22 +66,26 @@ reading_within bytes pads short read =
 
 won_read : (step : ℕ) (reward : ℤ) (pads : List ℕ) → length pads ≤ 1048576 →
     movie_of (outcome_line (codes "won") step (length pads) reward ++ movie_text pads) ≡ Ok pads →
-        reading_of movie_format (outcome_text (Won step reward pads)) ≡ Ok pads
+    reading_of movie_format (outcome_text (Won step reward pads)) ≡ Ok pads
 won_read step reward pads few read =
     ap (reading_of movie_format) (text_won step reward pads)
     ∙ reading_within (outcome_line (codes "won") step (length pads) reward ++ movie_text pads) pads
-    (omega (arith, length-append (outcome_line (codes "won") step (length pads) reward) (movie_text pads),
-        head_length step (length pads) reward, lines_length pads))
+    (omega (
+      arith,
+      length-append (outcome_line (codes "won") step (length pads) reward) (movie_text pads),
+      head_length step (length pads) reward,
+      lines_length pads,
+    ))
     read
 
 won_answered : (plan : Plan) (step : ℕ) (reward : ℤ) (pads : List ℕ) →
     replay_of plan pads ≡ Ok (record { step = step; frames = length pads; reward = reward; verdict = Win }) →
     judged_work plan.cartridge plan.script plan.start pads
-        ≡ Done (done 0 (outcome_line (codes "won") step (length pads) reward) (length pads))
+    ≡ Done (done 0 (outcome_line (codes "won") step (length pads) reward) (length pads))
 unfolding judged_work replay_reading
 won_answered plan step reward pads replayed =
     ap (λ (r : Result Replayed ReplayRefused). accepted kinds.Movie (replay_done (length pads))
-        (refusal_told replay_refusal r)) replayed
+    (refusal_told replay_refusal r)) replayed
 
 -- the pads that lines say are bytes
 said_bytes : (parts : List (List ℕ)) (pads : List ℕ) → Says parts pads → AreBytes pads
@@ -96,7 +100,7 @@ returns c = λ planned step word script start script_read start_read none won.
     let says = (c.a_text_says_its_pads.ensures.said start planned.plan.start start_read).0 in
     let bytes =
     won_movie_bytes c.parents_stood_before.ensures c.winner_is_best.ensures planned step word won
-        (said_bytes _ planned.plan.start says)
+    (said_bytes _ planned.plan.start says)
     in_range.1 in
     let replays = c.a_won_word_replays.ensures planned step word in_range.0.hold_low none won in
     let pads = movie_of_word planned.plan word in

@@ -59,4 +59,4 @@ returns-clause-line g c = λ files work failed serves never.
     unless_failed c.write_all-in-Err.result c.write_all-in-Err.ensures.ok c.write_all-in-Err.ensures.fault never
     ∙ ap (λ bytes. appended (g.E.Sink.written c.args.err.now) bytes)
     (stop_line files work failed c.in-Err.stop c.status.result c.line.result.now
-        (subst (λ r. Serves files work failed r) c.in-Err.is serves) c.status.ensures c.line.ensures)
+    (subst (λ r. Serves files work failed r) c.in-Err.is serves) c.status.ensures c.line.ensures)

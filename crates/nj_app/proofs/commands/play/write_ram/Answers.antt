@@ -31,7 +31,7 @@ text_whole text whole ram at h so_far = sym (ap (λ r. text ++ r) (no_line ram a
 pub loop-at-preserved : goal.loop-at-preserved
 loop-at-preserved c =
     line_moves c.loop-at.text c.write_byte.new.text _ c.args.ram.now c.loop-at.at c.loop-at-test.true
-        c.in_ok-write_byte.ensures
+    c.in_ok-write_byte.ensures
     c.loop-at.invariant
 
 pub returns : goal.returns

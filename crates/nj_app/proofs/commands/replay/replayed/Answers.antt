@@ -24,14 +24,14 @@ replayed_frames plan movie new old none some = frames_either (replay_of plan mov
 pub returns-in-Ok-clause-frames : goal.returns-in-Ok-clause-frames
 returns-in-Ok-clause-frames g c =
     replayed_frames (plan_of c.args.cart.now c.args.script.now c.args.start.now) c.args.movie.now _ _
-        c.in-Ok.ensures.refused c.in-Ok.ensures.frames
+    c.in-Ok.ensures.refused c.in-Ok.ensures.frames
 
 pub returns-in-Err-NoMemory-clause-frames : goal.returns-in-Err-NoMemory-clause-frames
 returns-in-Err-NoMemory-clause-frames g c =
     replayed_frames (plan_of c.args.cart.now c.args.script.now c.args.start.now) c.args.movie.now _ _
-        c.replay.ensures.refused c.replay.ensures.frames
+    c.replay.ensures.refused c.replay.ensures.frames
 
 pub returns-in-Err-clause-frames : goal.returns-in-Err-clause-frames
 returns-in-Err-clause-frames g c =
     replayed_frames (plan_of c.args.cart.now c.args.script.now c.args.start.now) c.args.movie.now _ _
-        c.replay.ensures.refused c.replay.ensures.frames
+    c.replay.ensures.refused c.replay.ensures.frames

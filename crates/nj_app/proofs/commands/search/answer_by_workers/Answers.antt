@@ -16,7 +16,7 @@ returns-in_err-outcome-clause-serves g c = λ files failed.
     let plan = plan_of c.args.said.0.0 c.args.said.0.1 c.args.said.1 in
     let limits = limits_of c.args.options in
     reading_stops files kinds.Plan (search_reading plan limits) (found plan limits) failed c.in_err-outcome.field-0.0
-        c.from_residual.result
+    c.from_residual.result
     (p.1 ∙ ap Err p.2) (rw c.limits_of.ensures.value at c.in_err-outcome.ensures.reads)
 
 pub returns-in_err-reply_of-clause-serves : goal.returns-in_err-reply_of-clause-serves
@@ -32,7 +32,7 @@ returns-clause-serves g c = λ files failed.
     reading_serves files kinds.Plan (search_reading plan limits) (found plan limits) failed c.in_ok-outcome.outcome _
     (rw c.limits_of.ensures.value at c.in_ok-outcome.ensures.reads)
     (serves_reply files failed _ (frames_most (planned plan limits)) _ c.in_ok-reply_of.field-0
-        c.in_ok-reply_of.ensures.status c.in_ok-reply_of.ensures.text)
+    c.in_ok-reply_of.ensures.status c.in_ok-reply_of.ensures.text)
 
 pub returns-in_err-outcome-clause-frames : goal.returns-in_err-outcome-clause-frames
 unfolding found_work

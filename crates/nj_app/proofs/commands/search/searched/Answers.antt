@@ -10,25 +10,25 @@ use Rattle.nj_app.proofs.commands.search.searched.Goals as goal
 pub returns-in_err-search_plain-in-Ok-clause-frames : goal.returns-in_err-search_plain-in-Ok-clause-frames
 returns-in_err-search_plain-in-Ok-clause-frames g c =
     found_frames (plan_of c.args.said.0.0 c.args.said.0.1 c.args.said.1) c.args.limits c.in-Ok.plan _ _
-        c.in-Ok.ensures.0 c.in-Ok.ensures.1
+    c.in-Ok.ensures.0 c.in-Ok.ensures.1
     c.search_plain.ensures.frames
 
 pub returns-in_ok-search_plain-in-Ok-clause-reads : goal.returns-in_ok-search_plain-in-Ok-clause-reads
 returns-in_ok-search_plain-in-Ok-clause-reads g c =
     is_found (plan_of c.args.said.0.0 c.args.said.0.1 c.args.said.1) c.args.limits c.in-Ok.plan _ c.in-Ok.ensures.0
-        c.in-Ok.ensures.1
+    c.in-Ok.ensures.1
     c.in_ok-search_plain-in-Ok.ensures.outcome
 
 pub returns-in_ok-search_plain-in-Ok-clause-frames : goal.returns-in_ok-search_plain-in-Ok-clause-frames
 returns-in_ok-search_plain-in-Ok-clause-frames g c =
     found_frames (plan_of c.args.said.0.0 c.args.said.0.1 c.args.said.1) c.args.limits c.in-Ok.plan _ _
-        c.in-Ok.ensures.0 c.in-Ok.ensures.1
+    c.in-Ok.ensures.0 c.in-Ok.ensures.1
     c.search_plain.ensures.frames
 
 pub returns-in-Err-clause-reads : goal.returns-in-Err-clause-reads
 returns-in-Err-clause-reads g c =
     refused_reads kinds.Plan (search_reading (plan_of c.args.said.0.0 c.args.said.0.1 c.args.said.1) c.args.limits)
-        (plan_refusal c.in-Err.refusal)
+    (plan_refusal c.in-Err.refusal)
     c.refused.result (is_refused (plan_of c.args.said.0.0 c.args.said.0.1 c.args.said.1) c.args.limits c.in-Err.refusal
-        c.in-Err.ensures)
+    c.in-Err.ensures)
     c.refused.ensures

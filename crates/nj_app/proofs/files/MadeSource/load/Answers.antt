@@ -8,11 +8,11 @@ pub returns-then-self-bounds-clause-loads : goal.returns-then-self-bounds-clause
 returns-then-self-bounds-clause-loads g c = λ files told.
     let limit = ap (λ (b : Bounds). b.limit) c.bounds-bounds.ensures in
     made_past files g.F.Format.format _ c.args.self.now.bytes.now c.too_long.result
-        (omega (arith, limit, c.if-self-bounds.true))
+    (omega (arith, limit, c.if-self-bounds.true))
     (rw c.bounds-bounds.ensures at c.too_long.ensures)
 
 pub returns-clause-loads : goal.returns-clause-loads
 returns-clause-loads g c = λ files told.
     let limit = ap (λ (b : Bounds). b.limit) c.bounds-bounds.ensures in
     made_loads files g.F.Format.format _ c.args.self.now.bytes.now c.read.result
-        (omega (arith, limit, c.if-self-bounds.false)) c.read.ensures.reads
+    (omega (arith, limit, c.if-self-bounds.false)) c.read.ensures.reads

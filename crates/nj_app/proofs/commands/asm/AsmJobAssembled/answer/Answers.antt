@@ -15,6 +15,8 @@ returns-in_err-text-clause-serves g c = λ files failed.
 pub returns-clause-serves : goal.returns-clause-serves
 unfolding listed_work
 returns-clause-serves g c = λ files failed.
-    serves_reply files failed 0 0 (listing_of c.args.said.origin c.args.said.bytes) (record { status = 0;
-        text = c.from_vec.result }) refl
+    serves_reply files failed 0 0 (listing_of c.args.said.origin c.args.said.bytes) (record {
+      status = 0;
+      text = c.from_vec.result;
+    }) refl
     (c.from_vec.ensures ∙ c.in_ok-text.ensures ∙ ap (listing_of c.args.said.origin) c.as_slice.ensures.value)

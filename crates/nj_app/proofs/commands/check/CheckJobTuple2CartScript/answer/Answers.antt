@@ -15,5 +15,5 @@ pub returns-clause-serves : goal.returns-clause-serves
 unfolding checked_work
 returns-clause-serves g c = λ files failed.
     serves_reply files failed 0 0 (check_line (counts_of c.args.said.0 c.args.said.1)) c.of.result
-        (ap (λ (r : Reply). r.status) c.of.ensures)
+    (ap (λ (r : Reply). r.status) c.of.ensures)
     (ap (λ (r : Reply). r.text) c.of.ensures ∙ c.in_ok-text.ensures ∙ ap check_line c.counts_of.ensures)

@@ -20,7 +20,7 @@ pub returns-clause-serves : goal.returns-clause-serves
 unfolding played_work
 returns-clause-serves g c = λ files failed.
     serves_reply files failed 0 (length c.args.said.1)
-        (play_text (length c.args.said.1) (play c.args.said.0 c.args.said.1)) c.of.result
+    (play_text (length c.args.said.1) (play c.args.said.0 c.args.said.1)) c.of.result
     (ap (λ (r : Reply). r.status) c.of.ensures) (ap (λ (r : Reply). r.text) c.of.ensures ∙ c.in_ok-text.ensures.text)
 
 pub returns-clause-frames : goal.returns-clause-frames

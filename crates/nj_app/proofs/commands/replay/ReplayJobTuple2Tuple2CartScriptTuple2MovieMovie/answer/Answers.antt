@@ -12,7 +12,7 @@ unfolding judged_work
 returns-in_err-replayed-clause-serves g c = λ files failed.
     let p = err_from_is_err_and c.from_residual.result c.from_residual.ensures.1 in
     reading_stops files kinds.Movie (replay_reading (plan_of c.args.said.0.0 c.args.said.0.1 c.args.said.1.0)
-        c.args.said.1.1)
+    c.args.said.1.1)
     (replay_done (length c.args.said.1.1)) failed c.in_err-replayed.field-0.0 c.from_residual.result (p.1 ∙ ap Err p.2)
     c.in_err-replayed.ensures.reads
 
@@ -20,11 +20,11 @@ pub returns-clause-serves : goal.returns-clause-serves
 unfolding judged_work
 returns-clause-serves g c = λ files failed.
     reading_serves files kinds.Movie (replay_reading (plan_of c.args.said.0.0 c.args.said.0.1 c.args.said.1.0)
-        c.args.said.1.1)
+    c.args.said.1.1)
     (replay_done (length c.args.said.1.1)) failed c.in_ok-replayed.replayed (Ok c.in_ok-reply_of.field-0)
-        c.in_ok-replayed.ensures.reads
+    c.in_ok-replayed.ensures.reads
     (serves_reply files failed (replay_status c.in_ok-replayed.replayed.verdict) (length c.args.said.1.1)
-        (replay_line c.in_ok-replayed.replayed)
+    (replay_line c.in_ok-replayed.replayed)
     c.in_ok-reply_of.field-0 c.in_ok-reply_of.ensures.status c.in_ok-reply_of.ensures.text)
 
 pub returns-in_err-reply_of-clause-serves : goal.returns-in_err-reply_of-clause-serves
@@ -36,19 +36,19 @@ pub returns-in_err-replayed-clause-frames : goal.returns-in_err-replayed-clause-
 unfolding judged_work
 returns-in_err-replayed-clause-frames g c = λ files.
     reading_frames files kinds.Movie (replay_reading (plan_of c.args.said.0.0 c.args.said.0.1 c.args.said.1.0)
-        c.args.said.1.1)
+    c.args.said.1.1)
     (replay_done (length c.args.said.1.1)) (length c.args.said.1.1) _ _ (λ value. refl) c.in_err-replayed.ensures.frames
 
 pub returns-in_err-reply_of-clause-frames : goal.returns-in_err-reply_of-clause-frames
 unfolding judged_work
 returns-in_err-reply_of-clause-frames g c = λ files.
     reading_frames files kinds.Movie (replay_reading (plan_of c.args.said.0.0 c.args.said.0.1 c.args.said.1.0)
-        c.args.said.1.1)
+    c.args.said.1.1)
     (replay_done (length c.args.said.1.1)) (length c.args.said.1.1) _ _ (λ value. refl) c.in_ok-replayed.ensures.frames
 
 pub returns-clause-frames : goal.returns-clause-frames
 unfolding judged_work
 returns-clause-frames g c = λ files.
     reading_frames files kinds.Movie (replay_reading (plan_of c.args.said.0.0 c.args.said.0.1 c.args.said.1.0)
-        c.args.said.1.1)
+    c.args.said.1.1)
     (replay_done (length c.args.said.1.1)) (length c.args.said.1.1) _ _ (λ value. refl) c.in_ok-replayed.ensures.frames

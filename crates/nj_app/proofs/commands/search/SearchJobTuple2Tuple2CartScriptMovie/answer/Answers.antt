@@ -15,7 +15,7 @@ returns-in_err-outcome-clause-serves g c = λ files failed.
     let plan = plan_of c.args.said.0.0 c.args.said.0.1 c.args.said.1 in
     let limits = limits_of c.args.self.now.options in
     reading_stops files kinds.Plan (search_reading plan limits) (found plan limits) failed c.in_err-outcome.field-0.0
-        c.from_residual.result
+    c.from_residual.result
     (p.1 ∙ ap Err p.2) (rw c.limits_of.ensures.value at c.in_err-outcome.ensures.reads)
 
 pub returns-in_err-reply_of-clause-serves : goal.returns-in_err-reply_of-clause-serves
@@ -31,7 +31,7 @@ returns-clause-serves g c = λ files failed.
     reading_serves files kinds.Plan (search_reading plan limits) (found plan limits) failed c.in_ok-outcome.outcome _
     (rw c.limits_of.ensures.value at c.in_ok-outcome.ensures.reads)
     (serves_reply files failed _ (frames_most (planned plan limits)) _ c.in_ok-reply_of.field-0
-        c.in_ok-reply_of.ensures.status c.in_ok-reply_of.ensures.text)
+    c.in_ok-reply_of.ensures.status c.in_ok-reply_of.ensures.text)
 
 pub returns-in_err-outcome-clause-frames : goal.returns-in_err-outcome-clause-frames
 unfolding found_work
@@ -39,7 +39,7 @@ returns-in_err-outcome-clause-frames g c = λ files.
     let plan = plan_of c.args.said.0.0 c.args.said.0.1 c.args.said.1 in
     let limits = limits_of c.args.self.now.options in
     reading_frames files kinds.Plan (search_reading plan limits) (found plan limits) (frames_most (planned plan limits))
-        _ _ (λ value. refl)
+    _ _ (λ value. refl)
     (rw c.limits_of.ensures.value at c.in_err-outcome.ensures.frames)
 
 pub returns-in_err-reply_of-clause-frames : goal.returns-in_err-reply_of-clause-frames
@@ -48,7 +48,7 @@ returns-in_err-reply_of-clause-frames g c = λ files.
     let plan = plan_of c.args.said.0.0 c.args.said.0.1 c.args.said.1 in
     let limits = limits_of c.args.self.now.options in
     reading_frames files kinds.Plan (search_reading plan limits) (found plan limits) (frames_most (planned plan limits))
-        _ _ (λ value. refl)
+    _ _ (λ value. refl)
     (rw c.limits_of.ensures.value at c.in_ok-outcome.ensures.frames)
 
 pub returns-clause-frames : goal.returns-clause-frames
@@ -57,5 +57,5 @@ returns-clause-frames g c = λ files.
     let plan = plan_of c.args.said.0.0 c.args.said.0.1 c.args.said.1 in
     let limits = limits_of c.args.self.now.options in
     reading_frames files kinds.Plan (search_reading plan limits) (found plan limits) (frames_most (planned plan limits))
-        _ _ (λ value. refl)
+    _ _ (λ value. refl)
     (rw c.limits_of.ensures.value at c.in_ok-outcome.ensures.frames)

@@ -18,7 +18,7 @@ returns-in_err-outcome-clause-serves g c = λ files failed.
     let p = err_from_is_err_and c.from_residual.result c.from_residual.ensures.1 in
     let plan = plan_of c.args.said.0.0 c.args.said.0.1 c.args.said.1 in
     reading_stops files kinds.Plan (search_reading plan LIMITS) (reported c.args.self.now.number plan) failed
-        c.in_err-outcome.field-0.0
+    c.in_err-outcome.field-0.0
     c.from_residual.result (p.1 ∙ ap Err p.2) c.in_err-outcome.ensures.reads
 
 pub returns-in_err-text-clause-serves : goal.returns-in_err-text-clause-serves
@@ -31,10 +31,10 @@ unfolding reported_work
 returns-clause-serves g c = λ files failed.
     let plan = plan_of c.args.said.0.0 c.args.said.0.1 c.args.said.1 in
     reading_serves files kinds.Plan (search_reading plan LIMITS) (reported c.args.self.now.number plan) failed
-        c.in_ok-outcome.outcome
+    c.in_ok-outcome.outcome
     (Ok c.of.result) c.in_ok-outcome.ensures.reads
     (serves_reply files failed 0 (frames_most (planned plan LIMITS)) _ c.of.result
-        (ap (λ (r : Reply). r.status) c.of.ensures)
+    (ap (λ (r : Reply). r.status) c.of.ensures)
     (ap (λ (r : Reply). r.text) c.of.ensures ∙ c.in_ok-text.ensures
     ∙ ap (λ size. workload_line c.args.self.now.number size ++ outcome_head c.in_ok-outcome.outcome) c.requires.needs))
 
@@ -43,7 +43,7 @@ unfolding reported_work
 returns-in_err-outcome-clause-frames g c = λ files.
     let plan = plan_of c.args.said.0.0 c.args.said.0.1 c.args.said.1 in
     reading_frames files kinds.Plan (search_reading plan LIMITS) (reported c.args.self.now.number plan)
-        (frames_most (planned plan LIMITS)) _ _
+    (frames_most (planned plan LIMITS)) _ _
     (λ value. refl) c.in_err-outcome.ensures.frames
 
 pub returns-in_err-text-clause-frames : goal.returns-in_err-text-clause-frames
@@ -51,7 +51,7 @@ unfolding reported_work
 returns-in_err-text-clause-frames g c = λ files.
     let plan = plan_of c.args.said.0.0 c.args.said.0.1 c.args.said.1 in
     reading_frames files kinds.Plan (search_reading plan LIMITS) (reported c.args.self.now.number plan)
-        (frames_most (planned plan LIMITS)) _ _
+    (frames_most (planned plan LIMITS)) _ _
     (λ value. refl) c.in_ok-outcome.ensures.frames
 
 pub returns-clause-frames : goal.returns-clause-frames
@@ -59,5 +59,5 @@ unfolding reported_work
 returns-clause-frames g c = λ files.
     let plan = plan_of c.args.said.0.0 c.args.said.0.1 c.args.said.1 in
     reading_frames files kinds.Plan (search_reading plan LIMITS) (reported c.args.self.now.number plan)
-        (frames_most (planned plan LIMITS)) _ _
+    (frames_most (planned plan LIMITS)) _ _
     (λ value. refl) c.in_ok-outcome.ensures.frames
