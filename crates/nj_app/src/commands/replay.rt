@@ -22,6 +22,7 @@ use nj_steps::Steps;
 use std::alloc::{AllocError, Global};
 use std::sync::ledger::Ledger;
 
+/// What `replay` does.
 #[derive(Clone, Copy)]
 pub struct Replay;
 
