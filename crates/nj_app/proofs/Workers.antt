@@ -165,6 +165,7 @@ module _ (said others : List Piece) (same : beside_workers said ≡ beside_worke
       (All-cons IsOneWork clean_row (trace_row ∷ watch_row ∷ []) (plain_row clean_row refl)
       (All-cons IsOneWork trace_row (watch_row ∷ []) tracing_row
       (All-cons IsOneWork watch_row [] (plain_row watch_row refl) (All-nil IsOneWork)))))))))
+
 -- what holds of each row holds of the one that is found
 found_row : (P : Row → Type 0) (test : Row → Bool) (rows : List Row) → All P rows → IfSome (find test rows) P
 found_row P test [] all = tt

@@ -68,7 +68,7 @@ module _ (command : Command) where
   pub clean_is : (cart script start movie a b d e : List ℕ) → command ≡ Clean cart script start movie →
       a ≡ cart → b ≡ script → d ≡ start → e ≡ movie →
       both (both (loaded cart_format a) (loaded script_format b)) (both (loaded movie_format d) (loaded movie_format e))
-          (λ said. cleaned_work said.0.0 said.0.1 said.1.0 said.1.1)
+      (λ said. cleaned_work said.0.0 said.0.1 said.1.0 said.1.1)
       ≡ work_of command
   unfolding work_of clean_work
   clean_is cart script start movie a b d e is p q r t =
@@ -86,7 +86,7 @@ module _ (command : Command) where
   pub watch_is : (cart script movie a b d : List ℕ) → command ≡ Watch cart script movie → a ≡ cart → b ≡ script →
       d ≡ movie →
       both (both (loaded cart_format a) (loaded script_format b)) (loaded movie_format d)
-          (λ said. watched_work said.0.0 said.0.1 said.1)
+      (λ said. watched_work said.0.0 said.0.1 said.1)
       ≡ work_of command
   unfolding work_of watch_work
   watch_is cart script movie a b d is p q r =

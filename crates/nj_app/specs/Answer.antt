@@ -55,7 +55,7 @@ file_names (Workload number) = []
 file_names (Asm source) = names_of source_format source
 file_names (Clean cart script start movie) =
     (names_of cart_format cart ++ names_of script_format script) ++
-        (names_of movie_format start ++ names_of movie_format movie)
+    (names_of movie_format start ++ names_of movie_format movie)
 file_names (Trace cart movie frame) = names_of cart_format cart ++ names_of movie_format movie
 file_names (Watch cart script movie) =
     (names_of cart_format cart ++ names_of script_format script) ++ names_of movie_format movie

@@ -21,7 +21,7 @@ clean_line released replayed =
     codes "# clean step=" ++ (decimal replayed.step ++ (codes " frames=" ++ (decimal replayed.frames
     ++ (codes " reward=" ++ (signed_decimal replayed.reward ++ (codes " released=" ++ (decimal released ++ 10 ∷ [])))))))
 
--- the text of what a movie is cleaned to: its line and the movie's lines, or the line of the replay of one that does not win
+-- the text of what a movie is cleaned to: its line and the movie's lines; of one that does not win, its replay's line
 unfoldable pub clean_text : CleanEnd → List ℕ
 clean_text (Cleaned movie released replayed) = clean_line released replayed ++ movie_text movie
 clean_text (NotWon replayed) = replay_line replayed
@@ -48,5 +48,5 @@ cleaned_work cart script start movie = accepted kinds.Movie (clean_done (clean_f
 unfoldable pub clean_work : List ℕ → List ℕ → List ℕ → List ℕ → Work
 clean_work cart script start movie =
     both (both (loaded cart_format cart) (loaded script_format script))
-        (both (loaded movie_format start) (loaded movie_format movie))
+    (both (loaded movie_format start) (loaded movie_format movie))
     (λ said. cleaned_work said.0.0 said.0.1 said.1.0 said.1.1)

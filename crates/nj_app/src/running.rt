@@ -201,9 +201,14 @@ pub fn carry_out<S: Shelf, L: Ledger>(
             let job = Trace { frame: *frame };
             serve(alloc, &files, &job, shelf, steps)
         }
-        Command::Watch { cart, script, movie } => {
+        Command::Watch {
+            cart,
+            script,
+            movie,
+        } => {
             let game = (named(CartFormat, cart), named(ScriptFormat, script));
-            serve(alloc, &(game, named(MovieFormat, movie)), &Watch, shelf, steps)
+            let files = (game, named(MovieFormat, movie));
+            serve(alloc, &files, &Watch, shelf, steps)
         }
     }
 }

@@ -60,7 +60,7 @@ fn cleaned<L: Ledger>(
     ensures not_unread { result ≢ Err Stop.ReadFault }
     ensures frames { steps.new ≤ steps.old
         + frames_for (clean_reading (plan_of cart.now script.now start.now) movie.now)
-            (clean_frames (plan_of cart.now script.now start.now) movie.now) }
+        (clean_frames (plan_of cart.now script.now start.now) movie.now) }
     ensures never_falls { steps.old ≤ steps.new }
 {
     match clean(alloc, cart, script, start, movie, steps) {
@@ -117,6 +117,8 @@ fn clean_line(alloc: Global, released: u32, replayed: Replayed) -> Result<Text, 
         reward,
         verdict: _,
     } = replayed;
-    let line = format!(in alloc; "# clean step={step} frames={frames} reward={reward} released={released}\n")?;
+    let line = format!(in alloc;
+        "# clean step={step} frames={frames} reward={reward} released={released}\n"
+    )?;
     Ok(Text::from_string(line))
 }

@@ -22,14 +22,14 @@ cleaned_frames plan movie new old h = frames_either plan _ new old h
 pub returns-in-Ok-clause-frames : goal.returns-in-Ok-clause-frames
 returns-in-Ok-clause-frames g c =
     cleaned_frames (plan_of c.args.cart.now c.args.script.now c.args.start.now) c.args.movie.now _ _
-        c.in-Ok.ensures.frames
+    c.in-Ok.ensures.frames
 
 pub returns-in-Err-NoMemory-clause-frames : goal.returns-in-Err-NoMemory-clause-frames
 returns-in-Err-NoMemory-clause-frames g c =
     cleaned_frames (plan_of c.args.cart.now c.args.script.now c.args.start.now) c.args.movie.now _ _
-        c.clean.ensures.frames
+    c.clean.ensures.frames
 
 pub returns-in-Err-clause-frames : goal.returns-in-Err-clause-frames
 returns-in-Err-clause-frames g c =
     cleaned_frames (plan_of c.args.cart.now c.args.script.now c.args.start.now) c.args.movie.now _ _
-        c.clean.ensures.frames
+    c.clean.ensures.frames

@@ -20,8 +20,8 @@ pub returns-clause-serves : goal.returns-clause-serves
 unfolding watched_work
 returns-clause-serves g c = λ files failed.
     serves_reply files failed 0 (length c.args.said.1)
-        (watch_text c.args.said.0.0 (let script = c.args.said.0.1 in script.properties) c.args.said.1)
-        (record { status = 0; text = c.from_vec.result }) refl (c.from_vec.ensures ∙ c.in_ok-text.ensures.text)
+    (watch_text c.args.said.0.0 (let script = c.args.said.0.1 in script.properties) c.args.said.1)
+    (record { status = 0; text = c.from_vec.result }) refl (c.from_vec.ensures ∙ c.in_ok-text.ensures.text)
 
 pub returns-clause-frames : goal.returns-clause-frames
 unfolding watched_work
