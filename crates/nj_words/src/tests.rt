@@ -108,45 +108,6 @@ fn names_of_the_others(rt: HostRuntime) -> Result<(), Fail> {
     Ok(())
 }
 
-#[test]
-fn names_of_those_that_look_into_movies(rt: HostRuntime) -> Result<(), Fail> {
-    match read_line(rt.alloc(), "clean W S - M")? {
-        Command::Clean {
-            cart,
-            script,
-            start,
-            movie,
-        } => {
-            assert_eq!(rt; cart.as_str(), "W");
-            assert_eq!(rt; script.as_str(), "S");
-            assert_eq!(rt; start.as_str(), "-");
-            assert_eq!(rt; movie.as_str(), "M");
-        }
-        _other => assert!(rt; false, "another command"),
-    }
-    match read_line(rt.alloc(), "trace W M --frame 1048576")? {
-        Command::Trace { cart, movie, frame } => {
-            assert_eq!(rt; cart.as_str(), "W");
-            assert_eq!(rt; movie.as_str(), "M");
-            assert_eq!(rt; frame, 1_048_576);
-        }
-        _other => assert!(rt; false, "another command"),
-    }
-    match read_line(rt.alloc(), "watch W S M")? {
-        Command::Watch {
-            cart,
-            script,
-            movie,
-        } => {
-            assert_eq!(rt; cart.as_str(), "W");
-            assert_eq!(rt; script.as_str(), "S");
-            assert_eq!(rt; movie.as_str(), "M");
-        }
-        _other => assert!(rt; false, "another command"),
-    }
-    Ok(())
-}
-
 static UNREADABLE: [&str; 33] = [
     "",
     "-- play L M",
