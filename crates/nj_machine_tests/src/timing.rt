@@ -11,12 +11,12 @@ use std::marker::Brand;
 use std::sync::ledger::{Blank, Ledger};
 use std::test::Fail;
 
-// PC after this many units, and how many cycles they took, within the first frame.
+// PC after this many units, and the line and dot of the picture's next dot: three dots for each cycle since power-on.
 fn after_units<P: Picture + Drop + Waiting, L: Ledger>(
     blank: Blank,
     machine: &mut Console<P>,
     units: u32,
-) -> (u16, u32)
+) -> (u16, u16, u16)
     requires { blank.name ≡ L.name }
 {
     let mut steps = Steps::<L>::open(blank);
@@ -24,14 +24,11 @@ fn after_units<P: Picture + Drop + Waiting, L: Ledger>(
     for _ in 0..=units {
         let _ = machine.unit_step(Pad(0), &mut seen, &mut steps);
     }
-    (
-        seen.cpu.pc,
-        (u32::from(seen.line) * 341 + u32::from(seen.dot)) / 3,
-    )
+    (seen.cpu.pc, seen.line, seen.dot)
 }
 
 // The same of a program.
-fn clocked(alloc: Global, code: &[u8], units: u32) -> Result<(u16, u32), Fail> {
+fn clocked(alloc: Global, code: &[u8], units: u32) -> Result<(u16, u16, u16), Fail> {
     let mut machine = machine::<CatchUp>(alloc, code, 0x00)?;
     Ok(after_units::<CatchUp, Brand>(Blank::new(1), &mut machine, units))
 }
@@ -40,11 +37,11 @@ fn clocked(alloc: Global, code: &[u8], units: u32) -> Result<(u16, u32), Fail> {
 #[test]
 fn sprite_copies(rt: HostRuntime) -> Result<(), Fail> {
     let even = [0xA9, 0x02, 0x8D, 0x14, 0x40, 0x4C, 0x05, 0x80];
-    assert_eq!(rt; clocked(rt.alloc(), &even, 2)?, (0x8005, 6));
-    assert_eq!(rt; clocked(rt.alloc(), &even, 3)?, (0x8005, 519));
+    assert_eq!(rt; clocked(rt.alloc(), &even, 2)?, (0x8005, 0, 18));
+    assert_eq!(rt; clocked(rt.alloc(), &even, 3)?, (0x8005, 4, 193));
     let odd = [0xA5, 0x00, 0xA9, 0x02, 0x8D, 0x14, 0x40, 0x4C, 0x07, 0x80];
-    assert_eq!(rt; clocked(rt.alloc(), &odd, 3)?, (0x8007, 9));
-    assert_eq!(rt; clocked(rt.alloc(), &odd, 4)?, (0x8007, 523));
+    assert_eq!(rt; clocked(rt.alloc(), &odd, 3)?, (0x8007, 0, 27));
+    assert_eq!(rt; clocked(rt.alloc(), &odd, 4)?, (0x8007, 4, 205));
     Ok(())
 }
 
@@ -54,8 +51,8 @@ fn a_jump_within_a_page(rt: HostRuntime) -> Result<(), Fail> {
     let code = [
         0xA9, 0x34, 0x8D, 0xFF, 0x02, 0xA9, 0x12, 0x8D, 0x00, 0x02, 0x6C, 0xFF, 0x02,
     ];
-    assert_eq!(rt; clocked(rt.alloc(), &code, 4)?, (0x800A, 12));
-    assert_eq!(rt; clocked(rt.alloc(), &code, 5)?, (0x1234, 17));
+    assert_eq!(rt; clocked(rt.alloc(), &code, 4)?, (0x800A, 0, 36));
+    assert_eq!(rt; clocked(rt.alloc(), &code, 5)?, (0x1234, 0, 51));
     Ok(())
 }
 
