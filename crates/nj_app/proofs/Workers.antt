@@ -1,13 +1,13 @@
 -- The number of workers changes nothing of the answer.
-use Rattle.std.proofs.Common.{◌≡◌, ℕ, Bool, true, false, cond, List, [], ◌∷◌, map, codes, Option, Some, None, option_and_then, refl, sym, ap, ap₂, ◌∙◌, subst}
+use Rattle.std.proofs.Common.{◌≡◌, ℕ, Bool, true, false, cond, List, [], ◌∷◌, map, codes, Option, Some, None, option_and_then, refl, sym, ap, ◌∙◌, subst}
 use Rattle.std.specs.Prelude.{if◌then◌else◌, IfSome}
 use Rattle.std.specs.List.{All, find}
 use Rattle.std.specs.Str.{bytes_eq}
 use Rattle.std.proofs.lemmas.List.Elements.{All-cons, All-head, All-nil, All-tail}
 use Rattle.std.proofs.lemmas.Slice.Eq.{bytes_eq-Decides}
 use Rattle.nj_words.specs.Commands.{Row, asm_row, check_row, clean_row, command_of, name_at, play_row, reading, replay_row, search_form, search_of, search_options_of, search_row, table, trace_of, trace_row, watch_row, workload_row}
-use Rattle.nj_words.specs.Grammar.{PiecesAreSaid, Says}
-use Rattle.nj_words.specs.Options.{number_or, value_at}
+use Rattle.nj_words.specs.Grammar.{PiecesAreSaid}
+use Rattle.nj_words.specs.Options.{number_or}
 use Rattle.nj_words.specs.Words.{Form, Piece, Taken, Word, fits, name, names_in, option, pieces, taken, taken_from, value_in}
 use Rattle.nj_words.specs.declared.Command.{Command}
 use Rattle.nj_words.specs.declared.Command.TheVariants.{Search}

@@ -1,5 +1,5 @@
 -- The frames of a listing are those up to its frame, and none where the movie does not have it.
-use Rattle.std.proofs.Common.{◌≡◌, ◌+◌, ◌≤◌, ◌<◌, ℕ, Bool, true, false, cond, List, length, nat_lt, Result, Ok, Err, arith, refl}
+use Rattle.std.proofs.Common.{◌≡◌, ◌+◌, ◌≤◌, ℕ, Bool, true, false, cond, List, length, nat_lt, Ok, Err, arith, refl}
 use Rattle.std.proofs.lemmas.Bool.Decides.{nat_tests}
 use Rattle.nj_ines.specs.Cartridge.{Cartridge}
 use Rattle.nj_trace.specs.Trace.{trace_of}

@@ -3,7 +3,6 @@ use Rattle.std.proofs.Common.{◌∙◌, Ok, Err, refl, ap}
 use Rattle.std.proofs.lemmas.Result.{err_from_is_err_and}
 use Rattle.nj_app.specs.Trace.{trace_done, trace_reading, traced_work}
 use Rattle.nj_app.specs.declared.stops.Kind.TheVariants as kinds
-use Rattle.nj_app.specs.declared.stops.Reply.{Reply}
 use Rattle.nj_app.proofs.Serving.{reading_frames, reading_serves, reading_stops, serves_reply}
 use Rattle.nj_app.proofs.commands.trace.TraceJobTuple2CartMovie.answer.Goals as goal
 

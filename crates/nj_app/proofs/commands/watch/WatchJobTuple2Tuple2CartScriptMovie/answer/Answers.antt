@@ -3,7 +3,6 @@ use Rattle.std.proofs.Common.{◌∙◌, length, refl}
 use Rattle.std.proofs.lemmas.Result.{err_from_is_err_and}
 use Rattle.nj_trace.specs.Watch.{watch_text}
 use Rattle.nj_app.specs.Watch.{watched_work}
-use Rattle.nj_app.specs.declared.stops.Reply.{Reply}
 use Rattle.nj_app.proofs.Serving.{serves_no_memory, serves_reply}
 use Rattle.nj_app.proofs.commands.watch.WatchJobTuple2Tuple2CartScriptMovie.answer.Goals as goal
 
