@@ -126,16 +126,6 @@ fn expect(rt: &impl Abort, alloc: Global, case: &str, outcome: Outcome) -> Resul
     Ok(())
 }
 
-fn run_cases(rt: &impl Abort, alloc: Global, cases: &str) -> Result<(), AllocError> {
-    for case in cases.split("\n\n") {
-        let line = marked(alloc, case, '$')?;
-        let movie = marked(alloc, case, '<')?;
-        let shelf = shelf_with(alloc, movie.as_bytes(), &[])?;
-        expect(rt, alloc, case, by_one(alloc, line.as_str(), shelf, NONE)?)?;
-    }
-    Ok(())
-}
-
 // Cases with a longer text, of which the lines are the first.
 fn begin_cases(rt: &impl Abort, alloc: Global, cases: &str) -> Result<(), AllocError> {
     for case in cases.split("\n\n") {
@@ -147,6 +137,16 @@ fn begin_cases(rt: &impl Abort, alloc: Global, cases: &str) -> Result<(), AllocE
         assert_eq!(rt; status, 0, "{case}");
         assert!(rt; out.bytes().starts_with(head.as_bytes()), "{case}");
         assert_eq!(rt; err.bytes(), b"".as_slice(), "{case}");
+    }
+    Ok(())
+}
+
+fn run_cases(rt: &impl Abort, alloc: Global, cases: &str) -> Result<(), AllocError> {
+    for case in cases.split("\n\n") {
+        let line = marked(alloc, case, '$')?;
+        let movie = marked(alloc, case, '<')?;
+        let shelf = shelf_with(alloc, movie.as_bytes(), &[])?;
+        expect(rt, alloc, case, by_one(alloc, line.as_str(), shelf, NONE)?)?;
     }
     Ok(())
 }
