@@ -16,13 +16,8 @@ use std::sync::ledger::{Blank, Ledger};
 use std::test::Fail;
 use std::thread::Threads;
 
-/// The status, `out` and `err`.
-type Outcome = (u8, MemSink, MemSink);
-
-/// The calls of `out` and of `err` that fail, by their numbers.
-type Failing<'a> = (&'a [u64], &'a [u64]);
-
-const NONE: Failing<'static> = (&[], &[]);
+/// No call of `out` or `err` fails.
+const NONE: (&[u64], &[u64]) = (&[], &[]);
 
 fn words_of(alloc: Global, line: &str) -> Result<Vec<String>, AllocError> {
     let mut words = Vec::new(alloc);
@@ -32,70 +27,76 @@ fn words_of(alloc: Global, line: &str) -> Result<Vec<String>, AllocError> {
     Ok(words)
 }
 
-// By one thread.
-fn alone<L: Ledger>(
+fn run_alone<L: Ledger>(
     alloc: Global,
-    line: &str,
-    mut shelf: MemShelf,
-    failing: Failing<'_>,
+    words: &[String],
+    shelf: &mut MemShelf,
+    out: &mut MemSink,
+    err: &mut MemSink,
     blank: Blank,
-) -> Result<Outcome, AllocError>
+) -> u8
     requires { blank.name ≡ L.name }
 {
     let mut steps = Steps::<L>::open(blank);
+    run_plain(alloc, words, shelf, out, err, &mut steps)
+}
+
+// By one thread.
+fn by_one(
+    alloc: Global,
+    line: &str,
+    mut shelf: MemShelf,
+    failing: (&[u64], &[u64]),
+) -> Result<(u8, MemSink, MemSink), AllocError> {
     let words = words_of(alloc, line)?;
     let mut out = MemSink::new(alloc, Vec::from_slice(alloc, failing.0)?, 10);
     let mut err = MemSink::new(alloc, Vec::from_slice(alloc, failing.1)?, 10);
-    let status = run_plain(
+    let status = run_alone::<Brand>(
         alloc,
         words.as_slice(),
         &mut shelf,
         &mut out,
         &mut err,
-        &mut steps,
+        Blank::new(1),
     );
     Ok((status, out, err))
 }
 
-// By as many workers as the line asks for.
-fn shared<R: Threads + Wait + Sync, G: Gate, L: Ledger + Send>(
+// By as many workers as the line asks for, where there are counters enough.
+fn by_workers<R: Threads + Wait + Sync, G: Gate, L: Ledger + Send>(
     rt: &R,
     alloc: Global,
     line: &str,
     mut shelf: MemShelf,
     gate: &G,
-    blank: Blank,
-) -> Result<Outcome, AllocError>
-    requires { blank.name ≡ L.name }
-{
-    let mut steps = Steps::<L>::open_many(alloc, blank, COUNTERS)?;
+    steps: &mut Vec<Steps<L>>,
+) -> Result<(u8, MemSink, MemSink), AllocError> {
+    if steps.len() < COUNTERS {
+        return Err(AllocError);
+    }
     let words = words_of(alloc, line)?;
     let mut out = MemSink::new(alloc, Vec::new(alloc), 10);
     let mut err = MemSink::new(alloc, Vec::new(alloc), 10);
     let words = words.as_slice();
     let status = run(
-        rt, alloc, words, &mut shelf, &mut out, &mut err, gate, &mut steps,
+        rt, alloc, words, &mut shelf, &mut out, &mut err, gate, steps,
     );
     Ok((status, out, err))
 }
 
-fn by_one(
-    alloc: Global,
-    line: &str,
-    shelf: MemShelf,
-    failing: Failing<'_>,
-) -> Result<Outcome, AllocError> {
-    alone::<Brand>(alloc, line, shelf, failing, Blank::new(1))
-}
-
-fn by_workers<R: Threads + Wait + Sync, G: Gate>(
+// The same with counters of its own.
+fn shared<R: Threads + Wait + Sync, G: Gate, L: Ledger + Send>(
     rt: &R,
     alloc: Global,
     line: &str,
     shelf: MemShelf,
     gate: &G,
-) -> Result<Outcome, AllocError> {
-    shared::<R, G, Brand>(rt, alloc, line, shelf, gate, Blank::new(1))
+    blank: Blank,
+) -> Result<(u8, MemSink, MemSink), AllocError>
+    requires { blank.name ≡ L.name }
+{
+    let mut steps = Steps::<L>::open_many(alloc, blank, COUNTERS)?;
+    by_workers(rt, alloc, line, shelf, gate, &mut steps)
 }
 
 // The lines of a case with this mark, without it.
@@ -113,7 +114,12 @@ fn marked(alloc: Global, case: &str, mark: char) -> Result<String, AllocError> {
 }
 
 // Whether the outcome is the case's.
-fn expect(rt: &impl Abort, alloc: Global, case: &str, outcome: Outcome) -> Result<(), AllocError> {
+fn expect(
+    rt: &impl Abort,
+    alloc: Global,
+    case: &str,
+    outcome: (u8, MemSink, MemSink),
+) -> Result<(), AllocError> {
     let (status, out, err) = outcome;
     let status = format!(in alloc; "{status}\n")?;
     assert_eq!(rt;
@@ -151,24 +157,24 @@ fn run_cases(rt: &impl Abort, alloc: Global, cases: &str) -> Result<(), AllocErr
     Ok(())
 }
 
-// The same cases, with more words behind each line.
-fn share_cases<R: Abort + Threads + Wait + Sync>(
+// The same cases by `run`, with more words behind each line.
+fn share_cases<R: Abort + Threads + Wait + Sync, L: Ledger + Send>(
     rt: &R,
     alloc: Global,
     cases: &str,
     more: &str,
-) -> Result<(), AllocError> {
+    blank: Blank,
+) -> Result<(), AllocError>
+    requires { blank.name ≡ L.name }
+{
+    let mut steps = Steps::<L>::open_many(alloc, blank, COUNTERS)?;
     for case in cases.split("\n\n") {
         let mut line = marked(alloc, case, '$')?;
         line.push_str(more)?;
         let movie = marked(alloc, case, '<')?;
         let shelf = shelf_with(alloc, movie.as_bytes(), &[])?;
-        expect(
-            rt,
-            alloc,
-            case,
-            by_workers(rt, alloc, line.as_str(), shelf, &OpenGate)?,
-        )?;
+        let outcome = by_workers(rt, alloc, line.as_str(), shelf, &OpenGate, &mut steps)?;
+        expect(rt, alloc, case, outcome)?;
     }
     Ok(())
 }
@@ -231,21 +237,22 @@ fn searches(rt: HostRuntime) -> Result<(), Fail> {
 #[test]
 fn any_number_of_workers_writes_the_text_of_one(rt: HostRuntime) -> Result<(), Fail> {
     for more in [" --workers 2", " --workers=3", " --workers 64"] {
-        share_cases(&rt, rt.alloc(), WINS, more)?;
+        share_cases::<HostRuntime, Brand>(&rt, rt.alloc(), WINS, more, Blank::new(1))?;
     }
     Ok(())
 }
 
 #[test]
 fn two_workers_search_as_one(rt: HostRuntime) -> Result<(), Fail> {
-    share_cases(&rt, rt.alloc(), SEARCHES, " --workers 2")?;
+    share_cases::<HostRuntime, Brand>(&rt, rt.alloc(), SEARCHES, " --workers 2", Blank::new(1))?;
     Ok(())
 }
 
 #[test]
 fn one_worker_does_all_else(rt: HostRuntime) -> Result<(), Fail> {
-    share_cases(&rt, rt.alloc(), WINS, "")?;
-    share_cases(&rt, rt.alloc(), PLAYS, "")?;
+    for cases in [WINS, PLAYS] {
+        share_cases::<HostRuntime, Brand>(&rt, rt.alloc(), cases, "", Blank::new(1))?;
+    }
     Ok(())
 }
 
@@ -261,7 +268,14 @@ fn work_is_shared(rt: HostRuntime) -> Result<(), Fail> {
     let line = "search walk movie start --steps 20 --workers 2";
     let gate = Meeting::new();
     let shelf = shelf_with(rt.alloc(), COUNTS.as_bytes(), &[])?;
-    let (status, out, err) = by_workers(&rt, rt.alloc(), line, shelf, &gate)?;
+    let (status, out, err) = shared::<HostRuntime, Meeting, Brand>(
+        &rt,
+        rt.alloc(),
+        line,
+        shelf,
+        &gate,
+        Blank::new(1),
+    )?;
     let mut text = String::from_str(rt.alloc(), "# limit step=20 frames=23 reward=0\n")?;
     for _frame in 0..23 {
         text.push_str("|..|........|\n")?;
@@ -273,20 +287,31 @@ fn work_is_shared(rt: HostRuntime) -> Result<(), Fail> {
     Ok(())
 }
 
-// The files of the workload of number 0, which is won in four steps.
-#[test]
-fn eight_workers_search_a_workload(rt: HostRuntime) -> Result<(), Fail> {
+// The files of the workload of number 0, searched by one worker and by eight: both statuses, whether the first text is that
+// of a win in four steps, and whether the second text is the first.
+fn eight_as_one<R: Threads + Wait + Sync, L: Ledger + Send>(
+    rt: &R,
+    alloc: Global,
+    blank: Blank,
+) -> Result<(u8, u8, bool, bool), AllocError>
+    requires { blank.name ≡ L.name }
+{
+    let mut steps = Steps::<L>::open_many(alloc, blank, COUNTERS)?;
     let line = "search cart script start --budget 575488 --steps 20 --slots 16";
-    let one = by_workers(&rt, rt.alloc(), line, made_shelf(rt.alloc())?, &OpenGate)?;
+    let one = by_workers(rt, alloc, line, made_shelf(alloc)?, &OpenGate, &mut steps)?;
     let line = "search cart script start --budget 575488 --steps 20 --slots 16 --workers 8";
-    let eight = by_workers(&rt, rt.alloc(), line, made_shelf(rt.alloc())?, &OpenGate)?;
-    assert_eq!(rt; (one.0, eight.0), (0, 0));
-    assert!(rt;
-        one.1
-            .bytes()
-            .starts_with(b"# won step=4 frames=204 reward=0\n")
-    );
-    assert_eq!(rt; eight.1.bytes(), one.1.bytes());
+    let eight = by_workers(rt, alloc, line, made_shelf(alloc)?, &OpenGate, &mut steps)?;
+    let is_won = one
+        .1
+        .bytes()
+        .starts_with(b"# won step=4 frames=204 reward=0\n");
+    Ok((one.0, eight.0, is_won, eight.1.bytes() == one.1.bytes()))
+}
+
+#[test]
+fn eight_workers_search_a_workload_as_one(rt: HostRuntime) -> Result<(), Fail> {
+    let ended = eight_as_one::<HostRuntime, Brand>(&rt, rt.alloc(), Blank::new(1))?;
+    assert_eq!(rt; ended, (0, 0, true, true));
     Ok(())
 }
 
