@@ -1,13 +1,13 @@
 -- What follows where nothing is refused of a file.
-use Rattle.std.proofs.Common.{◌≡◌, ◌⊎◌, inl, inr, ℕ, ◌+◌, ◌<◌, ◌≤◌, ◌==◌, ◌||◌, ◌≢◌, Bool, true, false, not, List, [], ◌∷◌, ◌++◌, length, take, drop, refl, sym, ap, ◌∙◌, arith, ltb-false, eqb-true, nat_lt}
-use Rattle.std.specs.Prelude.{Option, None, Some, Result, Ok, Err, if◌then◌else◌}
+use Rattle.std.proofs.Common.{◌≡◌, ◌⊎◌, inl, inr, ℕ, ◌+◌, ◌≤◌, ◌==◌, ◌||◌, Bool, true, false, List, [], ◌∷◌, ◌++◌, length, take, refl, sym, ap, ◌∙◌, arith, ltb-false, eqb-true}
+use Rattle.std.specs.Prelude.{Option, None, Some, Ok, if◌then◌else◌}
 use Rattle.std.proofs.lemmas.Bool.{not-false, or_cases, cond-true, cond-false}
 use Rattle.nj_outside.specs.Fnv.{fnv_of}
 use Rattle.nj_saved.specs.declared.saved.Saved.{Saved}
 use Rattle.nj_saved.specs.declared.refusal.SavedRefused.{SavedRefused}
-use Rattle.nj_saved.specs.Fields.{is_named, u64_at, version_of, keys_end, contents_of}
+use Rattle.nj_saved.specs.Fields.{u64_at, version_of, keys_end, contents_of}
 use Rattle.nj_saved.specs.Reading.{Test, first_refusal, accepted_unless, identity_tests, size_tests, generations_tests, hash_tests, trailing, tail_tests, tests_of, saved_of}
-use Rattle.nj_saved.proofs.Tests.{Accepts, first_passes}
+use Rattle.nj_saved.proofs.Refusals.{Accepts, first_passes}
 
 -- nothing is refused of tests whose reading is accepted
 pub accepted : (file : List ℕ) (cart script : ℕ) (saved : Saved) → saved_of file cart script ≡ Ok saved → first_refusal (tests_of file cart script) ≡ None

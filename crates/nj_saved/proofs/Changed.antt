@@ -1,5 +1,5 @@
 -- Two files of which nothing is refused, the first of version 2, do not differ in one byte alone.
-use Rattle.std.proofs.Common.{◌≡◌, ◌⊎◌, inl, inr, ℕ, zero, suc, ◌+◌, ◌-◌, ◌*◌, ◌^◌, ◌<◌, ◌≤◌, ◌≢◌, List, [], ◌∷◌, ◌++◌, length, take, drop, All, slice_index_or, refl, sym, ap, ◌∙◌, arith, length-append, take_at, drop_at, drop-drop, take-append-drop, take_all, length-drop, take-add, subst, ap₂, le_of_suc-le-suc}
+use Rattle.std.proofs.Common.{◌≡◌, inl, inr, ℕ, zero, suc, ◌+◌, ◌-◌, ◌*◌, ◌<◌, ◌≤◌, List, ◌∷◌, ◌++◌, length, take, drop, All, slice_index_or, refl, sym, ap, ◌∙◌, arith, length-append, take_at, drop_at, drop-drop, take-append-drop, take_all, length-drop, take-add, subst, ap₂, le_of_suc-le-suc}
 use Rattle.std.specs.Prelude.{None}
 use Rattle.std.specs.Int.{w32, w64, from_le_bytes, to_le_bytes}
 use Rattle.std.proofs.lemmas.Bool.{cases_lt}
@@ -8,7 +8,7 @@ use Rattle.std.proofs.lemmas.List.Elements.{All-append, All-take, All-drop}
 use Rattle.std.proofs.lemmas.Nat.{le_bytes_8}
 use Rattle.nj_outside.specs.Fnv.{fnv_of}
 use Rattle.nj_saved.specs.Fields.{u32_at, u64_at, version_of, words_end, place_of, keys_end, count_of, front_of, step_of}
-use Rattle.nj_saved.specs.Reading.{first_refusal, tests_of, identity_tests, tail_tests}
+use Rattle.nj_saved.specs.Reading.{first_refusal, tests_of}
 use Rattle.nj_saved.proofs.Hash.{same_text}
 use Rattle.nj_saved.proofs.Accepted.{IsSealed, versions, head_passes, tail_passes, sealed, ended}
 

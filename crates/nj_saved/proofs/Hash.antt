@@ -1,5 +1,5 @@
 -- A changed byte changes the hash: each step of FNV-1a can be undone.
-use Rattle.std.proofs.Common.{◌≡◌, ℕ, suc, ◌+◌, ◌*◌, ◌%◌, ◌^◌, ◌<◌, List, [], ◌∷◌, ◌++◌, length, bit_xor, All, refl, sym, ap, ◌∙◌, arith, mul_assoc, mul-one, mod-eq_of_lt, suc-le-suc}
+use Rattle.std.proofs.Common.{◌≡◌, ℕ, suc, ◌+◌, ◌*◌, ◌%◌, ◌^◌, ◌<◌, List, [], ◌∷◌, ◌++◌, bit_xor, All, sym, ap, ◌∙◌, arith, mul_assoc, mul-one, mod-eq_of_lt, suc-le-suc}
 use Rattle.std.proofs.lemmas.Nat.{mul-mod_first, mul-mod_second, xor_lt, xor_comm, mod_below}
 use Rattle.std.proofs.lemmas.Nat.Bits.{bit_at_xor, bit_at-lt, same_from_bits}
 use Rattle.std.proofs.lemmas.List.Sums.{fold-append}

@@ -1,12 +1,12 @@
 -- A file of which nothing is refused has its head, its generations reach no further than it, and they have few keys.
-use Rattle.std.proofs.Common.{◌≡◌, ◌⊎◌, inl, inr, ℕ, zero, suc, ◌+◌, ◌-◌, ◌*◌, ◌<◌, ◌≤◌, ◌==◌, ◌||◌, ◌&&◌, not, Bool, true, false, List, length, sym, refl, ap, ◌∙◌, subst, arith, add-one, nat_le, nat_lt, ltb-false, leb-true, eqb-true}
+use Rattle.std.proofs.Common.{◌≡◌, ℕ, zero, suc, ◌+◌, ◌-◌, ◌*◌, ◌≤◌, not, true, false, List, length, refl, arith, nat_le, ltb-false, leb-true, eqb-true}
 use Rattle.std.specs.Prelude.{None}
 use Rattle.std.specs.Int.{is_in_range}
 use Rattle.std.proofs.lemmas.Bool.{not-false, and_parts}
-use Rattle.nj_saved.specs.Fields.{is_named, u32_at, u64_at, version_of, step_of, front_of, count_of, words_end, place_of, key_place, keys_at, generations_below, keys_end}
-use Rattle.nj_saved.specs.Reading.{Test, first_refusal, identity_tests, size_tests, is_front, count_tests, key_tests, tests_below, generation_tests, generations_tests, key_count, HasHead}
+use Rattle.nj_saved.specs.Fields.{is_named, u32_at, u64_at, step_of, front_of, count_of, words_end, place_of, key_place, keys_at, generations_below, keys_end}
+use Rattle.nj_saved.specs.Reading.{first_refusal, identity_tests, size_tests, count_tests, key_tests, tests_below, generation_tests, generations_tests, key_count, HasHead}
 use Rattle.nj_saved.specs.Steps.{AreGenerationsTo}
-use Rattle.nj_saved.proofs.Tests.{Accepts}
+use Rattle.nj_saved.proofs.Refusals.{Accepts}
 use Rattle.nj_saved.proofs.Accepted.{first_of, others_of, this_passes, then_passes}
 use Rattle.nj_saved.proofs.InRange.{passes_at, length_below}
 use Rattle.nj_saved.proofs.Keys.{key_count_more}

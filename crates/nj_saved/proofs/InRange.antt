@@ -1,15 +1,14 @@
 -- A file of which nothing is refused has its fields in their ranges.
-use Rattle.std.proofs.Common.{◌≡◌, ℕ, zero, suc, ◌+◌, ◌-◌, ◌*◌, ◌/◌, ◌<◌, ◌≤◌, ◌||◌, ◌&&◌, not, Bool, true, false, List, [], ◌∷◌, ◌++◌, length, take, drop, slice_index, slice_index_or, slice_range, inl, inr, refl, sym, ap, ◌∙◌, subst, arith, add-one, nat_le, nat_lt, leb-true, leb-false, length-drop, length-take, mul-div_cancel, take_all}
+use Rattle.std.proofs.Common.{◌≡◌, ℕ, zero, suc, ◌+◌, ◌-◌, ◌*◌, ◌/◌, ◌<◌, ◌≤◌, false, List, [], ◌∷◌, length, take, drop, slice_index, slice_index_or, slice_range, inl, inr, refl, sym, ap, ◌∙◌, subst, arith, add-one, nat_le, leb-true, leb-false, length-drop, length-take, mul-div_cancel, take_all}
 use lib.ListN.{get_or-append}
 use Rattle.std.specs.Prelude.{None}
 use Rattle.std.proofs.lemmas.Bool.{cases_lt, not-false, and_parts, or_parts}
 use Rattle.std.proofs.lemmas.List.{length_push, get_or_push, take-append-le}
-use Rattle.nj_saved.specs.declared.saved.Saved.{Saved}
 use Rattle.nj_saved.specs.Fields.{u32_at, u64_at, list_below, place_of, key_place, key_before, keys_at, generations_below, count_of, front_of, step_of, words_end, contents_of}
 use Rattle.nj_saved.specs.Reading.{Test, first_refusal, tests_below, key_tests, count_tests, generation_tests, generations_tests, key_count, has_key, HasHead}
-use Rattle.nj_saved.specs.Ranges.{words_of, IsNext, AreGenerations, IsInRange}
+use Rattle.nj_saved.specs.Ranges.{IsNext, AreGenerations, IsInRange}
 use Rattle.nj_saved.specs.Steps.{AreGenerationsTo}
-use Rattle.nj_saved.proofs.Tests.{Accepts}
+use Rattle.nj_saved.proofs.Refusals.{Accepts}
 use Rattle.nj_saved.proofs.Accepted.{first_of, others_of, this_passes, then_passes}
 
 -- ---- the values of a function below a number

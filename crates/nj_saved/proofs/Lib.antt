@@ -8,7 +8,7 @@ pub mod Loops
 pub mod Passing
 pub mod Pieces
 pub mod Placed
+pub mod Refusals
 pub mod Said
-pub mod Tests
 pub mod Whole
 pub mod Written

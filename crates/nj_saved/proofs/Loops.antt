@@ -1,14 +1,14 @@
 -- The loops of the reading, key by key and generation by generation.
-use Rattle.std.proofs.Common.{◌≡◌, ◌⊎◌, inl, inr, ℕ, zero, suc, ◌+◌, ◌*◌, ◌<◌, ◌≤◌, List, [], ◌∷◌, ◌++◌, length, MatchResult, refl, sym, ap, ap₂, ◌∙◌, subst, arith, add-one}
+use Rattle.std.proofs.Common.{◌≡◌, ◌⊎◌, inl, inr, ℕ, ◌+◌, ◌*◌, ◌<◌, ◌≤◌, List, [], ◌∷◌, ◌++◌, length, MatchResult, refl, sym, ap, ap₂, ◌∙◌, subst, arith, add-one}
 use Rattle.std.specs.Prelude.{None, Some, Result, Ok, Err}
 use Rattle.std.proofs.lemmas.List.{length_push}
 use Rattle.nj_saved.specs.declared.refusal.SavedRefused.{SavedRefused}
 use Rattle.nj_saved.specs.declared.refusal.SavedRefused.TheVariants.{NoMemory}
-use Rattle.nj_saved.specs.Fields.{u32_at, u64_at, list_below, place_of, key_place, key_before, keys_at, generations_below, count_of, words_end, keys_end}
+use Rattle.nj_saved.specs.Fields.{u32_at, u64_at, list_below, place_of, key_place, key_before, keys_at, generations_below, count_of, words_end}
 use Rattle.nj_saved.specs.Reading.{Test, first_refusal, tests_below, key_tests, count_tests, generation_tests, generations_tests, key_count}
 use Rattle.nj_saved.specs.Steps.{AreKeys, IsNextGeneration, AreGenerationsTo}
 use Rattle.nj_saved.proofs.Keys.{key_count_more}
-use Rattle.nj_saved.proofs.Tests.{first_stays, first_passes, refused_at, passed_at}
+use Rattle.nj_saved.proofs.Refusals.{first_stays, first_passes, refused_at, passed_at}
 
 -- ---- keys
 

@@ -1,13 +1,13 @@
 -- Nothing is refused of generations that stand at their places and are in their ranges.
-use Rattle.std.proofs.Common.{◌≡◌, ℕ, zero, suc, ◌+◌, ◌-◌, ◌*◌, ◌^◌, ◌<◌, ◌≤◌, ◌==◌, ◌||◌, ◌&&◌, not, Bool, true, false, List, [], ◌∷◌, ◌++◌, length, take, drop, slice_index, slice_index_or, refl, sym, ap, ◌∙◌, subst, arith, le-ltb, le-leb, nat_lt, nat_le, add-one}
+use Rattle.std.proofs.Common.{◌≡◌, ℕ, zero, suc, ◌+◌, ◌*◌, ◌<◌, ◌≤◌, ◌&&◌, not, Bool, true, false, List, [], ◌∷◌, ◌++◌, length, take, slice_index, slice_index_or, refl, ap, ◌∙◌, subst, arith, le-ltb, le-leb, nat_le, add-one}
 use Rattle.std.specs.Prelude.{None}
 use Rattle.std.proofs.lemmas.Bool.{lt-leb, or_from}
 use Rattle.std.proofs.lemmas.List.Sums.{sum_by_more, sum_by-take-le}
 use Rattle.nj_saved.specs.declared.refusal.SavedRefused.{SavedRefused}
 use Rattle.nj_saved.specs.Fields.{u32_at, u64_at, place_of, key_place, key_before, generations_below}
-use Rattle.nj_saved.specs.Reading.{Test, first_refusal, tests_below, key_tests, count_tests, generation_tests, generations_tests, key_count, has_key}
+use Rattle.nj_saved.specs.Reading.{Test, first_refusal, tests_below, key_tests, count_tests, generation_tests, key_count, has_key}
 use Rattle.nj_saved.specs.Ranges.{IsNext, AreGenerations}
-use Rattle.nj_saved.proofs.Tests.{Accepts, first_passes}
+use Rattle.nj_saved.proofs.Refusals.{Accepts, first_passes}
 use Rattle.nj_saved.proofs.Placed.{IsKeyAt, IsGenerationAt}
 
 -- a test that passes, and then those behind it

@@ -1,11 +1,11 @@
 -- The reading of a file, test by test.
-use Rattle.std.proofs.Common.{◌≡◌, ℕ, List, ◌++◌, refl, sym, ap, ◌∙◌, subst}
+use Rattle.std.proofs.Common.{◌≡◌, ℕ, List, ◌++◌, sym, ap, ◌∙◌}
 use Rattle.std.specs.Prelude.{None, Some, Ok, Err}
 use Rattle.nj_saved.specs.declared.refusal.SavedRefused.{SavedRefused}
 use Rattle.nj_saved.specs.Fields.{keys_end, contents_of}
 use Rattle.nj_saved.specs.Reading.{first_refusal, accepted_unless, identity_tests, size_tests, generations_tests, tail_tests, tests_of, saved_of}
 use Rattle.nj_saved.specs.Steps.{AreGenerationsTo}
-use Rattle.nj_saved.proofs.Tests.{first_stays, first_passes}
+use Rattle.nj_saved.proofs.Refusals.{first_stays, first_passes}
 
 module _ (file : List ℕ) (cart script : ℕ) where
   refuses : (refused : SavedRefused) → first_refusal (tests_of file cart script) ≡ Some refused → saved_of file cart script ≡ Err refused

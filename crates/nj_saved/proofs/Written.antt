@@ -1,21 +1,20 @@
 -- What was written is read again.
-use Rattle.std.proofs.Common.{◌≡◌, ℕ, zero, suc, ◌+◌, ◌-◌, ◌*◌, ◌/◌, ◌^◌, ◌<◌, ◌≤◌, ◌==◌, ◌||◌, ◌&&◌, not, Bool, true, false, List, [], ◌∷◌, ◌++◌, length, take, drop, slice_index_or, slice_range, flat_map, inl, inr, refl, sym, ap, ◌∙◌, subst, arith, le-ltb, le-leb, nat_lt, nat_le, eq-eqb, append_assoc, append-nil, length-append, length-drop, take_at, drop_at, take_all, cond}
-use Rattle.std.specs.Prelude.{Option, None, Some, Result, Ok, Err, if◌then◌else◌}
-use Rattle.std.specs.Int.{w32, w64, to_le_bytes, is_in_range}
+use Rattle.std.proofs.Common.{◌≡◌, ℕ, ◌+◌, ◌-◌, ◌*◌, ◌^◌, ◌<◌, ◌≤◌, ◌==◌, ◌||◌, not, true, false, List, [], ◌∷◌, ◌++◌, length, take, drop, slice_index_or, slice_range, flat_map, inl, inr, refl, sym, ap, ◌∙◌, subst, arith, le-ltb, le-leb, nat_le, eq-eqb, append_assoc, append-nil, length-append, length-drop, take_at, drop_at, take_all}
+use Rattle.std.specs.Prelude.{None, Ok}
+use Rattle.std.specs.Int.{w64, to_le_bytes, is_in_range}
 use Rattle.std.proofs.lemmas.Nat.{from_le_bytes-to_le_bytes_4, from_le_bytes-to_le_bytes_8}
 use Rattle.std.proofs.lemmas.List.Sums.{get_or-le-sum_by}
 use Rattle.std.proofs.lemmas.List.{get_or_past, drop_all}
 use Rattle.std.proofs.lemmas.Bool.{cases_lt, cond-true, cond-false, and_from}
 use Rattle.nj_outside.specs.Fnv.{fnv_of}
 use Rattle.nj_saved.specs.declared.saved.Saved.{Saved}
-use Rattle.nj_saved.specs.declared.refusal.SavedRefused.{SavedRefused}
 use Rattle.nj_saved.specs.Fields.{file_name, is_named, u32_at, u64_at, version_of, step_of, front_of, count_of, words_end, place_of, keys_end, generations_below, contents_of}
-use Rattle.nj_saved.specs.Reading.{Test, first_refusal, accepted_unless, cut, outside, trailing, is_front, identity_tests, size_tests, generations_tests, hash_tests, tail_tests, generation_tests, tests_below, tests_of, saved_of, key_count}
+use Rattle.nj_saved.specs.Reading.{first_refusal, accepted_unless, trailing, is_front, identity_tests, size_tests, generations_tests, hash_tests, tail_tests, generation_tests, tests_below, tests_of, saved_of, key_count}
 use Rattle.nj_saved.specs.Ranges.{words_of, IsInRange, Fits}
 use Rattle.nj_saved.specs.Bytes.{generation_bytes, head_bytes, field_bytes, file_bytes}
 use Rattle.nj_saved.proofs.Hash.{hash_fits}
 use Rattle.nj_saved.proofs.Passing.{passes, no_more, both_pass, generations_pass}
-use Rattle.nj_saved.proofs.Tests.{Accepts}
+use Rattle.nj_saved.proofs.Refusals.{Accepts}
 use Rattle.nj_saved.proofs.Placed.{number8, behind, places, each_there, generations_are}
 
 -- the numbers of the head, whatever stands behind it

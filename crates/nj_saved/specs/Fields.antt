@@ -1,7 +1,7 @@
 -- The fields of a saved file, by their places. The format is our own: each number has its least byte first.
-use Rattle.std.specs.Prelude.{◌≡◌, ℕ, zero, suc, ◌+◌, ◌*◌, ◌==◌, Bool, true, ◌||◌, nat_eq, List, [], ◌∷◌, ◌++◌, length, take, slice_range}
+use Rattle.std.specs.Prelude.{ℕ, zero, suc, ◌+◌, ◌*◌, Bool, nat_eq, List, [], ◌∷◌, ◌++◌, take, slice_range}
 use Rattle.std.specs.Int.{w32, w64, from_le_bytes}
-use Rattle.std.specs.List.{starts_with, list_any}
+use Rattle.std.specs.List.{starts_with}
 use Rattle.nj_saved.specs.declared.saved.Saved.{Saved}
 
 -- the file's first four bytes, `NJSV`
@@ -12,10 +12,11 @@ file_name = 78 ∷ 74 ∷ 83 ∷ 86 ∷ []
 unfoldable pub is_named : List ℕ → Bool
 is_named file = starts_with nat_eq file_name (take 4 file)
 
--- the numbers of four and of eight bytes at a place
+-- the number of four bytes at a place
 unfoldable pub u32_at : List ℕ → ℕ → ℕ
 u32_at file at = from_le_bytes w32 (slice_range file at (at + 4))
 
+-- the number of eight bytes at a place
 unfoldable pub u64_at : List ℕ → ℕ → ℕ
 u64_at file at = from_le_bytes w64 (slice_range file at (at + 8))
 

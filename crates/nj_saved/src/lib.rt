@@ -15,8 +15,6 @@ mod reading;
 mod refusal;
 mod saved;
 mod tail;
-#[cfg(test)]
-mod tests;
 mod writing;
 
 pub use laws::{a_changed_byte_is_refused, a_file_says_its_search, what_was_written_is_read};

@@ -31,6 +31,7 @@ impl Model for Older {
 }
 
 impl Older {
+    /// No generations. It takes no memory.
     pub fn new(alloc: Global) -> Self
         ensures { result ≡ [] }
     {
@@ -41,21 +42,21 @@ impl Older {
         }
     }
 
-    // The number of keys.
+    /// The number of keys.
     pub fn count(&self) -> u64
         ensures { result ≡ key_count self.now }
     {
         self.count
     }
 
-    // Whether one of the generations has the key.
+    /// Whether one of the generations has the key.
     pub fn has(&self, key: u64) -> bool
         ensures { result ≡ has_key self.now key }
     {
         self.keys.contains(&key)
     }
 
-    // These generations and then one more.
+    /// These generations and then one more.
     pub fn with(self, keys: Seq<u64>) -> Result<Self, AllocError>
         requires { key_count self + length keys < 2 ^ 64 }
         ensures { IfOk result (λ older. older ≡ self ++ keys ∷ []) }
@@ -75,7 +76,7 @@ impl Older {
         })
     }
 
-    // The generations themselves. No memory is taken.
+    /// The generations themselves. No memory is taken.
     pub fn into_generations(self) -> Seq<Seq<u64>>
         ensures { result ≡ self }
     {

@@ -1,5 +1,5 @@
 -- One key more.
-use Rattle.std.proofs.Common.{◌≡◌, ◌<◌, inr, subst, sym, ◌∙◌, arith}
+use Rattle.std.proofs.Common.{◌≡◌, ◌<◌, inr, subst, sym, arith}
 use Rattle.std.proofs.lemmas.Result.{err_from_is_err_and}
 use Rattle.nj_saved.specs.Fields.{u32_at}
 use Rattle.nj_saved.specs.Steps.{AreKeys}

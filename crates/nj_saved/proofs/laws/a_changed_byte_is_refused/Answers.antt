@@ -1,5 +1,5 @@
 -- A changed byte is refused, since two files of which nothing is refused do not differ in one byte.
-use Rattle.std.proofs.Common.{◌≡◌, ◌++◌, ◌∷◌, ℕ, List, refl, rules}
+use Rattle.std.proofs.Common.{◌≡◌, ◌++◌, ◌∷◌, refl, rules}
 use Rattle.std.specs.Prelude.{Result, Ok, Err, IsErr}
 use Rattle.nj_saved.specs.declared.saved.Saved.{Saved}
 use Rattle.nj_saved.specs.declared.refusal.SavedRefused.{SavedRefused}

@@ -1,7 +1,7 @@
-use crate::SavedRefused::{
+use nj_saved::SavedRefused::{
     Damaged, NotSaved, OtherCartridge, OtherScript, Range, Short, Trailing, Version,
 };
-use crate::{Saved, SavedRefused, Seq, read_saved, write_saved};
+use nj_saved::{Saved, Seq, read_saved, write_saved};
 use nj_outside::fnv;
 use std::test::Fail;
 
@@ -36,72 +36,70 @@ fn a_search_is_written_and_read(rt: HostRuntime) -> Result<(), Fail> {
     assert_eq!(rt; file.as_slice(), FILE.as_slice());
     let read = read_saved(alloc, file.as_slice(), CART, SCRIPT)?;
     assert_eq!(rt; read.words.as_slice(), [0x80, 0x01, 0x00, 0xFF].as_slice());
-    assert_eq!(rt; read.generations.at(1).as_slice(), [3, 7].as_slice());
+    let generations = read.generations.as_slice();
+    assert_eq!(rt; generations.len(), 2);
+    assert_eq!(rt; generations[generations.len() - 1].as_slice(), [3, 7].as_slice());
     Ok(())
 }
 
 // The file with another byte at a place.
+fn changed(at: usize, byte: u8) -> [u8; 88] {
+    let mut file = FILE;
+    if let Some(place) = file.get_mut(at) {
+        *place = byte;
+    }
+    file
+}
+
 #[test]
-fn changed_bytes_are_refused(rt: HostRuntime) -> Result<(), Fail> {
+fn changed_bytes_are_refused(rt: HostRuntime) {
+    let kept = 0x1222_3344_5566_7788;
     for (at, byte, want) in [
         (3, b'v', NotSaved),
         (4, 9, Version { n: 9 }),
         (4, 1, Trailing { at: 80 }),
-        (
-            15,
-            0x12,
-            OtherCartridge {
-                kept: 0x1222_3344_5566_7788,
-                now: CART,
-            },
-        ),
-        (
-            16,
-            1,
-            OtherScript {
-                kept: SCRIPT + 1,
-                now: SCRIPT,
-            },
-        ),
+        (15, 0x12, OtherCartridge { kept, now: CART }),
         (24, 0, Range { at: 24 }),
         (28, 0, Range { at: 28 }),
+        (29, 1, Short { at: 88 }),
         (32, 129, Range { at: 32 }),
         (39, 3, Range { at: 36 }),
         (40, 4, Range { at: 40 }),
-        (29, 1, Short { at: 88 }),
         (48, 0, Range { at: 48 }),
         (52, 0, Range { at: 52 }),
-        (64, 7, Range { at: 72 }),
-        (64, 5, Range { at: 64 }),
         (60, 4, Short { at: 88 }),
+        (64, 5, Range { at: 64 }),
+        (64, 7, Range { at: 72 }),
     ] {
-        let mut file = FILE;
-        file[at] = byte;
+        let file = changed(at, byte);
         let read = read_saved(rt.alloc(), &file, CART, SCRIPT);
         assert_eq!(rt; read.err(), Some(want));
     }
-    let mut file = FILE;
-    file[45] = 2;
-    let (kept, now) = (0x5ADB_4F70_52A5_E542, fnv(&file[..80]));
+    let file = changed(45, 2);
+    let kept = 0x5ADB_4F70_52A5_E542;
+    let now = fnv(&file[..80]);
     let read = read_saved(rt.alloc(), &file, CART, SCRIPT);
     assert_eq!(rt; read.err(), Some(Damaged { kept, now }));
-    Ok(())
+    let read = read_saved(rt.alloc(), &file, CART, SCRIPT - 1);
+    let (kept, now) = (SCRIPT, SCRIPT - 1);
+    assert_eq!(rt; read.err(), Some(OtherScript { kept, now }));
 }
 
 // Files that end early or late, and a file of version 1.
 #[test]
-fn lengths(rt: HostRuntime) -> Result<(), Fail> {
-    for length in [0, 3, 43, 47, 60, 87] {
-        let read = read_saved(rt.alloc(), &FILE[..length], CART, SCRIPT);
-        assert_eq!(rt; read.err(), Some(Short { at: length as u64 }));
+fn files_end_where_they_say(rt: HostRuntime) -> Result<(), Fail> {
+    for at in [0, 3, 43, 47, 60, 87] {
+        let mut file = Vec::from_slice(rt.alloc(), &FILE)?;
+        file.truncate(at as usize);
+        let read = read_saved(rt.alloc(), file.as_slice(), CART, SCRIPT);
+        assert_eq!(rt; read.err(), Some(Short { at }));
     }
     let mut longer = Vec::from_slice(rt.alloc(), &FILE)?;
     longer.push(0)?;
     let read = read_saved(rt.alloc(), longer.as_slice(), CART, SCRIPT);
     assert_eq!(rt; read.err(), Some(Trailing { at: 88 }));
-    let mut first = Vec::from_slice(rt.alloc(), &FILE[..80])?;
-    first[4] = 1;
-    let read = read_saved(rt.alloc(), first.as_slice(), CART, SCRIPT)?;
+    let first = changed(4, 1);
+    let read = read_saved(rt.alloc(), &first[..80], CART, SCRIPT)?;
     assert_eq!(rt; read.until, 3);
     Ok(())
 }
