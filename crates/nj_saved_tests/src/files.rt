@@ -1,8 +1,8 @@
+use nj_outside::fnv;
 use nj_saved::SavedRefused::{
     Damaged, NotSaved, OtherCartridge, OtherScript, Range, Short, Trailing, Version,
 };
 use nj_saved::{Saved, Seq, read_saved, write_saved};
-use nj_outside::fnv;
 use std::test::Fail;
 
 const CART: u64 = 0x1122_3344_5566_7788;
@@ -38,7 +38,10 @@ fn a_search_is_written_and_read(rt: HostRuntime) -> Result<(), Fail> {
     assert_eq!(rt; read.words.as_slice(), [0x80, 0x01, 0x00, 0xFF].as_slice());
     let generations = read.generations.as_slice();
     assert_eq!(rt; generations.len(), 2);
-    assert_eq!(rt; generations[generations.len() - 1].as_slice(), [3, 7].as_slice());
+    assert_eq!(rt;
+        generations[generations.len() - 1].as_slice(),
+        [3, 7].as_slice()
+    );
     Ok(())
 }
 
