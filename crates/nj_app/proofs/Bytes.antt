@@ -1,6 +1,6 @@
 -- The pads of a word that wins a search are bytes, where those of the start and of the script are.
 use Rattle.std.proofs.Common.{◌≡◌, ◌<◌, ◌+◌, ◌*◌, ℕ, zero, suc, Bool, true, false, cond, List, [], ◌∷◌, ◌++◌, replicate, Option, Some, None, refl, sym, subst}
-use Rattle.std.specs.List.{All, Contains, flat_map}
+use Rattle.std.specs.List.{All}
 use Rattle.std.proofs.lemmas.List.Elements.{All-append, All-cons, All-contains, All-filter, All-head, All-nil, All-replicate, All-tail, All-weaker}
 use Rattle.nj_game.specs.Plan.{Plan, held_pads, movie_of}
 use Rattle.nj_game.specs.Words.{allowed_of, game_of, ram_after}

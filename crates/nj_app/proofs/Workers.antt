@@ -1,13 +1,13 @@
 -- The number of workers changes nothing of the answer.
-use Rattle.std.proofs.Common.{◌≡◌, ℕ, Bool, true, false, cond, List, [], ◌∷◌, map, codes, Option, Some, None, option_and_then, refl, sym, ap, ap₂, ◌∙◌, subst}
+use Rattle.std.proofs.Common.{◌≡◌, ℕ, Bool, true, false, cond, List, [], ◌∷◌, map, codes, Option, Some, None, option_and_then, refl, sym, ap, ◌∙◌, subst}
 use Rattle.std.specs.Prelude.{if◌then◌else◌, IfSome}
 use Rattle.std.specs.List.{All, find}
 use Rattle.std.specs.Str.{bytes_eq}
 use Rattle.std.proofs.lemmas.List.Elements.{All-cons, All-head, All-nil, All-tail}
 use Rattle.std.proofs.lemmas.Slice.Eq.{bytes_eq-Decides}
-use Rattle.nj_words.specs.Commands.{Row, asm_row, check_row, command_of, name_at, play_row, reading, replay_row, search_form, search_of, search_options_of, search_row, table, workload_row}
-use Rattle.nj_words.specs.Grammar.{PiecesAreSaid, Says}
-use Rattle.nj_words.specs.Options.{number_or, value_at}
+use Rattle.nj_words.specs.Commands.{Row, asm_row, check_row, clean_row, command_of, name_at, play_row, reading, replay_row, search_form, search_of, search_options_of, search_row, table, trace_of, trace_row, watch_row, workload_row}
+use Rattle.nj_words.specs.Grammar.{PiecesAreSaid}
+use Rattle.nj_words.specs.Options.{number_or}
 use Rattle.nj_words.specs.Words.{Form, Piece, Taken, Word, fits, name, names_in, option, pieces, taken, taken_from, value_in}
 use Rattle.nj_words.specs.declared.Command.{Command}
 use Rattle.nj_words.specs.declared.Command.TheVariants.{Search}
@@ -146,15 +146,25 @@ module _ (said others : List Piece) (same : beside_workers said ≡ beside_worke
         with_names : List Word → Taken
         with_names words = record { names = words; values = [] }
 
+  -- a trace takes the same names and the same frame
+  tracing_row : IsOneWork trace_row
+  tracing_row = one_command _ _ (taken_same (same_names said others same) (same_value (codes "frame") refl said others same)) where
+    taken_same : names_in said ≡ names_in others → value_in said (codes "frame") ≡ value_in others (codes "frame") →
+        trace_of (taken_as trace_row.form said) ≡ trace_of (taken_as trace_row.form others)
+    taken_same names frame = λ i. trace_of (record { names = names i; values = frame i ∷ [] })
+
   each_row : All IsOneWork table
   each_row =
-      All-cons IsOneWork play_row (search_row ∷ replay_row ∷ check_row ∷ workload_row ∷ asm_row ∷ [])
+      All-cons IsOneWork play_row (search_row ∷ replay_row ∷ check_row ∷ workload_row ∷ asm_row ∷ clean_row ∷ trace_row ∷ watch_row ∷ [])
       (plain_row play_row refl)
-      (All-cons IsOneWork search_row (replay_row ∷ check_row ∷ workload_row ∷ asm_row ∷ []) searching_row
-      (All-cons IsOneWork replay_row (check_row ∷ workload_row ∷ asm_row ∷ []) (plain_row replay_row refl)
-      (All-cons IsOneWork check_row (workload_row ∷ asm_row ∷ []) (plain_row check_row refl)
-      (All-cons IsOneWork workload_row (asm_row ∷ []) (plain_row workload_row refl)
-      (All-cons IsOneWork asm_row [] (plain_row asm_row refl) (All-nil IsOneWork))))))
+      (All-cons IsOneWork search_row (replay_row ∷ check_row ∷ workload_row ∷ asm_row ∷ clean_row ∷ trace_row ∷ watch_row ∷ []) searching_row
+      (All-cons IsOneWork replay_row (check_row ∷ workload_row ∷ asm_row ∷ clean_row ∷ trace_row ∷ watch_row ∷ []) (plain_row replay_row refl)
+      (All-cons IsOneWork check_row (workload_row ∷ asm_row ∷ clean_row ∷ trace_row ∷ watch_row ∷ []) (plain_row check_row refl)
+      (All-cons IsOneWork workload_row (asm_row ∷ clean_row ∷ trace_row ∷ watch_row ∷ []) (plain_row workload_row refl)
+      (All-cons IsOneWork asm_row (clean_row ∷ trace_row ∷ watch_row ∷ []) (plain_row asm_row refl)
+      (All-cons IsOneWork clean_row (trace_row ∷ watch_row ∷ []) (plain_row clean_row refl)
+      (All-cons IsOneWork trace_row (watch_row ∷ []) tracing_row
+      (All-cons IsOneWork watch_row [] (plain_row watch_row refl) (All-nil IsOneWork)))))))))
 
 -- what holds of each row holds of the one that is found
 found_row : (P : Row → Type 0) (test : Row → Bool) (rows : List Row) → All P rows → IfSome (find test rows) P

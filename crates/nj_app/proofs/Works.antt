@@ -4,15 +4,18 @@ use Rattle.nj_game.specs.Plan.{plan_of}
 use Rattle.nj_ines.specs.Cartridge.{Cartridge}
 use Rattle.nj_script.specs.Script.{Record}
 use Rattle.nj_words.specs.declared.Command.{Command}
-use Rattle.nj_words.specs.declared.Command.TheVariants.{Asm, Check, Play, Replay, Search}
+use Rattle.nj_words.specs.declared.Command.TheVariants.{Asm, Check, Clean, Play, Replay, Search, Trace, Watch}
 use Rattle.nj_words.specs.declared.SearchOptions.{SearchOptions}
 use Rattle.nj_app.specs.Answer.{work_of}
 use Rattle.nj_app.specs.Asm.{asm_work, listed_work}
 use Rattle.nj_app.specs.Check.{check_work, checked_work}
+use Rattle.nj_app.specs.Clean.{clean_work, cleaned_work}
 use Rattle.nj_app.specs.Formats.{cart_format, loaded, movie_format, script_format, source_format}
 use Rattle.nj_app.specs.Play.{play_work, played_work}
 use Rattle.nj_app.specs.Replay.{judged_work, replay_work}
 use Rattle.nj_app.specs.Search.{found_work, limits_of, search_work}
+use Rattle.nj_app.specs.Trace.{trace_work, traced_work}
+use Rattle.nj_app.specs.Watch.{watch_work, watched_work}
 use Rattle.nj_app.specs.Work.{Work, both}
 
 -- what a search reads
@@ -60,3 +63,31 @@ module _ (command : Command) where
   unfolding work_of replay_work
   replay_is cart script start movie a b d e is p q r t =
       ap₂ (λ x y. replay_work x y d e) p q ∙ ap₂ (λ x y. replay_work cart script x y) r t ∙ ap work_of (sym is)
+
+  -- `clean`
+  pub clean_is : (cart script start movie a b d e : List ℕ) → command ≡ Clean cart script start movie →
+      a ≡ cart → b ≡ script → d ≡ start → e ≡ movie →
+      both (both (loaded cart_format a) (loaded script_format b)) (both (loaded movie_format d) (loaded movie_format e))
+      (λ said. cleaned_work said.0.0 said.0.1 said.1.0 said.1.1)
+      ≡ work_of command
+  unfolding work_of clean_work
+  clean_is cart script start movie a b d e is p q r t =
+      ap₂ (λ x y. clean_work x y d e) p q ∙ ap₂ (λ x y. clean_work cart script x y) r t ∙ ap work_of (sym is)
+
+  -- `trace`
+  pub trace_is : (cart movie a b : List ℕ) (frame n : ℕ) → command ≡ Trace cart movie frame → a ≡ cart → b ≡ movie →
+      n ≡ frame →
+      both (loaded cart_format a) (loaded movie_format b) (λ said. traced_work n said.0 said.1) ≡ work_of command
+  unfolding work_of trace_work
+  trace_is cart movie a b frame n is p q r =
+      ap₂ (λ x y. trace_work x y n) p q ∙ ap (λ x. trace_work cart movie x) r ∙ ap work_of (sym is)
+
+  -- `watch`
+  pub watch_is : (cart script movie a b d : List ℕ) → command ≡ Watch cart script movie → a ≡ cart → b ≡ script →
+      d ≡ movie →
+      both (both (loaded cart_format a) (loaded script_format b)) (loaded movie_format d)
+      (λ said. watched_work said.0.0 said.0.1 said.1)
+      ≡ work_of command
+  unfolding work_of watch_work
+  watch_is cart script movie a b d is p q r =
+      ap₂ (λ x y. watch_work x y d) p q ∙ ap (λ z. watch_work cart script z) r ∙ ap work_of (sym is)

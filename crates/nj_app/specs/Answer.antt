@@ -4,16 +4,19 @@ use Rattle.std.specs.Option.{option_map_or}
 use Rattle.nj_outside.specs.Told.{Files}
 use Rattle.nj_app.specs.Asm.{asm_work}
 use Rattle.nj_app.specs.Check.{check_work}
+use Rattle.nj_app.specs.Clean.{clean_work}
 use Rattle.nj_app.specs.Formats.{cart_format, movie_format, names_of, script_format, source_format}
 use Rattle.nj_app.specs.Play.{play_work}
 use Rattle.nj_app.specs.Refusals.{usage_line}
 use Rattle.nj_app.specs.Replay.{replay_work}
 use Rattle.nj_app.specs.Search.{search_work}
+use Rattle.nj_app.specs.Trace.{trace_work}
+use Rattle.nj_app.specs.Watch.{watch_work}
 use Rattle.nj_app.specs.Workload.{workload_work}
 use Rattle.nj_app.specs.Work.{Answer, Work, Done, given, refused}
 use Rattle.nj_words.specs.Commands.{reading}
 use Rattle.nj_words.specs.declared.Command.{Command}
-use Rattle.nj_words.specs.declared.Command.TheVariants.{Asm, Check, Play, Replay, Search, Workload}
+use Rattle.nj_words.specs.declared.Command.TheVariants.{Asm, Check, Clean, Play, Replay, Search, Trace, Watch, Workload}
 
 -- the work of a command
 unfoldable pub work_of : Command → Work
@@ -23,6 +26,9 @@ work_of (Search cart script start options) = search_work cart script start optio
 work_of (Check cart script) = check_work cart script
 work_of (Workload number) = workload_work number
 work_of (Asm source) = asm_work source
+work_of (Clean cart script start movie) = clean_work cart script start movie
+work_of (Trace cart movie frame) = trace_work cart movie frame
+work_of (Watch cart script movie) = watch_work cart script movie
 
 -- the work of a command line: words without a reading are refused with status 3
 unfoldable pub work_for : List (List ℕ) → Work
@@ -47,3 +53,9 @@ file_names (Search cart script start options) =
 file_names (Check cart script) = names_of cart_format cart ++ names_of script_format script
 file_names (Workload number) = []
 file_names (Asm source) = names_of source_format source
+file_names (Clean cart script start movie) =
+    (names_of cart_format cart ++ names_of script_format script) ++
+    (names_of movie_format start ++ names_of movie_format movie)
+file_names (Trace cart movie frame) = names_of cart_format cart ++ names_of movie_format movie
+file_names (Watch cart script movie) =
+    (names_of cart_format cart ++ names_of script_format script) ++ names_of movie_format movie

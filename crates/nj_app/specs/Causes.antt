@@ -18,9 +18,8 @@ pub record IsPlain (status : ℕ) : Type 0 where
 abbrev pub statuses : List ℕ
 statuses = 0 ∷ 1 ∷ 2 ∷ 3 ∷ 4 ∷ 5 ∷ 6 ∷ 7 ∷ 8 ∷ 9 ∷ 10 ∷ 12 ∷ []
 
--- the statuses of a command that was carried out: it ended well, a replay did not end in a win, or a search was
--- exhausted or
--- came to its limit
+-- the statuses of a command that was carried out: it ended well, a movie that was replayed or to be cleaned
+-- does not win, or a search was exhausted or came to its limit
 abbrev pub IsCarriedOut : ℕ → Type 0
 IsCarriedOut status = (status ≡ 0) ⊎ ((status ≡ 10) ⊎ ((status ≡ 1) ⊎ (status ≡ 2)))
 

@@ -2,6 +2,7 @@ pub mod Answer
 pub mod Asm
 pub mod Causes
 pub mod Check
+pub mod Clean
 pub mod Formats
 pub mod Kinds
 pub mod Laws
@@ -11,6 +12,8 @@ pub mod Refusals
 pub mod Replay
 pub mod Search
 pub mod Stops
+pub mod Trace
+pub mod Watch
 pub mod Work
 pub mod Workload
 pub mod Workers

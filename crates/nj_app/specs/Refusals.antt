@@ -14,6 +14,8 @@ use Rattle.nj_search.specs.declared.planning.PlanRefused.{PlanRefused}
 use Rattle.nj_search.specs.declared.planning.PlanRefused.TheVariants as plans
 use Rattle.nj_script.specs.declared.refusal.ScriptRefused.{ScriptRefused}
 use Rattle.nj_script.specs.declared.refusal.ScriptRefused.TheVariants as scripts
+use Rattle.nj_trace.specs.declared.tracing.TraceRefused.{TraceRefused}
+use Rattle.nj_trace.specs.declared.tracing.TraceRefused.TheVariants as traces
 use Rattle.nj_app.specs.Kinds.{kind_name}
 use Rattle.nj_app.specs.declared.stops.Kind.{Kind}
 
@@ -40,6 +42,12 @@ unfoldable pub replay_refusal : ReplayRefused → List ℕ
 replay_refusal (replays.NotStart frame) = codes "3 NotStart frame=" ++ decimal frame
 replay_refusal (replays.NotHeld frame) = codes "4 NotHeld frame=" ++ decimal frame
 replay_refusal replays.NoMemory = []
+
+-- a frame that a movie does not have; want of memory is no refusal
+unfoldable pub trace_refusal : TraceRefused → List ℕ
+trace_refusal (traces.NoFrame frame frames) = codes "6 NoFrame frame=" ++
+    (decimal frame ++ (codes " frames=" ++ decimal frames))
+trace_refusal traces.NoMemory = []
 
 -- a byte of a text in a refusal: one from space to ~ as it is, and any other as ?
 unfoldable pub shown_byte : ℕ → ℕ

@@ -1,5 +1,5 @@
 -- `search CART SCRIPT START` with its options: the outcome of a planned search. Our own.
-use Rattle.std.specs.Prelude.{ℕ, List, Option, Result, Ok, Err}
+use Rattle.std.specs.Prelude.{ℕ, List, Result, Ok, Err}
 use Rattle.std.specs.Option.{option_map_or}
 use Rattle.nj_game.specs.Plan.{Plan, plan_of}
 use Rattle.nj_search.specs.Ends.{frames_most, outcome_of, told_of}

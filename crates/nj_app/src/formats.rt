@@ -40,6 +40,7 @@ pub const SOURCE: Bounds = Bounds {
     too_long: 8,
 };
 
+/// A file of a cartridge.
 #[derive(Clone, Copy)]
 pub struct CartFormat;
 
@@ -70,6 +71,7 @@ impl Format for CartFormat {
     }
 }
 
+/// A file of a script.
 #[derive(Clone, Copy)]
 pub struct ScriptFormat;
 
@@ -100,6 +102,7 @@ impl Format for ScriptFormat {
     }
 }
 
+/// A file of a movie; the name `-` is the empty one and no file.
 #[derive(Clone, Copy)]
 pub struct MovieFormat;
 
@@ -135,6 +138,7 @@ impl Format for MovieFormat {
     }
 }
 
+/// A file of a source.
 #[derive(Clone, Copy)]
 pub struct SourceFormat;
 

@@ -1,7 +1,7 @@
 //! The texts of refusals: a number, a name and each of its fields.
 
 ghost use Rattle.std.specs.Prelude.{◌≡◌, ◌<◌, ◌++◌, List, ℕ, map, IfOk, string_bytes};
-ghost use Rattle.nj_app.specs.Refusals.{asm_refusal, cart_refusal, movie_refusal, plan_refusal, replay_refusal, script_refusal, shown, shown_byte, too_long, refusal_line};
+ghost use Rattle.nj_app.specs.Refusals.{asm_refusal, cart_refusal, movie_refusal, plan_refusal, replay_refusal, script_refusal, shown, shown_byte, too_long, trace_refusal, refusal_line};
 ghost use Rattle.nj_app.specs.Stops.{IsRefusal};
 
 use crate::files::Bounds;
@@ -13,6 +13,7 @@ use nj_replay::ReplayRefused;
 use nj_script::ScriptRefused;
 use nj_search::PlanRefused;
 use nj_seq::Text;
+use nj_trace::TraceRefused;
 use std::alloc::{AllocError, Global};
 
 /// A refusal that is told in a line.
@@ -119,6 +120,20 @@ impl Refusal for ReplayRefused {
             ReplayRefused::NotStart { frame } => format!(in alloc; "3 NotStart frame={frame}"),
             ReplayRefused::NotHeld { frame } => format!(in alloc; "4 NotHeld frame={frame}"),
             ReplayRefused::NoMemory => Err(AllocError),
+        }
+    }
+}
+
+impl Refusal for TraceRefused {
+    ghost text = { trace_refusal };
+
+    #[tactic(auto, unfolding(crate::specs::Refusals::trace_refusal))]
+    fn text(&self, alloc: Global) -> Result<String, AllocError> {
+        match self {
+            TraceRefused::NoFrame { frame, frames } => {
+                format!(in alloc; "6 NoFrame frame={frame} frames={frames}")
+            }
+            TraceRefused::NoMemory => Err(AllocError),
         }
     }
 }

@@ -10,9 +10,12 @@ ghost use Rattle.nj_words.specs.Commands.{reading, IsInRange};
 
 use crate::commands::asm::Asm;
 use crate::commands::check::Check;
+use crate::commands::clean::Clean;
 use crate::commands::play::Play;
 use crate::commands::replay::Replay;
 use crate::commands::search::Search;
+use crate::commands::trace::Trace;
+use crate::commands::watch::Watch;
 use crate::commands::workload::workload;
 use crate::files::named;
 use crate::formats::{CartFormat, MovieFormat, ScriptFormat, SourceFormat};
@@ -125,7 +128,7 @@ fn reply_to<S: Shelf, L: Ledger>(
 }
 
 /// The reply to a command.
-#[tactic(auto, unfolding(crate::specs::Answer::work_of, crate::specs::Asm::asm_work, crate::specs::Check::check_work, crate::specs::Play::play_work, crate::specs::Replay::replay_work, crate::specs::Search::search_work, nj_words::specs::Commands::IsInRange))]
+#[tactic(auto, unfolding(crate::specs::Answer::work_of, crate::specs::Asm::asm_work, crate::specs::Check::check_work, crate::specs::Clean::clean_work, crate::specs::Play::play_work, crate::specs::Replay::replay_work, crate::specs::Search::search_work, crate::specs::Trace::trace_work, crate::specs::Watch::watch_work, nj_words::specs::Commands::IsInRange))]
 pub fn carry_out<S: Shelf, L: Ledger>(
     alloc: Global,
     command: &Command,
@@ -183,5 +186,29 @@ pub fn carry_out<S: Shelf, L: Ledger>(
         }
         Command::Workload { number } => workload(alloc, *number, shelf, steps),
         Command::Asm { source } => serve(alloc, &named(SourceFormat, source), &Asm, shelf, steps),
+        Command::Clean {
+            cart,
+            script,
+            start,
+            movie,
+        } => {
+            let game = (named(CartFormat, cart), named(ScriptFormat, script));
+            let movies = (named(MovieFormat, start), named(MovieFormat, movie));
+            serve(alloc, &(game, movies), &Clean, shelf, steps)
+        }
+        Command::Trace { cart, movie, frame } => {
+            let files = (named(CartFormat, cart), named(MovieFormat, movie));
+            let job = Trace { frame: *frame };
+            serve(alloc, &files, &job, shelf, steps)
+        }
+        Command::Watch {
+            cart,
+            script,
+            movie,
+        } => {
+            let game = (named(CartFormat, cart), named(ScriptFormat, script));
+            let files = (game, named(MovieFormat, movie));
+            serve(alloc, &files, &Watch, shelf, steps)
+        }
     }
 }

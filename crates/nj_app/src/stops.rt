@@ -54,6 +54,7 @@ pub enum Stop {
 }
 
 impl Stop {
+    /// The exit status.
     pub fn status(&self) -> u8
         ensures { result ≡ status_of self.now }
     {

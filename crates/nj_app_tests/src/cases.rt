@@ -334,6 +334,133 @@ $ asm huge
 = 12
 "#;
 
+/// Of `clean`.
+pub const CLEANS: &str = r#"$ clean walk goal start movie
+< |..|........|
+< |..|........|
+< |..|........|
+< |..|...R...A|
+< |..|...R....|
+< |..|...R....|
+< |..|...R....|
+< |..|...R....|
+> # clean step=5 frames=8 reward=105 released=1
+> |..|........|
+> |..|........|
+> |..|........|
+> |..|...R....|
+> |..|...R....|
+> |..|...R....|
+> |..|...R....|
+> |..|...R....|
+= 0
+
+$ clean walk goal start movie
+< |..|........|
+< |..|........|
+< |..|........|
+< |..|...R....|
+< |..|...R....|
+< |..|...R....|
+< |..|...R....|
+< |..|...R....|
+< |..|...R....|
+> # clean step=6 frames=9 reward=105 released=1
+> |..|........|
+> |..|........|
+> |..|........|
+> |..|........|
+> |..|...R....|
+> |..|...R....|
+> |..|...R....|
+> |..|...R....|
+> |..|...R....|
+= 0
+
+$ clean walk goal start movie
+< |..|........|
+< |..|........|
+< |..|........|
+< |..|...R....|
+< |..|...R....|
+< |..|...R....|
+< |..|...R....|
+> # notwon step=4 frames=7 reward=4
+= 10
+
+$ clean walk goal start movie
+< |..|........|
+< |..|........|
+! nj: movie 3 NotStart frame=2
+= 6
+
+$ clean walk goal start
+! nj: usage
+= 3
+"#;
+
+/// Of `watch`, and of `trace` where its text is short.
+pub const LISTS: &str = r#"$ watch walk goal movie
+< |..|........|
+< |..|........|
+< |..|........|
+< |..|...R....|
+< |..|...R....|
+> # watch frames=5 properties=2
+> 0 0 0
+> 1 0 0
+> 2 0 1
+> 3 0 2
+> 4 1 3
+> 5 2 4
+= 0
+
+$ watch walk none movie
+! nj: read fault
+= 7
+
+$ trace jam movie
+< |..|........|
+> # trace frame=1 units=1
+> L=0 D=0 A=00 X=00 Y=00 S=FD P=24 8000 JAM
+= 0
+
+$ trace jam movie --frame 3
+< |..|........|
+< |..|........|
+< |..|........|
+> # trace frame=3 units=0
+= 0
+
+$ trace walk -
+! nj: movie 6 NoFrame frame=1 frames=0
+= 6
+
+$ trace walk movie --frame 0
+< |..|........|
+! nj: usage
+= 3
+"#;
+
+/// Of `trace`: how its text begins.
+pub const TRACES: &str = r#"$ trace walk movie
+< |..|........|
+> # trace frame=1 units=9132
+> L=0 D=0 A=00 X=00 Y=00 S=FD P=24 8000 78       SEI
+> L=0 D=6 A=00 X=00 Y=00 S=FD P=24 8001 A9 80    LDA #$80
+> L=0 D=12 A=80 X=00 Y=00 S=FD P=A4 8003 8D 00 20 STA $2000
+= 0
+
+$ trace walk movie --frame 2
+< |..|........|
+< |..|........|
+> # trace frame=2 units=9925
+> L=241 D=4 A=80 X=00 Y=00 S=FD P=A4 8006 4C 06 80 JMP $8006
+> L=241 D=13 A=80 X=00 Y=00 S=FD P=A4 8006 NMI
+> L=241 D=34 A=80 X=00 Y=00 S=FA P=A4 8009 E6 11    INC $11
+= 0
+"#;
+
 /// A search that is won, with the least budget too.
 pub const WINS: &str = r#"$ search walk goal start --steps 5
 > # won step=5 frames=8 reward=105

@@ -2,7 +2,7 @@
 
 ghost use Rattle.std.specs.Prelude.{◌≡◌};
 
-use crate::cases::{CHECKS, PLANS, PLAYS, REPLAYS, SEARCHES, SOURCES, WINS};
+use crate::cases::{CHECKS, CLEANS, LISTS, PLANS, PLAYS, REPLAYS, SEARCHES, SOURCES, TRACES, WINS};
 use crate::files::{made_shelf, shelf_with};
 use crate::meeting::Meeting;
 use nj_app::{COUNTERS, Gate, OpenGate, run, run_plain};
@@ -114,6 +114,21 @@ fn expect(
     );
     assert_eq!(rt; out.bytes(), marked(alloc, case, '>')?.as_bytes(), "{case}");
     assert_eq!(rt; err.bytes(), marked(alloc, case, '!')?.as_bytes(), "{case}");
+    Ok(())
+}
+
+// Cases with a longer text, of which the lines are the first.
+fn begin_cases(rt: &impl Abort, alloc: Global, cases: &str) -> Result<(), AllocError> {
+    for case in cases.split("\n\n") {
+        let line = marked(alloc, case, '$')?;
+        let movie = marked(alloc, case, '<')?;
+        let shelf = shelf_with(alloc, movie.as_bytes(), &[])?;
+        let (status, out, err) = by_one(alloc, line.as_str(), shelf, NONE)?;
+        let head = marked(alloc, case, '>')?;
+        assert_eq!(rt; status, 0, "{case}");
+        assert!(rt; out.bytes().starts_with(head.as_bytes()), "{case}");
+        assert_eq!(rt; err.bytes(), b"".as_slice(), "{case}");
+    }
     Ok(())
 }
 
@@ -229,6 +244,24 @@ fn refuses_plans(rt: HostRuntime) -> Result<(), Fail> {
 #[test]
 fn assembles(rt: HostRuntime) -> Result<(), Fail> {
     run_cases(&rt, rt.alloc(), SOURCES)?;
+    Ok(())
+}
+
+#[test]
+fn cleans(rt: HostRuntime) -> Result<(), Fail> {
+    run_cases(&rt, rt.alloc(), CLEANS)?;
+    Ok(())
+}
+
+#[test]
+fn lists(rt: HostRuntime) -> Result<(), Fail> {
+    run_cases(&rt, rt.alloc(), LISTS)?;
+    Ok(())
+}
+
+#[test]
+fn traces(rt: HostRuntime) -> Result<(), Fail> {
+    begin_cases(&rt, rt.alloc(), TRACES)?;
     Ok(())
 }
 

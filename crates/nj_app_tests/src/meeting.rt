@@ -18,6 +18,7 @@ pub struct Meeting {
 }
 
 impl Meeting {
+    /// At which nobody has begun.
     pub fn new() -> Meeting {
         Meeting {
             steps: AtomicU64::new(0),

@@ -1,9 +1,10 @@
 -- Lemmas on listings.
-use Rattle.std.proofs.Common.{ℕ, zero, suc, ◌≡◌, ◌≤◌, ◌<◌, ◌+◌, ◌-◌, ◌%◌, Bool, false, cond, ltb, List, [], ◌∷◌, ◌++◌, length, take, drop, get_or, refl, sym, ap, ◌∙◌, arith, append_assoc}
+use Rattle.std.proofs.Common.{ℕ, zero, suc, ◌≡◌, ◌≤◌, ◌<◌, ◌+◌, ◌-◌, ◌%◌, Bool, true, false, not, ◌&&◌, ◌==◌, cond, ltb, List, [], ◌∷◌, ◌++◌, length, take, drop, get_or, refl, sym, ap, ◌∙◌, arith, append_assoc}
 use Rattle.std.proofs.lemmas.Bool.Decides.{nat_tests}
+use Rattle.std.proofs.lemmas.List.{append-nil, drop_all, take_all}
 use Rattle.nj_isa.specs.Table.{row_of}
 use Rattle.nj_isa.specs.Timing.{is_jam}
-use Rattle.nj_asm.specs.Listing.{listed, next_to, span_of, instruction_text}
+use Rattle.nj_asm.specs.Listing.{is_whole, listed, listing_of, next_to, span_of, instruction_text}
 
 -- the bytes that a line shows are passed over
 listed-shown : (k at : ℕ) (bytes : List ℕ) → at < 65536 → listed at k bytes ≡ listed ((at + k) % 65536) 0 (drop k bytes)
@@ -42,3 +43,22 @@ instruction_step at span bytes text goal small some is positive whole runs befor
     before
     ∙ ap (λ (rest : List ℕ). text ++ rest) (listed-instruction at span bytes small some is positive whole runs)
     ∙ sym (append_assoc text (instruction_text at (take span bytes)) (listed ((at + span) % 65536) 0 (drop span bytes)))
+
+whole_parts : (jam same : Bool) → (not jam && same) ≡ true → (jam ≡ false) × (same ≡ true)
+whole_parts true same e = cc
+whole_parts false same e = (refl, e)
+
+-- one whole instruction is listed as its line
+pub listed_one : (at : ℕ) (bytes : List ℕ) → at < 65536 → is_whole bytes ≡ true → listing_of at bytes ≡ instruction_text at bytes
+unfolding listing_of
+listed_one at [] small e = cc
+listed_one at (opcode ∷ operand) small e =
+    let parts = whole_parts (is_jam (row_of opcode).op) (length operand + 1 == span_of opcode) e in
+    let same : (length operand + 1 == span_of opcode) ≡ true = parts.1 in
+    let size : length operand + 1 ≡ span_of opcode = grind (arith, nat_tests) in
+    listed-instruction at (span_of opcode) (opcode ∷ operand) small (omega arith) refl (omega (arith, size)) (omega (arith, size)) parts.0
+    ∙ ap (λ (shown : List ℕ). instruction_text at shown ++ listed ((at + span_of opcode) % 65536) 0 (drop (span_of opcode) (opcode ∷ operand)))
+    (take_all (span_of opcode) (opcode ∷ operand) (omega (arith, size)))
+    ∙ ap (λ (rest : List ℕ). instruction_text at (opcode ∷ operand) ++ listed ((at + span_of opcode) % 65536) 0 rest)
+    (drop_all (span_of opcode) (opcode ∷ operand) (omega (arith, size)))
+    ∙ append-nil (instruction_text at (opcode ∷ operand))

@@ -1,6 +1,6 @@
 -- The listing of bytes: address, bytes, mnemonic and operand, one line an instruction. The layout is our own; mnemonics and
 -- operands are spelled as in the MCS6500 Family Programming Manual.
-use Rattle.std.specs.Prelude.{ℕ, zero, suc, ◌+◌, ◌-◌, ◌*◌, ◌/◌, ◌%◌, ◌==◌, nat_lt, List, [], ◌∷◌, ◌++◌, length, take, codes, slice_index, if◌then◌else◌}
+use Rattle.std.specs.Prelude.{ℕ, zero, suc, ◌+◌, ◌-◌, ◌*◌, ◌/◌, ◌%◌, ◌==◌, ◌&&◌, not, nat_lt, Bool, false, List, [], ◌∷◌, ◌++◌, length, take, codes, slice_index, if◌then◌else◌}
 use Rattle.std.specs.List.{flat_map}
 use Rattle.nj_isa.specs.declared.modes.Mode.{Mode}
 use Rattle.nj_isa.specs.declared.modes.Mode.TheVariants.{Implied, Accumulator, Immediate, Zp, ZpX, ZpY, Abs, AbsX, AbsY, IndX, IndY, Indirect, Relative}
@@ -74,6 +74,11 @@ bytes_text at (byte ∷ bytes) = byte_text at byte ++ bytes_text (next_to at) by
 -- the bytes of the instruction that an opcode begins
 abbrev pub span_of : ℕ → ℕ
 span_of opcode = length_of (row_of opcode).mode
+
+-- the bytes are one whole instruction, which does not jam
+abbrev pub is_whole : List ℕ → Bool
+is_whole [] = false
+is_whole (opcode ∷ operand) = not (is_jam (row_of opcode).op) && (length operand + 1 == span_of opcode)
 
 -- the listing from an address on, after so many bytes that the last line shows
 abbrev pub listed : ℕ → ℕ → List ℕ → List ℕ

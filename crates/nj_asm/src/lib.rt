@@ -17,7 +17,7 @@ pub use laws::{
     every_official_opcode_is_reached, listed_instructions_assemble_again,
     the_first_refused_line_is_told,
 };
-pub use listing::list;
+pub use listing::{is_whole, list, list_one};
 pub use nj_asm_lines::{Fault, Line};
 pub use nj_seq::Seq;
 pub use refusals::AsmRefused;

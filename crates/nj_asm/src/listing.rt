@@ -1,9 +1,9 @@
 //! The listing of bytes.
 
-ghost use Rattle.std.specs.Prelude.{◌≡◌, ◌+◌, ◌-◌, ◌%◌, ◌<◌, ◌≤◌, ◌++◌, ◌∷◌, [], length, take, drop, slice_index, IfOk, OnOk, IsTrue};
+ghost use Rattle.std.specs.Prelude.{◌≡◌, ◌+◌, ◌-◌, ◌%◌, ◌<◌, ◌≤◌, ◌++◌, ◌∷◌, [], length, take, drop, slice_index, IfOk, OnOk, true};
 ghost use Rattle.nj_isa.specs.Table.{row_of};
 ghost use Rattle.nj_isa.specs.Timing.{is_jam};
-ghost use Rattle.nj_asm.specs.Listing.{instruction_text, byte_text, bytes_text, span_of, listed, listing_of};
+ghost use Rattle.nj_asm.specs.Listing.{instruction_text, byte_text, bytes_text, span_of, is_whole, listed, listing_of};
 
 use crate::pieces::{push_hex2, push_operand, push_place};
 use nj_isa::{Op, mode_len, op_name, op_row};
@@ -29,15 +29,23 @@ fn byte_at(bytes: &[u8], place: usize) -> u8
     if place < bytes.len() { bytes[place] } else { 0 }
 }
 
+// An instruction's line without its line feed.
 #[tactic(auto, unfolding(crate::specs::Listing::instruction_text))]
-fn push_instruction(text: &mut Vec<u8>, at: u32, bytes: &[u8]) -> Result<(), AllocError>
+fn push_line(text: &mut Vec<u8>, at: u32, bytes: &[u8]) -> Result<(), AllocError>
     requires { at < 65536 }
-    ensures { OnOk result (text.new.items ≡ text.old.items ++ instruction_text at bytes.now) }
+    ensures { OnOk result (text.new.items ++ 10 ∷ [] ≡ text.old.items ++ instruction_text at bytes.now) }
 {
     let row = op_row(byte_at(bytes, 0));
     push_place(text, at, bytes)?;
     text.extend_from_slice(op_name(row.op).as_bytes())?;
-    push_operand(text, row.mode, at, byte_at(bytes, 1), byte_at(bytes, 2))?;
+    push_operand(text, row.mode, at, byte_at(bytes, 1), byte_at(bytes, 2))
+}
+
+fn push_instruction(text: &mut Vec<u8>, at: u32, bytes: &[u8]) -> Result<(), AllocError>
+    requires { at < 65536 }
+    ensures { OnOk result (text.new.items ≡ text.old.items ++ instruction_text at bytes.now) }
+{
+    push_line(text, at, bytes)?;
     text.extend_from_slice(b"\n")
 }
 
@@ -89,4 +97,25 @@ pub fn list(alloc: Global, bytes: &[u8], origin: u16) -> Result<Vec<u8>, AllocEr
         }
     }
     Ok(text)
+}
+
+/// Whether the bytes are one whole instruction, which does not jam.
+pub fn is_whole(bytes: &[u8]) -> bool
+    ensures { result ≡ is_whole bytes.now }
+{
+    match bytes {
+        [] => false,
+        [opcode, ..] => !is_jam(op_row(*opcode).op) && bytes.len() == span_of(*opcode),
+    }
+}
+
+/// The line that a listing has for one whole instruction, without its line feed.
+#[tactic(auto, using(crate::proofs::ListingLemmas::listed_one))]
+pub fn list_one(alloc: Global, bytes: &[u8], at: u16) -> Result<Vec<u8>, AllocError>
+    requires { is_whole bytes.now ≡ true }
+    ensures { IfOk result (λ line. line.items ++ 10 ∷ [] ≡ listing_of at bytes.now) }
+{
+    let mut line = Vec::new(alloc);
+    push_line(&mut line, u32::from(at), bytes)?;
+    Ok(line)
 }

@@ -1,6 +1,6 @@
-//! Three cartridges on both machines: a waiting loop, a game with rendering on, and one that computes. Prints of each
-//! whether the machines had the same image after every frame. That they have is proved; this run is of the code that the
-//! compilers made of it.
+//! Four cartridges on both machines: a waiting loop, a game with rendering on, one that computes, and one that chooses
+//! banks of pattern memory in mid-frame and runs unofficial opcodes. Prints of each whether the machines had the same
+//! image after every frame. That they have is proved; this run is of the code that the compilers made of it.
 #![tactic(auto)]
 
 use nj_both_machines::{Cart, Pad, first_difference};
@@ -16,7 +16,7 @@ const PADS: [Pad; 100] = [Pad(0x81); 100];
 
 fn main(rt: HostRuntime) -> io::Result<()> {
     let mut shelf = FileShelf::new(&rt);
-    for name in ["steps.nes", "walk.nes", "mill.nes"] {
+    for name in ["steps.nes", "walk.nes", "mill.nes", "banks.nes"] {
         let told = compared(rt.alloc(), &mut shelf, name);
         println!(rt; "{name}: {told}")?;
     }

@@ -7,6 +7,7 @@ pub mod Tiles
 pub mod Status
 pub mod Misses
 pub mod Overflows
+pub mod Fixes
 pub mod Limits
 pub mod Meets
 pub mod Lines

@@ -175,11 +175,11 @@ hit-after (suc k) p s fits below up =
     hit-dot p e apart ∙ ap (λ b. b || e.near) (hit-after k p s fits (omega (arith, below)) up)
 
 -- the read of $2002 by its number
-read-two : (reg : ℕ) (p : List ℕ) (s : Screen) → reg ≡ 2 → after_read reg p s ≡ after_status s
+pub read-two : (reg : ℕ) (p : List ℕ) (s : Screen) → reg ≡ 2 → after_read reg p s ≡ after_status s
 unfolding after_read
 read-two reg p s two = if-true (reg == 2) _ _ (eq-eqb _ _ two)
 
-byte-two : (reg : ℕ) (s : Screen) → reg ≡ 2 → read_byte reg s ≡ status_byte s
+pub byte-two : (reg : ℕ) (s : Screen) → reg ≡ 2 → read_byte reg s ≡ status_byte s
 unfolding read_byte
 byte-two reg s two = if-true (reg == 2) _ _ (eq-eqb _ _ two)
 

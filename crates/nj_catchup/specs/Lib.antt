@@ -6,5 +6,6 @@ pub mod Idle
 pub mod Place
 pub mod Tiles
 pub mod Steady
+pub mod Fixed
 pub mod Limit
 pub mod Line

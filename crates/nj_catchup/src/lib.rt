@@ -17,6 +17,7 @@
 
 mod advance;
 mod ending;
+mod fixed;
 mod idle;
 mod line;
 mod lull;
@@ -29,12 +30,16 @@ ghost use Rattle.nj_dots.specs.Screen.{IsScreen, power_on};
 ghost use Rattle.nj_dots.specs.Dots.{after_dots};
 ghost use Rattle.nj_catchup.specs.Limit.{pending_of, IsLull};
 ghost use Rattle.nj_catchup.specs.Steady.{IsSteady};
+ghost use Rattle.nj_catchup.specs.Fixed.{IsFixed};
 
 use crate::advance::advance;
+use crate::fixed::{steady_dots, was_read};
 use crate::lull::Lull;
 use crate::place::position_ahead;
 use crate::steady::is_steady;
+pub use fixed::FixedStatus;
 use nj_dots::Screen;
+use nj_dots::laws::sprite_overflow_is_timed;
 pub use nj_dots::{Picture, Position};
 
 /// A picture with dots pending: fewer than there are up to the next change of the vertical blank flag, and none once an
@@ -65,6 +70,27 @@ impl CatchUp {
         ensures steady { (p : List ℕ) → result ≡ true → IsSteady (pending_of self.now.lull) p self.now.screen }
     {
         reg == 2 && is_steady(&self.screen, self.lull.pending())
+    }
+
+    // For how many dots reads of $2002 answer the latch, and change nothing.
+    fn fixed_dots(&self) -> u32
+        ensures { (p : List ℕ) → IsFixed self.now.screen.latch result p (⟦<CatchUp as Picture>⟧.meaning self.now p) }
+    {
+        sprite_overflow_is_timed();
+        if !was_read(&self.screen) {
+            return 0;
+        }
+        steady_dots(&self.screen).saturating_sub(self.lull.pending())
+    }
+
+    /// What reads of $2002 answer, for how many dots, while they change nothing. No dots where that is not known.
+    pub fn fixed_status(&self) -> FixedStatus
+        ensures { (p : List ℕ) → IsFixed result.status result.dots p (⟦<CatchUp as Picture>⟧.meaning self.now p) }
+    {
+        FixedStatus {
+            status: self.screen.latch,
+            dots: self.fixed_dots(),
+        }
     }
 
     // Runs the pending dots.

@@ -73,7 +73,7 @@ fn stays_below(position: Position, dots: u32) -> bool
 }
 
 // How many dots there are at least up to one that latches a row of sprite zero or is a pixel of the latched one.
-fn dots_to_hit(screen: &Screen) -> u32
+pub fn dots_to_hit(screen: &Screen) -> u32
     requires { screen.now.position.dot < 341 }
     ensures { (n d : ℕ) → n < result → IsAlong screen.now.position.dot n d → IsAside screen.now.sprite_row d }
 {

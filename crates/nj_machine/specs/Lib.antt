@@ -1,6 +1,7 @@
 pub mod State
 pub mod Wires
 pub mod Frame
+pub mod Waiting
 pub mod Seen
 pub mod Recorder
 pub mod Image

@@ -19,15 +19,16 @@ use Rattle.nj_cpu.specs.Walk.{Walk, begun, address_of, is_made, risen, read_at, 
 use Rattle.nj_cpu.specs.Unit.{Unit, no_rise, opened, settled, rest_by, rest_of, instruction, entered, on_note, on_page, active, noted, unit_of}
 use Rattle.nj_cpu.proofs.Lower.{Lower, held-moved, held-opened, walk-lower}
 use Rattle.nj_turns.specs.declared.dry.TheConstants.{MOST_CYCLES}
-use Rattle.nj_turns.specs.Dry.{Dry, memory_byte, read_of, after_read, dry}
+use Rattle.nj_turns.specs.Dry.{Dry, told_byte, read_of, after_read, dry}
 use Rattle.nj_turns.specs.Turn.{Rests}
 use Rattle.nj_turns.proofs.Past.{IsPast, Lost, Late, nothing_left, dry-lowers}
 
-module _ {Held : Type 0} (acts : Acts Held) (place : ℕ → ℕ → Held) (ram : List ℕ) (board : Banks) (line : Bool) (limit offset : ℕ) (rests : Rests acts place ram board line limit) where
+module _ {Held : Type 0} (acts : Acts Held) (place : ℕ → ℕ → Held) (ram : List ℕ) (board : Banks) (status : Option ℕ) (line : Bool) (limit offset : ℕ) (rests : Rests acts place ram board status line limit) where
   -- the dry bus has the memories of the other, which still rests
   pub record Fits (h : Dry) : Type 0 where
     pub ram_is : h.ram ≡ ram
     pub board_is : h.board ≡ board
+    pub status_is : h.status ≡ status
     pub line_is : h.line ≡ line
     pub within : offset + h.cycles ≤ limit
 
@@ -62,7 +63,7 @@ module _ {Held : Type 0} (acts : Acts Held) (place : ℕ → ℕ → Held) (ram 
   abbrev dry_byte : Dry → ℕ → ℕ
   dry_byte h at = dry.byte h at
 
-  same-more : (h : Dry) (at byte : ℕ) (b : Bool) → Fits h → memory_byte ram board at ≡ Some byte →
+  same-more : (h : Dry) (at byte : ℕ) (b : Bool) → Fits h → told_byte ram board status at ≡ Some byte →
       let k : Dry = cond b (record h { bus_byte = byte; cycles = suc h.cycles }) (record h { lost = true }) in Past k ⊎ SameRead h at byte k
   same-more h at byte false fits e = inl (Lost refl)
   same-more h at byte true fits e = elim (cases_lt limit (offset + suc h.cycles)) [
@@ -75,11 +76,11 @@ module _ {Held : Type 0} (acts : Acts Held) (place : ℕ → ℕ → Held) (ram 
           byte_is = rests.byte (offset + h.cycles) h.bus_byte at byte below e;
           held_is = after;
           line_is = ap acts.line after ∙ rests.line_is (offset + suc h.cycles) byte within ∙ sym fits.line_is;
-          fits = record { ram_is = fits.ram_is; board_is = fits.board_is; line_is = fits.line_is; within = within };
+          fits = record { ram_is = fits.ram_is; board_is = fits.board_is; status_is = fits.status_is; line_is = fits.line_is; within = within };
         }))
   ]
 
-  same-read-of : (h : Dry) (at : ℕ) (byte : Option ℕ) → Fits h → memory_byte ram board at ≡ byte →
+  same-read-of : (h : Dry) (at : ℕ) (byte : Option ℕ) → Fits h → told_byte ram board status at ≡ byte →
       Past (read_of byte h) ⊎ SameRead h at (unwrap_or byte 0) (read_of byte h)
   same-read-of h at None fits e = inl (Lost refl)
   same-read-of h at (Some byte) fits e = same-more h at byte (nat_lt h.cycles MOST_CYCLES) fits e
@@ -87,7 +88,7 @@ module _ {Held : Type 0} (acts : Acts Held) (place : ℕ → ℕ → Held) (ram 
   same-read : (h : Dry) (at : ℕ) → Fits h → Past (after_read h at) ⊎ SameRead h at (dry_byte h at) (after_read h at)
   unfolding after_read
   same-read h at fits =
-      same-read-of h at (memory_byte h.ram h.board at) fits (λ i. memory_byte (sym fits.ram_is i) (sym fits.board_is i) at)
+      same-read-of h at (told_byte h.ram h.board h.status at) fits (λ i. told_byte (sym fits.ram_is i) (sym fits.board_is i) (sym fits.status_is i) at)
 
   -- the walk over the other bus goes on as that over the dry one
   record Tied (w : Walk Dry) (v : Walk Held) : Type 0 where

@@ -7,7 +7,7 @@ use Rattle.nj_cpu.specs.declared.state.UnitEnd.TheVariants.{Done}
 use Rattle.nj_cpu.specs.Unit.{unit_of}
 use Rattle.nj_cpu.proofs.Lower.{Lower, Lowers, unit-lower}
 use Rattle.nj_turns.specs.declared.dry.TheConstants.{MOST_CYCLES}
-use Rattle.nj_turns.specs.Dry.{Dry, memory_byte, read_of, after_read, dry}
+use Rattle.nj_turns.specs.Dry.{Dry, told_byte, read_of, after_read, dry}
 use Rattle.nj_turns.specs.Turn.{Leads, IsDry, IsTurn}
 use Rattle.nj_turns.proofs.Past.{nothing_left, runs}
 
@@ -25,26 +25,27 @@ same_flags one other n v d i z c = (λ k. record { n = n k; v = v k; d = d k; i 
 pub record Keeps (h k : Dry) : Type 0 where
   pub ram : k.ram ≡ h.ram
   pub board : k.board ≡ h.board
+  pub status : k.status ≡ h.status
   pub line : k.line ≡ h.line
   pub few : k.cycles ≤ MOST_CYCLES
 
 keeps-more : (h k : Dry) (byte : ℕ) (b : Bool) → nat_lt k.cycles MOST_CYCLES ≡ b → Keeps h k →
     Keeps h (cond b (record k { bus_byte = byte; cycles = suc k.cycles }) (record k { lost = true }))
-keeps-more h k byte true below e = record { ram = e.ram; board = e.board; line = e.line; few = grind (arith, nat_tests, below) }
-keeps-more h k byte false below e = record { ram = e.ram; board = e.board; line = e.line; few = e.few }
+keeps-more h k byte true below e = record { ram = e.ram; board = e.board; status = e.status; line = e.line; few = grind (arith, nat_tests, below) }
+keeps-more h k byte false below e = record { ram = e.ram; board = e.board; status = e.status; line = e.line; few = e.few }
 
 keeps-read : (h k : Dry) (byte : Option ℕ) → Keeps h k → Keeps h (read_of byte k)
-keeps-read h k None e = record { ram = e.ram; board = e.board; line = e.line; few = e.few }
+keeps-read h k None e = record { ram = e.ram; board = e.board; status = e.status; line = e.line; few = e.few }
 keeps-read h k (Some byte) e = keeps-more h k byte (nat_lt k.cycles MOST_CYCLES) refl e
 
 keeps-after_read : (h k : Dry) (at : ℕ) → Keeps h k → Keeps h (after_read k at)
 unfolding after_read
-keeps-after_read h k at e = keeps-read h k (memory_byte k.ram k.board at) e
+keeps-after_read h k at e = keeps-read h k (told_byte k.ram k.board k.status at) e
 
 keeps-lowers : (h : Dry) → Lowers dry (Keeps h) nothing_left 0
 keeps-lowers h = record {
   reads = λ k at e. record { stays = keeps-after_read h k at e; fewer = omega arith };
-  writes = λ k at value e. record { stays = record { ram = e.ram; board = e.board; line = e.line; few = e.few }; fewer = omega arith };
+  writes = λ k at value e. record { stays = record { ram = e.ram; board = e.board; status = e.status; line = e.line; few = e.few }; fewer = omega arith };
   takes = λ k e. record { stays = e; fewer = omega arith };
 }
 
@@ -58,7 +59,7 @@ pub record Ran (n : ℕ) (cpu : Cpu) (h : Dry) (now : Cpu) (k : Dry) : Type 0 wh
   pub keeps : Keeps h k
 
 pub ran-none : (cpu : Cpu) (h : Dry) → h.cycles ≡ 0 → Ran 0 cpu h cpu h
-ran-none cpu h none = record { run = record { cpu_is = refl; held_is = refl }; keeps = record { ram = refl; board = refl; line = refl; few = omega (arith, none) } }
+ran-none cpu h none = record { run = record { cpu_is = refl; held_is = refl }; keeps = record { ram = refl; board = refl; status = refl; line = refl; few = omega (arith, none) } }
 
 -- and one more
 pub ran-more : (n : ℕ) (cpu : Cpu) (h : Dry) (now : Cpu) (k : Dry) (next : Cpu) (after : Dry) → Ran n cpu h now k →
@@ -74,5 +75,5 @@ ran-more n cpu h now k next after ran unit stays =
 pub found : (n : ℕ) (cpu : Cpu) (h : Dry) (now : Cpu) (k : Dry) → Ran n cpu h now k → now ≡ cpu → k.bus_byte ≡ h.bus_byte → k.lost ≡ h.lost → IsTurn cpu h k.cycles
 found n cpu h now k ran back byte lost =
     let same : k ≡ record h { cycles = k.cycles } =
-    (λ i. record { ram = ran.keeps.ram i; board = ran.keeps.board i; line = ran.keeps.line i; bus_byte = byte i; cycles = k.cycles; lost = lost i }) in
+    (λ i. record { ram = ran.keeps.ram i; board = ran.keeps.board i; status = ran.keeps.status i; line = ran.keeps.line i; bus_byte = byte i; cycles = k.cycles; lost = lost i }) in
     record { units = n; run = subst (λ x. Leads dry IsDry n cpu h cpu x) same (subst (λ c. Leads dry IsDry n cpu h c k) back ran.run) }

@@ -5,7 +5,7 @@ use Rattle.nj_cpu.specs.declared.state.UnitEnd.TheVariants.{Done, Jammed}
 use Rattle.nj_cpu.specs.Unit.{Unit, active, noted, unit_of}
 use Rattle.nj_cpu.proofs.Lower.{Lower, Lowers, unit-lower}
 use Rattle.nj_turns.specs.declared.dry.TheConstants.{MOST_CYCLES}
-use Rattle.nj_turns.specs.Dry.{Dry, memory_byte, read_of, after_read, dry}
+use Rattle.nj_turns.specs.Dry.{Dry, told_byte, read_of, after_read, dry}
 
 -- it is lost, or this many cycles further another bus rests no more
 pub data IsPast (limit offset : ℕ) (h : Dry) : Type 0 where
@@ -28,7 +28,7 @@ read-past limit offset (Some byte) h p = more-past limit offset byte h (nat_lt h
 
 after_read-past : (limit offset : ℕ) (h : Dry) (at : ℕ) → IsPast limit offset h → IsPast limit offset (after_read h at)
 unfolding after_read
-after_read-past limit offset h at p = read-past limit offset (memory_byte h.ram h.board at) h p
+after_read-past limit offset h at p = read-past limit offset (told_byte h.ram h.board h.status at) h p
 
 -- each access keeps it
 pub dry-lowers : (limit offset : ℕ) → Lowers dry (IsPast limit offset) nothing_left 0

@@ -1,5 +1,5 @@
 -- Turn after turn.
-use Rattle.std.proofs.Common.{◌≡◌, ℕ, zero, suc, ◌+◌, ◌*◌, ◌≤◌, Bool, false, true≢false, List, inl, inr, refl, sym, ap, ◌∙◌, subst, arith}
+use Rattle.std.proofs.Common.{◌≡◌, ℕ, zero, suc, ◌+◌, ◌*◌, ◌≤◌, Bool, false, true≢false, List, Option, inl, inr, refl, sym, ap, ◌∙◌, subst, arith}
 use Rattle.std.proofs.lemmas.Bool.{cases_lt}
 use Rattle.std.proofs.Math.Nat.{suc-mul}
 use Rattle.nj_banked.specs.Banks.{Banks}
@@ -24,13 +24,13 @@ leads-then acts In m (suc n) a b c h k l p q =
     record { cpu = q.cpu; held = q.held; before = leads-then acts In m n a b q.cpu h k q.held p q.before; unit = q.unit; stays = q.stays } in
     subst (λ i. Leads acts In i a h c l) next more
 
-module _ {Held : Type 0} (acts : Acts Held) (place : ℕ → ℕ → Held) (ram : List ℕ) (board : Banks) (line : Bool) (limit : ℕ) (rests : Rests acts place ram board line limit) where
+module _ {Held : Type 0} (acts : Acts Held) (place : ℕ → ℕ → Held) (ram : List ℕ) (board : Banks) (status : Option ℕ) (line : Bool) (limit : ℕ) (rests : Rests acts place ram board status line limit) where
   -- a dry bus within the rest, a number of cycles further
   abbrev At : ℕ → Dry → Type 0
-  At offset h = Fits acts place ram board line limit offset rests h
+  At offset h = Fits acts place ram board status line limit offset rests h
 
   abbrev there : ℕ → Dry → Held
-  there offset h = placed acts place ram board line limit offset rests h
+  there offset h = placed acts place ram board status line limit offset rests h
 
   -- what dry units that end within the rest do, the other bus does
   record Led (offset n : ℕ) (cpu : Cpu) (h : Dry) (last : Cpu) (kept : Dry) : Type 0 where
@@ -44,7 +44,7 @@ module _ {Held : Type 0} (acts : Acts Held) (place : ℕ → ℕ → Held) (ram 
   -- dry so far, and no more cycles than these
   led-step : (offset n : ℕ) (cpu : Cpu) (h : Dry) (c : Cpu) (k : Dry) (last : Cpu) (kept : Dry) → unit_of dry c k ≡ record { cpu = last; held = kept; end_ = Done } → IsDry kept →
       offset + kept.cycles ≤ limit → Led offset n cpu h c k → Led offset (suc n) cpu h last kept
-  led-step offset n cpu h c k last kept unit d e before = elim (unit-goes acts place ram board line limit offset rests c k before.fits) [
+  led-step offset n cpu h c k last kept unit d e before = elim (unit-goes acts place ram board status line limit offset rests c k before.fits) [
     | inl past ↦ absurd (not-past offset kept d e (subst (IsPast limit offset) (ap (λ u. u.held) unit) past))
     | inr tied ↦ (
         let fits : At offset kept = subst (At offset) (ap (λ u. u.held) unit) tied.fits in
@@ -54,7 +54,7 @@ module _ {Held : Type 0} (acts : Acts Held) (place : ℕ → ℕ → Held) (ram 
             cpu = c;
             held = there offset k;
             before = before.run;
-            unit = tied.same ∙ ap (unit_onto acts place ram board line limit offset rests) unit;
+            unit = tied.same ∙ ap (unit_onto acts place ram board status line limit offset rests) unit;
             stays = record { after_cycles = offset + kept.cycles; last = kept.bus_byte; within = fits.within; at_ = refl };
           };
         })
@@ -81,17 +81,17 @@ module _ {Held : Type 0} (acts : Acts Held) (place : ℕ → ℕ → Held) (ram 
       (led offset n cpu h run.cpu run.held fits run.before (within-before offset run.cpu run.held last kept run.unit run.stays e))
 
   -- one turn, from any place from which it ends within the rest
-  turn-from : (cpu : Cpu) (last cycles offset : ℕ) (turn : IsTurn cpu (begun ram board line last) cycles) → offset + cycles ≤ limit →
+  turn-from : (cpu : Cpu) (last cycles offset : ℕ) (turn : IsTurn cpu (begun ram board status line last) cycles) → offset + cycles ≤ limit →
       Leads acts (IsPlace place limit) turn.units cpu (place offset last) cpu (place (offset + cycles) last)
   turn-from cpu last cycles offset turn e =
-      let h : Dry = begun ram board line last in
-      let start : At offset h = record { ram_is = refl; board_is = refl; line_is = refl; within = omega (arith, e) } in
+      let h : Dry = begun ram board status line last in
+      let start : At offset h = record { ram_is = refl; board_is = refl; status_is = refl; line_is = refl; within = omega (arith, e) } in
       let same : offset + 0 ≡ offset = omega arith in
       let done : Led offset turn.units cpu h cpu (record h { cycles = cycles }) = led offset turn.units cpu h cpu (record h { cycles = cycles }) start turn.run e in
       subst (λ o. Leads acts (IsPlace place limit) turn.units cpu (place o last) cpu (place (offset + cycles) last)) same done.run
 
   -- turns one after another
-  pub turns : (cpu : Cpu) (last cycles n : ℕ) → IsTurn cpu (begun ram board line last) cycles → n * cycles ≤ limit → Turns acts place limit cpu last (n * cycles)
+  pub turns : (cpu : Cpu) (last cycles n : ℕ) → IsTurn cpu (begun ram board status line last) cycles → n * cycles ≤ limit → Turns acts place limit cpu last (n * cycles)
   turns cpu last cycles zero turn e = let none : zero * cycles ≡ 0 = omega arith in record { units = 0; run = record { cpu_is = refl; held_is = ap (λ c. place c last) none } }
   turns cpu last cycles (suc n) turn e =
       let more : n * cycles + cycles ≡ suc n * cycles = sym (suc-mul n cycles) in

@@ -1,11 +1,11 @@
 -- Turns of a loop, and the buses on which they are as on the dry one (this project's own).
-use Rattle.std.specs.Prelude.{◌≡◌, ℕ, zero, suc, ◌<◌, ◌≤◌, Bool, false, List, Some, None}
+use Rattle.std.specs.Prelude.{◌≡◌, ℕ, zero, suc, ◌<◌, ◌≤◌, Bool, false, List, Option, Some, None}
 use Rattle.nj_banked.specs.Banks.{Banks}
 use Rattle.nj_isa.specs.Bus.{Acts}
 use Rattle.nj_cpu.specs.declared.state.Cpu.{Cpu}
 use Rattle.nj_cpu.specs.declared.state.UnitEnd.TheVariants.{Done}
 use Rattle.nj_cpu.specs.Unit.{unit_of}
-use Rattle.nj_turns.specs.Dry.{Dry, memory_byte, dry}
+use Rattle.nj_turns.specs.Dry.{Dry, told_byte, dry}
 
 -- the processor and its bus are these
 pub record Stands {Held : Type 0} (cpu : Cpu) (held : Held) (last : Cpu) (kept : Held) : Type 0 where
@@ -25,21 +25,21 @@ abbrev pub Leads : {Held : Type 0} → Acts Held → (Held → Type 0) → ℕ �
 Leads acts In zero cpu held last kept = Stands cpu held last kept
 Leads acts In (suc n) cpu held last kept = OneMore acts (Leads acts In n cpu held) In last kept
 
--- the dry bus was asked for nothing but memory
+-- the dry bus was asked for nothing but what it tells
 pub record IsDry (h : Dry) : Type 0 where
   pub kept : h.lost ≡ false
 
 -- a turn of so many cycles: units that lead from the processor to itself, with the same byte left on the data bus,
--- and that did nothing but read memory
+-- and that did nothing but read memory, or the status
 pub record IsTurn (cpu : Cpu) (held : Dry) (cycles : ℕ) : Type 0 where
   pub units : ℕ
   pub run : Leads dry IsDry units cpu held cpu (record held { cycles = cycles })
 
--- a bus that rests for so many cycles while nothing but memory is read: its state after c cycles, byte b the last one on
--- the data bus, is place c b; memory is this, the NMI line stands, and no sprite copy waits
-pub record Rests {Held : Type 0} (acts : Acts Held) (place : ℕ → ℕ → Held) (ram : List ℕ) (board : Banks) (line : Bool) (limit : ℕ) : Type 0 where
-  pub byte : (c last at byte : ℕ) → c < limit → memory_byte ram board at ≡ Some byte → acts.byte (place c last) at ≡ byte
-  pub after : (c last at byte : ℕ) → c < limit → memory_byte ram board at ≡ Some byte →
+-- a bus that rests for so many cycles while nothing but memory, or the status, is read: its state after c cycles, byte b the last one on
+-- the data bus, is place c b; these are told, the NMI line stands, and no sprite copy waits
+pub record Rests {Held : Type 0} (acts : Acts Held) (place : ℕ → ℕ → Held) (ram : List ℕ) (board : Banks) (status : Option ℕ) (line : Bool) (limit : ℕ) : Type 0 where
+  pub byte : (c last at byte : ℕ) → c < limit → told_byte ram board status at ≡ Some byte → acts.byte (place c last) at ≡ byte
+  pub after : (c last at byte : ℕ) → c < limit → told_byte ram board status at ≡ Some byte →
       acts.after_read (place c last) at ≡ place (suc c) byte
   pub line_is : (c last : ℕ) → c ≤ limit → acts.line (place c last) ≡ line
   pub no_page : (c last : ℕ) → c ≤ limit → acts.page (place c last) ≡ None

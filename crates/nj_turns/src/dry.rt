@@ -3,7 +3,7 @@
 ghost use Rattle.std.specs.Prelude.{◌≡◌, true};
 ghost use Rattle.nj_cpu.specs.declared.state.UnitEnd.TheVariants.{Done};
 ghost use Rattle.nj_cpu.specs.Unit.{unit_of};
-ghost use Rattle.nj_turns.specs.Dry.{memory_byte, dry};
+ghost use Rattle.nj_turns.specs.Dry.{told_byte, dry};
 ghost use Rattle.nj_turns.specs.Turn.{IsDry};
 
 use nj_banked::Banked;
@@ -14,11 +14,12 @@ use nj_isa::Bus;
 // The cycles that are tried at most.
 pub(crate) const MOST_CYCLES: u32 = 255;
 
-/// Working and program memory, and what was seen of the bus so far.
+/// Working and program memory, a status that stays, and what was seen of the bus so far.
 #[derive(Drop)]
 pub(crate) struct DryBus<'a> {
     pub ram: &'a [u8; 2048],
     pub board: &'a Banked,
+    pub status: Option<u8>,
     pub line: bool,
     pub bus_byte: u8,
     pub cycles: u32,
@@ -26,16 +27,18 @@ pub(crate) struct DryBus<'a> {
 }
 
 impl<'a> DryBus<'a> {
-    // The byte of working or program memory at an address.
+    // The byte of working or program memory at an address, or the status.
     #[inline]
-    #[tactic(auto, unfolding(crate::specs::Dry::memory_byte, nj_banked::specs::Banked::byte_at))]
-    fn memory_byte(&self, at: u16) -> Option<u8>
-        ensures { result ≡ memory_byte self.now.ram.now self.now.board.now at }
+    #[tactic(auto, unfolding(crate::specs::Dry::told_byte, nj_banked::specs::Banked::byte_at))]
+    fn told_byte(&self, at: u16) -> Option<u8>
+        ensures { result ≡ told_byte self.now.ram.now self.now.board.now self.now.status at }
     {
         if at < 0x2000 {
             Some(self.ram[at as usize % 2048])
         } else if at >= 0x8000 {
             self.board.cpu_read(at)
+        } else if at < 0x4000 && at % 8 == 2 {
+            self.status
         } else {
             None
         }
@@ -58,14 +61,14 @@ impl<'a> Bus for DryBus<'a> {
 
     ghost Held = { Dry };
 
-    ghost held = { λ d. record { ram = d.ram.now; board = d.board.now; line = d.line; bus_byte = d.bus_byte; cycles = d.cycles; lost = d.lost } };
+    ghost held = { λ d. record { ram = d.ram.now; board = d.board.now; status = d.status; line = d.line; bus_byte = d.bus_byte; cycles = d.cycles; lost = d.lost } };
 
     ghost acts = { dry };
 
     #[inline]
     #[tactic(auto, unfolding(crate::specs::Dry::after_read))]
     fn read(&mut self, at: u16) -> u8 {
-        match self.memory_byte(at) {
+        match self.told_byte(at) {
             Some(byte) => {
                 if self.cycles < MOST_CYCLES {
                     self.bus_byte = byte;

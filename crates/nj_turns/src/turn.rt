@@ -51,16 +51,24 @@ fn is_back(now: &Cpu, cpu: &Cpu, last: u8, bus_byte: u8) -> bool
     last == bus_byte && is_same(now, cpu)
 }
 
-/// How many cycles one turn takes, at most 255, of a loop that reads working and program memory alone, from the
-/// processor as it stands, with this level of the NMI line and this last byte on the data bus. 0 where no such turn was
-/// found within a few instructions.
-pub fn turn_cycles(cpu: &Cpu, ram: &[u8; 2048], board: &Banked, line: bool, bus_byte: u8) -> u32
-    ensures turn { 0 < result → IsTurn cpu.now (begun ram.now board.now line bus_byte) result }
+/// How many cycles one turn takes, at most 255, of a loop that reads working and program memory alone, and $2002 where
+/// reads of it answer this status: from the processor as it stands, with this level of the NMI line and this last byte on
+/// the data bus. 0 where no such turn was found within a few instructions.
+pub fn turn_cycles(
+    cpu: &Cpu,
+    ram: &[u8; 2048],
+    board: &Banked,
+    status: Option<u8>,
+    line: bool,
+    bus_byte: u8,
+) -> u32
+    ensures turn { 0 < result → IsTurn cpu.now (begun ram.now board.now status line bus_byte) result }
     ensures few { result ≤ 255 }
 {
     let mut dry = DryBus {
         ram,
         board,
+        status,
         line,
         bus_byte,
         cycles: 0,

@@ -5,7 +5,7 @@ use Rattle.std.specs.Prelude.{option_and_then}
 use Rattle.std.specs.Borrow.{Bor}
 use Rattle.std.specs.Str.{bytes_eq}
 use Rattle.nj_words.specs.Words.{Taken, Word, taken}
-use Rattle.nj_words.specs.Commands.{Row, asm_row, check_row, command_of, play_row, reading, replay_row, search_row, workload_row}
+use Rattle.nj_words.specs.Commands.{Row, asm_row, check_row, clean_row, command_of, play_row, reading, replay_row, search_row, trace_row, watch_row, workload_row}
 use Rattle.nj_words.specs.Parser.{form_of, words_of}
 use Rattle.nj_words.proofs.Lookups.{same_word}
 
@@ -56,14 +56,30 @@ pub asm_read : (words : List Word) → reading (codes "asm" ∷ words) ≡ comma
 unfolding reading
 asm_read words = refl
 
--- no command has this word
-pub other_read : (word : Word) (words : List Word) → (word ≡ codes "play" → ⊥) → (word ≡ codes "search" → ⊥) → (word ≡ codes "replay" → ⊥) → (word ≡ codes "check" → ⊥) → (word ≡ codes "workload" → ⊥) → (word ≡ codes "asm" → ⊥) → reading (word ∷ words) ≡ None
+pub clean_read : (words : List Word) → reading (codes "clean" ∷ words) ≡ command_of clean_row words
 unfolding reading
-other_read word words not_play not_search not_replay not_check not_workload not_asm =
+clean_read words = refl
+
+pub trace_read : (words : List Word) → reading (codes "trace" ∷ words) ≡ command_of trace_row words
+unfolding reading
+trace_read words = refl
+
+pub watch_read : (words : List Word) → reading (codes "watch" ∷ words) ≡ command_of watch_row words
+unfolding reading
+watch_read words = refl
+
+-- no command has this word
+pub other_read : (word : Word) (words : List Word) → (word ≡ codes "play" → ⊥) → (word ≡ codes "search" → ⊥) → (word ≡ codes "replay" → ⊥) → (word ≡ codes "check" → ⊥) → (word ≡ codes "workload" → ⊥)
+    → (word ≡ codes "asm" → ⊥) → (word ≡ codes "clean" → ⊥) → (word ≡ codes "trace" → ⊥) → (word ≡ codes "watch" → ⊥) → reading (word ∷ words) ≡ None
+unfolding reading
+other_read word words not_play not_search not_replay not_check not_workload not_asm not_clean not_trace not_watch =
     let play_differs = other_word word (codes "play") not_play in
     let search_differs = other_word word (codes "search") not_search in
     let replay_differs = other_word word (codes "replay") not_replay in
     let check_differs = other_word word (codes "check") not_check in
     let workload_differs = other_word word (codes "workload") not_workload in
     let asm_differs = other_word word (codes "asm") not_asm in
-    rw (play_differs, search_differs, replay_differs, check_differs, workload_differs, asm_differs) refl
+    let clean_differs = other_word word (codes "clean") not_clean in
+    let trace_differs = other_word word (codes "trace") not_trace in
+    let watch_differs = other_word word (codes "watch") not_watch in
+    rw (play_differs, search_differs, replay_differs, check_differs, workload_differs, asm_differs, clean_differs, trace_differs, watch_differs) refl

@@ -6,7 +6,7 @@ use Rattle.nj_outside.specs.Decimal.{decimal_of}
 use Rattle.nj_words.specs.Words.{Form, Taken, Word, taken}
 use Rattle.nj_words.specs.Options.{number_or, value_at}
 use Rattle.nj_words.specs.declared.Command.{Command}
-use Rattle.nj_words.specs.declared.Command.TheVariants.{Asm, Check, Play, Replay, Search, Workload}
+use Rattle.nj_words.specs.declared.Command.TheVariants.{Asm, Check, Clean, Play, Replay, Search, Trace, Watch, Workload}
 use Rattle.nj_words.specs.declared.SearchOptions.{SearchOptions}
 
 -- a command: its word, what it takes, and what it is with what it was given, where its values have
@@ -86,6 +86,38 @@ asm_form = record { names = codes "SOURCE" ∷ []; options = [] }
 abbrev pub asm_of : Taken → Option Command
 asm_of taken = Some (Asm (name_at taken 0))
 
+-- `clean CART SCRIPT START MOVIE`; our own
+abbrev pub clean_form : Form
+clean_form = record {
+  names = codes "CART" ∷ codes "SCRIPT" ∷ codes "START" ∷ codes "MOVIE" ∷ [];
+  options = [];
+}
+
+-- the names of `clean`, by their places; our own
+abbrev pub clean_of : Taken → Option Command
+clean_of taken =
+    Some (Clean (name_at taken 0) (name_at taken 1) (name_at taken 2) (name_at taken 3))
+
+-- `trace CART MOVIE`, with its option; our own
+abbrev pub trace_form : Form
+trace_form = record { names = codes "CART" ∷ codes "MOVIE" ∷ []; options = codes "frame" ∷ [] }
+
+-- the number of `trace`: the frame from 1 to 1,048,576, else 1; our own
+abbrev pub trace_frame_of : Taken → Option ℕ
+trace_frame_of taken = number_or 1 1048576 1 (value_at taken 0)
+
+-- the names of `trace`, by their places, and its number; our own
+abbrev pub trace_of : Taken → Option Command
+trace_of taken = option_map (λ frame. Trace (name_at taken 0) (name_at taken 1) frame) (trace_frame_of taken)
+
+-- `watch CART SCRIPT MOVIE`; our own
+abbrev pub watch_form : Form
+watch_form = record { names = codes "CART" ∷ codes "SCRIPT" ∷ codes "MOVIE" ∷ []; options = [] }
+
+-- the names of `watch`, by their places; our own
+abbrev pub watch_of : Taken → Option Command
+watch_of taken = Some (Watch (name_at taken 0) (name_at taken 1) (name_at taken 2))
+
 -- the command `play`; our own
 abbrev pub play_row : Row
 play_row = record { word = codes "play"; form = play_form; made = play_of }
@@ -110,9 +142,22 @@ workload_row = record { word = codes "workload"; form = workload_form; made = wo
 abbrev pub asm_row : Row
 asm_row = record { word = codes "asm"; form = asm_form; made = asm_of }
 
+-- the command `clean`; our own
+abbrev pub clean_row : Row
+clean_row = record { word = codes "clean"; form = clean_form; made = clean_of }
+
+-- the command `trace`; our own
+abbrev pub trace_row : Row
+trace_row = record { word = codes "trace"; form = trace_form; made = trace_of }
+
+-- the command `watch`; our own
+abbrev pub watch_row : Row
+watch_row = record { word = codes "watch"; form = watch_form; made = watch_of }
+
 -- the commands that there are; our own
 abbrev pub table : List Row
-table = play_row ∷ search_row ∷ replay_row ∷ check_row ∷ workload_row ∷ asm_row ∷ []
+table =
+    play_row ∷ search_row ∷ replay_row ∷ check_row ∷ workload_row ∷ asm_row ∷ clean_row ∷ trace_row ∷ watch_row ∷ []
 
 -- the numbers of a search are in their ranges; our own
 pub record AreInRange (options : SearchOptions) : Type 0 where
@@ -133,6 +178,9 @@ IsInRange (Replay cart script start movie) = Unit {0}
 IsInRange (Check cart script) = Unit {0}
 IsInRange (Workload number) = Unit {0}
 IsInRange (Asm source) = Unit {0}
+IsInRange (Clean cart script start movie) = Unit {0}
+IsInRange (Trace cart movie frame) = (1 ≤ frame) × (frame ≤ 1048576)
+IsInRange (Watch cart script movie) = Unit {0}
 
 -- what the words after the command's own make of it, or none; our own
 unfoldable pub command_of : Row → List Word → Option Command
@@ -152,6 +200,9 @@ workers_of (Replay cart script start movie) = 1
 workers_of (Check cart script) = 1
 workers_of (Workload number) = 1
 workers_of (Asm source) = 1
+workers_of (Clean cart script start movie) = 1
+workers_of (Trace cart movie frame) = 1
+workers_of (Watch cart script movie) = 1
 
 -- the words read as a command that asks for two workers or more; our own
 unfoldable pub asks_workers : List Word → Bool

@@ -1,7 +1,7 @@
 //! Each command, with its names and options.
 ghost use Rattle.std.specs.Prelude.{◌≡◌, ◌≤◌, length, Err, IfOk, IfSome, None, Some};
-ghost use Rattle.nj_words.specs.Commands.{AreInRange, IsInRange, asm_row, check_row, command_of, play_row, replay_row};
-ghost use Rattle.nj_words.specs.Commands.{search_options_of, search_row, workload_row};
+ghost use Rattle.nj_words.specs.Commands.{AreInRange, IsInRange, asm_row, check_row, clean_row, command_of, play_row, replay_row};
+ghost use Rattle.nj_words.specs.Commands.{search_options_of, search_row, trace_row, watch_row, workload_row};
 ghost use Rattle.nj_words.specs.Parser.{taken_of, words_of};
 ghost use Rattle.nj_words.specs.declared.refused.WordsRefused.TheVariants.{Usage};
 
@@ -135,5 +135,66 @@ pub(crate) fn asm(alloc: Global, words: &[String]) -> Result<Command, WordsRefus
     let given = take(alloc, ASM_NAMES.as_slice(), NO_OPTIONS.as_slice(), words)?;
     Ok(Command::Asm {
         source: given.name(alloc, 0)?,
+    })
+}
+
+static CLEAN_NAMES: [&str; 4] = ["CART", "SCRIPT", "START", "MOVIE"];
+
+#[tactic(auto, unfolding(crate::specs::Commands::IsInRange))]
+pub(crate) fn clean(alloc: Global, words: &[String]) -> Result<Command, WordsRefused>
+    ensures read { IfOk result (λ command. command_of clean_row (words_of words.now) ≡ Some command) }
+    ensures usage { result ≡ Err Usage → command_of clean_row (words_of words.now) ≡ None }
+    ensures in_range { IfOk result (λ command. IsInRange command) }
+{
+    let given = take(alloc, CLEAN_NAMES.as_slice(), NO_OPTIONS.as_slice(), words)?;
+    Ok(Command::Clean {
+        cart: given.name(alloc, 0)?,
+        script: given.name(alloc, 1)?,
+        start: given.name(alloc, 2)?,
+        movie: given.name(alloc, 3)?,
+    })
+}
+
+static TRACE_NAMES: [&str; 2] = ["CART", "MOVIE"];
+
+static TRACE_OPTIONS: [&str; 1] = ["frame"];
+
+#[tactic(auto, unfolding(crate::specs::Commands::IsInRange))]
+pub(crate) fn trace(alloc: Global, words: &[String]) -> Result<Command, WordsRefused>
+    ensures read { IfOk result (λ command. command_of trace_row (words_of words.now) ≡ Some command) }
+    ensures usage { result ≡ Err Usage → command_of trace_row (words_of words.now) ≡ None }
+    ensures in_range { IfOk result (λ command. IsInRange command) }
+{
+    let given = take(
+        alloc,
+        TRACE_NAMES.as_slice(),
+        TRACE_OPTIONS.as_slice(),
+        words,
+    )?;
+    let Some(frame) = given.number(0, 1, 1_048_576, 1) else {
+        return Err(WordsRefused::Usage);
+    };
+    let cart = given.name(alloc, 0)?;
+    let movie = given.name(alloc, 1)?;
+    Ok(Command::Trace {
+        cart,
+        movie,
+        frame: frame as u32,
+    })
+}
+
+static WATCH_NAMES: [&str; 3] = ["CART", "SCRIPT", "MOVIE"];
+
+#[tactic(auto, unfolding(crate::specs::Commands::IsInRange))]
+pub(crate) fn watch(alloc: Global, words: &[String]) -> Result<Command, WordsRefused>
+    ensures read { IfOk result (λ command. command_of watch_row (words_of words.now) ≡ Some command) }
+    ensures usage { result ≡ Err Usage → command_of watch_row (words_of words.now) ≡ None }
+    ensures in_range { IfOk result (λ command. IsInRange command) }
+{
+    let given = take(alloc, WATCH_NAMES.as_slice(), NO_OPTIONS.as_slice(), words)?;
+    Ok(Command::Watch {
+        cart: given.name(alloc, 0)?,
+        script: given.name(alloc, 1)?,
+        movie: given.name(alloc, 2)?,
     })
 }

@@ -14,7 +14,7 @@ mod commands;
 mod parser;
 mod refused;
 
-use commands::{asm, check, play, replay, search, workload};
+use commands::{asm, check, clean, play, replay, search, trace, watch, workload};
 pub use nj_seq::Text;
 pub use refused::WordsRefused;
 use std::alloc::{AllocError, Global};
@@ -53,6 +53,25 @@ pub enum Command {
     /// Assembles a source and lists its bytes.
     Asm {
         source: Text,
+    },
+    /// Releases each button of a winning movie that the win does not need.
+    Clean {
+        cart: Text,
+        script: Text,
+        start: Text,
+        movie: Text,
+    },
+    /// Lists what the processor does in one frame of a movie, from 1 to 1,048,576.
+    Trace {
+        cart: Text,
+        movie: Text,
+        frame: u32,
+    },
+    /// Lists the script's properties after each frame of a movie.
+    Watch {
+        cart: Text,
+        script: Text,
+        movie: Text,
     },
 }
 
@@ -99,6 +118,9 @@ pub fn read_words(alloc: Global, words: &[String]) -> Result<Command, WordsRefus
         "check" => check(alloc, rest),
         "workload" => workload(alloc, rest),
         "asm" => asm(alloc, rest),
+        "clean" => clean(alloc, rest),
+        "trace" => trace(alloc, rest),
+        "watch" => watch(alloc, rest),
         _ => Err(WordsRefused::Usage),
     }
 }

@@ -108,7 +108,7 @@ fn names_of_the_others(rt: HostRuntime) -> Result<(), Fail> {
     Ok(())
 }
 
-static UNREADABLE: [&str; 27] = [
+static UNREADABLE: [&str; 33] = [
     "",
     "-- play L M",
     "Play L M",
@@ -136,6 +136,12 @@ static UNREADABLE: [&str; 27] = [
     "workload +1",
     "workload 18446744073709551616",
     "asm A B",
+    "clean W S M",
+    "clean W S - M --frame 1",
+    "trace W",
+    "trace W M --frame 0",
+    "trace W M --frame 1048577",
+    "watch W S M --frame 1",
 ];
 
 #[test]

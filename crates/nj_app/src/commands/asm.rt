@@ -10,6 +10,7 @@ use nj_steps::Steps;
 use std::alloc::Global;
 use std::sync::ledger::Ledger;
 
+/// What `asm` does.
 #[derive(Clone, Copy)]
 pub struct Asm;
 

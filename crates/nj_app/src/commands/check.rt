@@ -13,6 +13,7 @@ use nj_steps::Steps;
 use std::alloc::{AllocError, Global};
 use std::sync::ledger::Ledger;
 
+/// What `check` does.
 #[derive(Clone, Copy)]
 pub struct Check;
 

@@ -15,6 +15,7 @@ use nj_steps::Steps;
 use std::alloc::{AllocError, Global};
 use std::sync::ledger::Ledger;
 
+/// What `play` does.
 #[derive(Clone, Copy)]
 pub struct Play;
 

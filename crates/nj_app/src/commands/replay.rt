@@ -22,6 +22,7 @@ use nj_steps::Steps;
 use std::alloc::{AllocError, Global};
 use std::sync::ledger::Ledger;
 
+/// What `replay` does.
 #[derive(Clone, Copy)]
 pub struct Replay;
 
@@ -67,16 +68,16 @@ fn replayed<L: Ledger>(
     }
 }
 
-const NOT_WON: u8 = 10;
+/// The status of a movie that does not win.
+pub const NOT_WON: u8 = 10;
 
 fn reply_of(alloc: Global, replayed: Replayed) -> Result<Reply, AllocError>
     ensures status { IfOk result (λ reply. reply.status ≡ replay_status replayed.verdict) }
     ensures text { IfOk result (λ reply. reply.text ≡ replay_line replayed) }
     ensures done { IfOk result (λ reply. IsCarriedOut reply.status) }
 {
-    let is_won = is_win(replayed.verdict);
-    let text = write_line(alloc, is_won, replayed)?;
-    let status = if is_won { 0 } else { NOT_WON };
+    let status = if is_win(replayed.verdict) { 0 } else { NOT_WON };
+    let text = replay_line(alloc, replayed)?;
     Ok(Reply::of(status, text))
 }
 
@@ -95,11 +96,11 @@ fn outcome_word(is_won: bool) -> &'static str
     if is_won { "won" } else { "notwon" }
 }
 
-fn write_line(alloc: Global, is_won: bool, replayed: Replayed) -> Result<Text, AllocError>
-    requires { is_won ≡ is_win replayed.verdict }
+/// The line of a replay.
+pub fn replay_line(alloc: Global, replayed: Replayed) -> Result<Text, AllocError>
     ensures { IfOk result (λ text. text ≡ replay_line replayed) }
 {
-    let outcome = outcome_word(is_won);
+    let outcome = outcome_word(is_win(replayed.verdict));
     let Replayed {
         step,
         frames,

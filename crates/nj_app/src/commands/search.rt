@@ -33,6 +33,7 @@ use std::sync::Wait;
 use std::sync::ledger::Ledger;
 use std::thread::Threads;
 
+/// What `search` does by one thread.
 #[derive(Clone, Copy)]
 pub struct Search {
     pub options: SearchOptions,

@@ -1,6 +1,6 @@
 use Rattle.std.proofs.Common.{◌≡◌, ◌∙◌, IfOk, Some, codes, refl, subst, sym}
 use Rattle.nj_words.specs.Parser.{words_of}
-use Rattle.nj_words.proofs.Making.{asm_read, check_read, first_read, nothing_read, other_read, play_read, replay_read, search_read, workload_read}
+use Rattle.nj_words.proofs.Making.{asm_read, check_read, clean_read, first_read, nothing_read, other_read, play_read, replay_read, search_read, trace_read, watch_read, workload_read}
 use Rattle.nj_words.proofs.read_words.Goals as goal
 
 pub returns-in_default-clause-usage : goal.returns-in_default-clause-usage
@@ -66,7 +66,37 @@ returns-in-asm-clause-usage c = λ usage.
     first_read c.args.words.now c.in-Some.command.now c.in-Some.rest.now c.as_str.result.now (codes "asm") c.in-Some.ensures.cases.0 c.as_str.ensures.value c.in-asm.is
     ∙ asm_read (words_of c.in-Some.rest.now) ∙ c.asm.ensures.usage usage
 
+pub returns-in-clean-clause-read : goal.returns-in-clean-clause-read
+returns-in-clean-clause-read c =
+    let whole = first_read c.args.words.now c.in-Some.command.now c.in-Some.rest.now c.as_str.result.now (codes "clean") c.in-Some.ensures.cases.0 c.as_str.ensures.value c.in-clean.is in
+    subst (λ r. IfOk c.clean.result (λ command. r ≡ Some command)) (sym (whole ∙ clean_read (words_of c.in-Some.rest.now))) c.clean.ensures.read
+
+pub returns-in-clean-clause-usage : goal.returns-in-clean-clause-usage
+returns-in-clean-clause-usage c = λ usage.
+    first_read c.args.words.now c.in-Some.command.now c.in-Some.rest.now c.as_str.result.now (codes "clean") c.in-Some.ensures.cases.0 c.as_str.ensures.value c.in-clean.is
+    ∙ clean_read (words_of c.in-Some.rest.now) ∙ c.clean.ensures.usage usage
+
+pub returns-in-trace-clause-read : goal.returns-in-trace-clause-read
+returns-in-trace-clause-read c =
+    let whole = first_read c.args.words.now c.in-Some.command.now c.in-Some.rest.now c.as_str.result.now (codes "trace") c.in-Some.ensures.cases.0 c.as_str.ensures.value c.in-trace.is in
+    subst (λ r. IfOk c.trace.result (λ command. r ≡ Some command)) (sym (whole ∙ trace_read (words_of c.in-Some.rest.now))) c.trace.ensures.read
+
+pub returns-in-trace-clause-usage : goal.returns-in-trace-clause-usage
+returns-in-trace-clause-usage c = λ usage.
+    first_read c.args.words.now c.in-Some.command.now c.in-Some.rest.now c.as_str.result.now (codes "trace") c.in-Some.ensures.cases.0 c.as_str.ensures.value c.in-trace.is
+    ∙ trace_read (words_of c.in-Some.rest.now) ∙ c.trace.ensures.usage usage
+
+pub returns-in-watch-clause-read : goal.returns-in-watch-clause-read
+returns-in-watch-clause-read c =
+    let whole = first_read c.args.words.now c.in-Some.command.now c.in-Some.rest.now c.as_str.result.now (codes "watch") c.in-Some.ensures.cases.0 c.as_str.ensures.value c.in-watch.is in
+    subst (λ r. IfOk c.watch.result (λ command. r ≡ Some command)) (sym (whole ∙ watch_read (words_of c.in-Some.rest.now))) c.watch.ensures.read
+
+pub returns-in-watch-clause-usage : goal.returns-in-watch-clause-usage
+returns-in-watch-clause-usage c = λ usage.
+    first_read c.args.words.now c.in-Some.command.now c.in-Some.rest.now c.as_str.result.now (codes "watch") c.in-Some.ensures.cases.0 c.as_str.ensures.value c.in-watch.is
+    ∙ watch_read (words_of c.in-Some.rest.now) ∙ c.watch.ensures.usage usage
+
 pub returns-in_default-as_str-clause-usage : goal.returns-in_default-as_str-clause-usage
 returns-in_default-as_str-clause-usage c = λ _.
     first_read c.args.words.now c.in-Some.command.now c.in-Some.rest.now c.as_str.result.now c.as_str.result.now c.in-Some.ensures.cases.0 c.as_str.ensures.value refl
-    ∙ other_read c.as_str.result.now (words_of c.in-Some.rest.now) c.in_default-as_str.not-play c.in_default-as_str.not-search c.in_default-as_str.not-replay c.in_default-as_str.not-check c.in_default-as_str.not-workload c.in_default-as_str.not-asm
+    ∙ other_read c.as_str.result.now (words_of c.in-Some.rest.now) c.in_default-as_str.not-play c.in_default-as_str.not-search c.in_default-as_str.not-replay c.in_default-as_str.not-check c.in_default-as_str.not-workload c.in_default-as_str.not-asm c.in_default-as_str.not-clean c.in_default-as_str.not-trace c.in_default-as_str.not-watch

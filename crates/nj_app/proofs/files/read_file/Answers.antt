@@ -1,5 +1,5 @@
 -- The file is read as its format says.
-use Rattle.std.proofs.Common.{◌≡◌, ℕ, Err, ap, arith}
+use Rattle.std.proofs.Common.{Err, ap, arith}
 use Rattle.nj_app.specs.declared.files.Bounds.{Bounds}
 use Rattle.nj_app.proofs.Readers.{fault_loads, file_loads, made_loads, made_past, no_memory_loads, without_loads}
 use Rattle.nj_app.proofs.files.read_file.Goals as goal

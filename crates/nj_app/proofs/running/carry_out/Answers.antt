@@ -1,9 +1,9 @@
 -- Each command's work is what it reads and does.
-use Rattle.std.proofs.Common.{◌+◌, ◌≤◌, subst}
+use Rattle.std.proofs.Common.{◌+◌, ◌≤◌, refl, subst}
 use Rattle.nj_app.specs.Answer.{frames_of}
 use Rattle.nj_app.specs.Stops.{Serves}
 use Rattle.nj_app.specs.Work.{given}
-use Rattle.nj_app.proofs.Works.{asm_is, check_is, play_is, replay_is, search_is}
+use Rattle.nj_app.proofs.Works.{asm_is, check_is, clean_is, play_is, replay_is, search_is, trace_is, watch_is}
 use Rattle.nj_app.proofs.running.carry_out.Goals as goal
 
 pub returns-in-Play-clause-serves : goal.returns-in-Play-clause-serves
@@ -65,3 +65,39 @@ returns-in-Asm-clause-frames g c = λ files told.
     subst (λ work. c.serve-in-Asm.new.steps ≤ c.args.steps.now + frames_of (given files work))
     (asm_is c.args.command.now _ _ c.in-Asm.is c.named-in-Asm.ensures)
     (c.serve-in-Asm.ensures.frames files told)
+
+pub returns-in-Clean-clause-serves : goal.returns-in-Clean-clause-serves
+returns-in-Clean-clause-serves g c = λ files told.
+    subst (λ work. Serves files work (g.S.Shelf.failed_read c.serve-in-Clean.new.shelf) c.serve-in-Clean.result)
+    (clean_is c.args.command.now _ _ _ _ _ _ _ _ c.in-Clean.is c.named-in-Clean.ensures c.named-in-Clean-2.ensures c.named-in-Clean-3.ensures c.named-in-Clean-4.ensures)
+    (c.serve-in-Clean.ensures.serves files told)
+
+pub returns-in-Clean-clause-frames : goal.returns-in-Clean-clause-frames
+returns-in-Clean-clause-frames g c = λ files told.
+    subst (λ work. c.serve-in-Clean.new.steps ≤ c.args.steps.now + frames_of (given files work))
+    (clean_is c.args.command.now _ _ _ _ _ _ _ _ c.in-Clean.is c.named-in-Clean.ensures c.named-in-Clean-2.ensures c.named-in-Clean-3.ensures c.named-in-Clean-4.ensures)
+    (c.serve-in-Clean.ensures.frames files told)
+
+pub returns-in-Trace-clause-serves : goal.returns-in-Trace-clause-serves
+returns-in-Trace-clause-serves g c = λ files told.
+    subst (λ work. Serves files work (g.S.Shelf.failed_read c.serve-in-Trace.new.shelf) c.serve-in-Trace.result)
+    (trace_is c.args.command.now _ _ _ _ c.in-Trace.frame _ c.in-Trace.is c.named-in-Trace.ensures c.named-in-Trace-2.ensures refl)
+    (c.serve-in-Trace.ensures.serves files told)
+
+pub returns-in-Trace-clause-frames : goal.returns-in-Trace-clause-frames
+returns-in-Trace-clause-frames g c = λ files told.
+    subst (λ work. c.serve-in-Trace.new.steps ≤ c.args.steps.now + frames_of (given files work))
+    (trace_is c.args.command.now _ _ _ _ c.in-Trace.frame _ c.in-Trace.is c.named-in-Trace.ensures c.named-in-Trace-2.ensures refl)
+    (c.serve-in-Trace.ensures.frames files told)
+
+pub returns-in-Watch-clause-serves : goal.returns-in-Watch-clause-serves
+returns-in-Watch-clause-serves g c = λ files told.
+    subst (λ work. Serves files work (g.S.Shelf.failed_read c.serve-in-Watch.new.shelf) c.serve-in-Watch.result)
+    (watch_is c.args.command.now _ _ _ _ _ _ c.in-Watch.is c.named-in-Watch.ensures c.named-in-Watch-2.ensures c.named-in-Watch-3.ensures)
+    (c.serve-in-Watch.ensures.serves files told)
+
+pub returns-in-Watch-clause-frames : goal.returns-in-Watch-clause-frames
+returns-in-Watch-clause-frames g c = λ files told.
+    subst (λ work. c.serve-in-Watch.new.steps ≤ c.args.steps.now + frames_of (given files work))
+    (watch_is c.args.command.now _ _ _ _ _ _ c.in-Watch.is c.named-in-Watch.ensures c.named-in-Watch-2.ensures c.named-in-Watch-3.ensures)
+    (c.serve-in-Watch.ensures.frames files told)

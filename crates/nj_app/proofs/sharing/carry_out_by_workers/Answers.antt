@@ -1,5 +1,5 @@
 -- A search reads its files and is shared; every other command is carried out on the first counter.
-use Rattle.std.proofs.Common.{◌+◌, ◌≤◌, ◌∙◌, None, Err, ap, arith, subst, sym}
+use Rattle.std.proofs.Common.{◌∙◌, None, Err, ap, arith, subst}
 use Rattle.std.proofs.lemmas.Result.{err_from_is_err_and}
 use Rattle.nj_words.specs.Commands.{IsInRange}
 use Rattle.nj_workers.specs.Counted.{AreCounted}

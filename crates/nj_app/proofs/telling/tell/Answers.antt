@@ -1,8 +1,8 @@
 -- A reply is written, and a stop has its line.
-use Rattle.std.proofs.Common.{Err, lit<, refl, sym, ap, ◌∙◌, subst}
+use Rattle.std.proofs.Common.{Err, lit<, refl, ap, ◌∙◌, subst}
 use Rattle.nj_outside.specs.Told.{appended}
 use Rattle.nj_app.specs.Stops.{Serves}
-use Rattle.nj_app.proofs.Statuses.{carried_out_reply, reply_answers, reply_cut_short, stop_completes, stop_line, stop_reaches, stop_settles, stop_status, unless_failed}
+use Rattle.nj_app.proofs.Statuses.{carried_out_reply, reply_answers, reply_cut_short, stop_completes, stop_line, stop_reaches, stop_settles, unless_failed}
 use Rattle.nj_app.proofs.telling.tell.Goals as goal
 
 pub returns-in-Ok-write_all-clause-known : goal.returns-in-Ok-write_all-clause-known

@@ -1,10 +1,9 @@
 -- The files that are made are those of the number.
-use Rattle.std.proofs.Common.{◌≡◌, ◌≤◌, ◌+◌, ◌∙◌, ℕ, List, Result, refl, sym, ap, subst}
+use Rattle.std.proofs.Common.{◌≡◌, ◌≤◌, ◌+◌, ◌∙◌, ℕ, List, ap, subst}
 use Rattle.std.proofs.lemmas.Result.{err_from_is_err_and}
 use Rattle.nj_game.specs.Plan.{plan_of}
 use Rattle.nj_workload.specs.Game.{game_file}
 use Rattle.nj_workload.specs.Script.{script_text, start_text}
-use Rattle.nj_outside.specs.Told.{Files}
 use Rattle.nj_app.specs.Answer.{frames_of}
 use Rattle.nj_app.specs.Formats.{cart_format, made, movie_format, script_format}
 use Rattle.nj_app.specs.Stops.{Serves}

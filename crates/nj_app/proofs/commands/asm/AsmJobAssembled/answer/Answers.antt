@@ -3,7 +3,6 @@ use Rattle.std.proofs.Common.{◌∙◌, refl, ap}
 use Rattle.std.proofs.lemmas.Result.{err_from_is_err_and}
 use Rattle.nj_asm.specs.Listing.{listing_of}
 use Rattle.nj_app.specs.Asm.{listed_work}
-use Rattle.nj_app.specs.declared.stops.Reply.{Reply}
 use Rattle.nj_app.proofs.Serving.{serves_no_memory, serves_reply}
 use Rattle.nj_app.proofs.commands.asm.AsmJobAssembled.answer.Goals as goal
 

@@ -1,0 +1,10 @@
+pub mod Pads
+pub mod Words
+pub mod Sweeps
+pub mod Frames
+pub mod Firsts
+pub mod Judging
+pub mod Tries
+pub mod Standing
+pub mod Told
+pub mod Costs

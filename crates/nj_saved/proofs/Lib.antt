@@ -1,0 +1,14 @@
+pub mod Accepted
+pub mod Changed
+pub mod Hash
+pub mod Heads
+pub mod InRange
+pub mod Keys
+pub mod Loops
+pub mod Passing
+pub mod Pieces
+pub mod Placed
+pub mod Refusals
+pub mod Said
+pub mod Whole
+pub mod Written
