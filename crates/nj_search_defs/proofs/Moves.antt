@@ -2,15 +2,16 @@
 use Rattle.std.proofs.Common.{◌≡◌, ℕ, zero, suc, ◌+◌, ◌*◌, ◌≤◌, Bool, true, false, cond, List, [], ◌∷◌, ◌++◌, length, take, refl, ap, subst, ◌∙◌, arith, zero-add, length-append}
 use Rattle.std.specs.Prelude.{Option, Some, None, filter, slice_get}
 use Rattle.std.specs.List.{All, Contains}
-use Rattle.std.proofs.lemmas.List.{length-map, length-take}
-use Rattle.std.proofs.lemmas.List.Elements.{All-nil, All-cons, All-head, All-tail, All-weaker, All-append, All-filter, All-take, All-map, All-contains, All-contains_itself, filter_passes}
+use Rattle.std.proofs.lemmas.List.{length-map}
+use Rattle.std.proofs.lemmas.List.Elements.{All-nil, All-cons, All-head, All-tail, All-weaker, All-append, All-filter, All-map, All-contains, All-contains_itself, filter_passes}
 use Rattle.nj_search_defs.specs.Game.{Word, Verdict, Go, Win, Fail, Game, Bounds}
 use Rattle.nj_search_defs.specs.Candidates.{Candidate, word_of, extensions, candidates_from, candidates}
 use Rattle.nj_search_defs.specs.Order.{in_order}
-use Rattle.nj_search_defs.specs.Pruning.{judged_of, is_before, is_win, live, winner, fresh, kept}
+use Rattle.nj_search_defs.specs.Pruning.{judged_of, is_before, is_alike, is_win, live, winner, fresh, kept}
 use Rattle.nj_search_defs.specs.Outcome.{State, Next, Won, Exhausted, Goes, won_or, exhausted_or, lives_of, fresh_of, kept_of, state_after, next, Outcome, WonAt, ExhaustedAt, LimitAt, then_go_on, searched, opening, judged_first, outcome}
 use Rattle.nj_search_defs.specs.Laws.{gone_on, LimitsAdd, FrontIsBounded, IsChild, ParentsStoodBefore, WordsAreEquallyLong, IsBestWin, WinnerIsBest, WonWins}
 use Rattle.nj_search_defs.proofs.Preference.{is_before_orders}
+use Rattle.nj_search_defs.proofs.Limited.{limited_few, All-limited}
 use Rattle.nj_search_defs.proofs.Orders.{All-in_order, IsHeaded, headed}
 
 then_gone_on : (step : ℕ) (n : Next) (f g h : State → Outcome) → ((s : State) → f s ≡ gone_on (g s) h)
@@ -49,15 +50,16 @@ goes_to game bounds state new h =
     exhausted_or-Goes (kept_of game bounds state) (state_after game bounds state) new
     (won_or-Goes (winner game (lives_of game state)) (exhausted_or (kept_of game bounds state) (state_after game bounds state)) new h)
 
-take_most : (n : ℕ) (xs : List Candidate) → length (take n xs) ≤ n
-take_most n xs = omega (arith, length-take n xs)
+-- no more candidates are kept than a front may have
+pub few_kept : (game : Game) (bounds : Bounds) (state : State) → length (kept_of game bounds state) ≤ bounds.most
+unfolding kept_of kept
+few_kept game bounds state = limited_few (is_alike game) bounds.most bounds.quota (in_order (is_before game) (fresh_of game bounds state))
 
 pub front_is_bounded : FrontIsBounded
-unfolding kept_of state_after kept
+unfolding state_after
 front_is_bounded game bounds state new h =
     let P : State → Type 0 = λ s. length s.front ≤ bounds.most in
-    subst P (goes_to game bounds state new h)
-    (rw (length-map (take bounds.most (in_order (is_before game) (fresh_of game bounds state))) word_of) (take_most bounds.most (in_order (is_before game) (fresh_of game bounds state))))
+    subst P (goes_to game bounds state new h) (rw (length-map (kept_of game bounds state) word_of) (few_kept game bounds state))
 
 -- a candidate of a front: its parent is one of the words, and its pad one of those allowed after it
 pub record IsOf (game : Game) (front : List Word) (c : Candidate) : Type 0 where
@@ -83,7 +85,7 @@ made game front i (word ∷ words) all =
 kept_are_of : (game : Game) (bounds : Bounds) (state : State) → All (IsOf game state.front) (kept_of game bounds state)
 unfolding kept_of kept fresh_of fresh lives_of live candidates
 kept_are_of game bounds state =
-    All-take (IsOf game state.front) bounds.most (in_order (is_before game) (fresh_of game bounds state))
+    All-limited (is_alike game) bounds.most bounds.quota (IsOf game state.front) (in_order (is_before game) (fresh_of game bounds state))
     (All-in_order (is_before game) (IsOf game state.front) (fresh_of game bounds state)
     (All-filter _ (IsOf game state.front) (lives_of game state)
     (All-filter _ (IsOf game state.front) (candidates game state.front)

@@ -3,7 +3,7 @@
 //! laws of them as their contracts, and do nothing.
 #![tactic(auto)]
 
-ghost use Rattle.nj_search_defs.specs.Laws.{LimitsAdd, FrontIsBounded, ParentsStoodBefore, WordsAreEquallyLong, WinnerIsBest, WonWins, WonWordsAreAsLong, LimitsHaveFronts, StepsAreCounted, WinnersTellParents};
+ghost use Rattle.nj_search_defs.specs.Laws.{LimitsAdd, FrontIsBounded, ParentsStoodBefore, WordsAreEquallyLong, WinnerIsBest, WonWins, WonWordsAreAsLong, LimitsHaveFronts, StepsAreCounted, WinnersTellParents, BucketsAreBounded, LargeQuotasKeepTheFirst};
 
 /// A search that may go on behind its limit ends as the unbroken one.
 pub fn limits_add()
@@ -53,4 +53,14 @@ pub fn steps_are_counted()
 /// The number of a winner tells its parent's place in the front.
 pub fn winners_tell_parents()
     ensures { WinnersTellParents }
+{}
+
+/// Of the words that a step keeps no more than the quota have one bucket.
+pub fn buckets_are_bounded()
+    ensures { BucketsAreBounded }
+{}
+
+/// A quota that is no less than the words of a front changes nothing: the first of the fresh are kept.
+pub fn large_quotas_keep_the_first()
+    ensures { LargeQuotasKeepTheFirst }
 {}
