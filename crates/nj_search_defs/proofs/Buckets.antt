@@ -1,5 +1,5 @@
 -- Buckets under a quota.
-use Rattle.std.proofs.Common.{◌≡◌, ℤ, true, List, ap, refl}
+use Rattle.std.proofs.Common.{◌≡◌, true, ap, refl}
 use Rattle.std.proofs.lemmas.Bool.Decides.{Decides-int_eq}
 use Rattle.std.proofs.lemmas.Slice.Eq.{slice_eq-Decides}
 use Rattle.nj_search_defs.specs.Game.{Game}

@@ -1,5 +1,5 @@
 -- The laws of a step and of a whole search.
-use Rattle.std.proofs.Common.{◌≡◌, ℕ, zero, suc, ◌+◌, ◌*◌, ◌≤◌, Bool, true, false, cond, List, [], ◌∷◌, ◌++◌, length, take, refl, ap, subst, ◌∙◌, arith, zero-add, length-append}
+use Rattle.std.proofs.Common.{◌≡◌, ℕ, zero, suc, ◌+◌, ◌*◌, ◌≤◌, Bool, true, false, cond, List, [], ◌∷◌, ◌++◌, length, refl, ap, subst, ◌∙◌, arith, zero-add, length-append}
 use Rattle.std.specs.Prelude.{Option, Some, None, filter, slice_get}
 use Rattle.std.specs.List.{All, Contains}
 use Rattle.std.proofs.lemmas.List.{length-map}
@@ -10,6 +10,7 @@ use Rattle.nj_search_defs.specs.Order.{in_order}
 use Rattle.nj_search_defs.specs.Pruning.{judged_of, is_before, is_alike, is_win, live, winner, fresh, kept}
 use Rattle.nj_search_defs.specs.Outcome.{State, Next, Won, Exhausted, Goes, won_or, exhausted_or, lives_of, fresh_of, kept_of, state_after, next, Outcome, WonAt, ExhaustedAt, LimitAt, then_go_on, searched, opening, judged_first, outcome}
 use Rattle.nj_search_defs.specs.Laws.{gone_on, LimitsAdd, FrontIsBounded, IsChild, ParentsStoodBefore, WordsAreEquallyLong, IsBestWin, WinnerIsBest, WonWins}
+use Rattle.nj_search_defs.specs.Going.{WonWinsFrom}
 use Rattle.nj_search_defs.proofs.Preference.{is_before_orders}
 use Rattle.nj_search_defs.proofs.Limited.{limited_few, All-limited}
 use Rattle.nj_search_defs.proofs.Orders.{All-in_order, IsHeaded, headed}
@@ -161,8 +162,8 @@ winner_is_best game lives best h =
     (headed (is_before game) (is_before_orders game) (filter p lives)) h
 
 -- each word that an outcome has won with wins
-WonWinsFrom : Game → Outcome → Type 0
-WonWinsFrom game o = (step : ℕ) (word : Word) → o ≡ WonAt step word → (game.judged word).verdict ≡ Win
+WonFrom : Game → Outcome → Type 0
+WonFrom game o = (step : ℕ) (word : Word) → o ≡ WonAt step word → (game.judged word).verdict ≡ Win
 
 word_in : Outcome → Word
 word_in (WonAt step word) = word
@@ -171,24 +172,24 @@ word_in (LimitAt state) = []
 
 won_step : (game : Game) (step : ℕ) (w : Option Candidate) (ks : List Candidate) (g : List Candidate → State) (f : State → Outcome)
     → ((best : Candidate) → w ≡ Some best → (judged_of game best).verdict ≡ Win)
-    → ((s : State) → WonWinsFrom game (f s)) → WonWinsFrom game (then_go_on step (won_or w (exhausted_or ks g)) f)
-unfolding WonWinsFrom word_in
+    → ((s : State) → WonFrom game (f s)) → WonFrom game (then_go_on step (won_or w (exhausted_or ks g)) f)
+unfolding WonFrom word_in
 won_step game step (Some c) ks g f wins later =
     λ s word h. let e : word_of c ≡ word = ap word_in h in
     let P : Word → Type 0 = λ w. (game.judged w).verdict ≡ Win in subst P e (wins c refl)
 won_step game step None [] g f wins later = λ s word h. absurd (cc)
 won_step game step None (k ∷ ks) g f wins later = later (g (k ∷ ks))
 
-searched_wins : (game : Game) (bounds : Bounds) (limit : ℕ) (state : State) → WonWinsFrom game (searched game bounds limit state)
-unfolding WonWinsFrom searched next
+searched_wins : (game : Game) (bounds : Bounds) (limit : ℕ) (state : State) → WonFrom game (searched game bounds limit state)
+unfolding WonFrom searched next
 searched_wins game bounds zero state = λ s word h. absurd (cc)
 searched_wins game bounds (suc limit) state =
     won_step game (state.step + 1) (winner game (lives_of game state)) (kept_of game bounds state) (state_after game bounds state) (searched game bounds limit)
     (λ best h. (winner_is_best game (lives_of game state) best h).wins)
     (λ s. searched_wins game bounds limit s)
 
-first_wins : (game : Game) (v : Verdict) (o : Outcome) → (game.judged []).verdict ≡ v → WonWinsFrom game o → WonWinsFrom game (judged_first v o)
-unfolding WonWinsFrom word_in
+first_wins : (game : Game) (v : Verdict) (o : Outcome) → (game.judged []).verdict ≡ v → WonFrom game o → WonFrom game (judged_first v o)
+unfolding WonFrom word_in
 first_wins game Go o is wins = wins
 first_wins game Win o is wins =
     λ s word h. let e : [] ≡ word = ap word_in h in
@@ -196,6 +197,10 @@ first_wins game Win o is wins =
 first_wins game Fail o is wins = λ s word h. absurd (cc)
 
 pub won_wins : WonWins
-unfolding WonWinsFrom outcome
+unfolding WonFrom outcome
 won_wins game bounds limit step word h =
     first_wins game (game.judged []).verdict (searched game bounds limit (opening game)) refl (searched_wins game bounds limit (opening game)) step word h
+
+pub won_wins_from : WonWinsFrom
+unfolding WonFrom
+won_wins_from game bounds limit from step word h = searched_wins game bounds limit from step word h

@@ -5,3 +5,5 @@ pub mod Quota
 pub mod Pruning
 pub mod Outcome
 pub mod Laws
+pub mod Sound
+pub mod Going
