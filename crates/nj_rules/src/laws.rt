@@ -1,13 +1,13 @@
 //! What the definitions of this crate come to, in words of their subject. The functions do nothing:
 //! their contracts hold of all rules, sets, items and memory.
 
-ghost use Rattle.std.specs.Prelude.{◌≡◌, ◌≢◌, ℕ, ◌<◌, ◌≤◌, ◌||◌, Bool, true, List, map, length, nat_eq, pos};
+ghost use Rattle.std.specs.Prelude.{◌≡◌, ◌≢◌, ℕ, ◌<◌, ◌≤◌, ◌^◌, ◌||◌, Bool, true, List, map, length, nat_eq, pos};
 ghost use Rattle.std.specs.List.{IsDistinct};
 ghost use Rattle.std.specs.Set.{is_member};
 ghost use Rattle.nj_rules.specs.declared.record.Rule.{Rule};
 ghost use Rattle.nj_rules.specs.declared.record.InputSet.{InputSet};
 ghost use Rattle.nj_rules.specs.declared.record.HashItem.{HashItem};
-ghost use Rattle.nj_rules.specs.Rules.{is_in, status_after, own_hold, is_named, reward_of};
+ghost use Rattle.nj_rules.specs.Rules.{is_in, status_after, own_hold, is_named, level_of, reward_of};
 ghost use Rattle.nj_rules.specs.Pads.{allowed_pads, offered_pads, named_pads};
 ghost use Rattle.nj_rules.specs.Key.{item_bytes, key_in};
 
@@ -35,9 +35,15 @@ pub fn allowed_pads_come_once()
     ensures named { (sets : List InputSet) (ram : List ℕ) → length (allowed_pads sets ram) ≤ length (named_pads sets) }
 {}
 
-/// States whose items have the same bytes and whose status is the same have the same key, and no key
-/// is 0.
+/// A level is no more than there are rules.
+pub fn levels_are_few()
+    ensures { (rules : List Rule) (status : ℕ) → level_of rules status ≤ length rules }
+{}
+
+/// States whose items have the same bytes and whose status is the same have the same key, no key is 0,
+/// and each has 64 bits.
 pub fn keys_tell_bytes_and_status()
     ensures equal { (items : List HashItem) (rules status : ℕ) (ram other : List ℕ) → map (item_bytes ram) items ≡ map (item_bytes other) items → key_in items rules ram status ≡ key_in items rules other status }
     ensures never_zero { (items : List HashItem) (rules status : ℕ) (ram : List ℕ) → key_in items rules ram status ≢ 0 }
+    ensures fit { (items : List HashItem) (rules status : ℕ) (ram : List ℕ) → key_in items rules ram status < 2 ^ 64 }
 {}
