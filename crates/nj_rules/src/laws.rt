@@ -14,12 +14,14 @@ ghost use Rattle.nj_rules.specs.Key.{item_bytes, key_in};
 /// After a state the satisfied rules are those that were before, those whose own conditions hold and
 /// those that a rule whose own conditions hold names; so naming goes one level deep.
 pub fn naming_is_one_level_deep()
-    ensures { (rules : List Rule) (ram : List ℕ) (old k : ℕ) → k < 128 → is_in (status_after rules ram old) k ≡ (is_in old k || (own_hold rules ram k || is_named rules ram k)) }
+    ensures { (rules : List Rule) (ram : List ℕ) (old k : ℕ) → k < 128
+        → is_in (status_after rules ram old) k ≡ (is_in old k || (own_hold rules ram k || is_named rules ram k)) }
 {}
 
 /// A satisfied rule stays satisfied.
 pub fn satisfied_rules_stay()
-    ensures { (rules : List Rule) (ram : List ℕ) (old k : ℕ) → k < 128 → is_in old k ≡ true → is_in (status_after rules ram old) k ≡ true }
+    ensures { (rules : List Rule) (ram : List ℕ) (old k : ℕ) → k < 128
+        → is_in old k ≡ true → is_in (status_after rules ram old) k ≡ true }
 {}
 
 /// Where no rule is satisfied the reward is 0.
@@ -31,8 +33,10 @@ pub fn no_rule_gives_nothing()
 /// more than the sets name.
 pub fn allowed_pads_come_once()
     ensures once { (sets : List InputSet) (ram : List ℕ) → IsDistinct nat_eq (allowed_pads sets ram) }
-    ensures offered { (sets : List InputSet) (ram : List ℕ) (pad : ℕ) → is_member nat_eq (allowed_pads sets ram) pad ≡ is_member nat_eq (offered_pads sets ram) pad }
-    ensures named { (sets : List InputSet) (ram : List ℕ) → length (allowed_pads sets ram) ≤ length (named_pads sets) }
+    ensures offered { (sets : List InputSet) (ram : List ℕ) (pad : ℕ)
+        → is_member nat_eq (allowed_pads sets ram) pad ≡ is_member nat_eq (offered_pads sets ram) pad }
+    ensures named { (sets : List InputSet) (ram : List ℕ)
+        → length (allowed_pads sets ram) ≤ length (named_pads sets) }
 {}
 
 /// A level is no more than there are rules.
@@ -43,7 +47,11 @@ pub fn levels_are_few()
 /// States whose items have the same bytes and whose status is the same have the same key, no key is 0,
 /// and each has 64 bits.
 pub fn keys_tell_bytes_and_status()
-    ensures equal { (items : List HashItem) (rules status : ℕ) (ram other : List ℕ) → map (item_bytes ram) items ≡ map (item_bytes other) items → key_in items rules ram status ≡ key_in items rules other status }
-    ensures never_zero { (items : List HashItem) (rules status : ℕ) (ram : List ℕ) → key_in items rules ram status ≢ 0 }
-    ensures fit { (items : List HashItem) (rules status : ℕ) (ram : List ℕ) → key_in items rules ram status < 2 ^ 64 }
+    ensures equal { (items : List HashItem) (rules status : ℕ) (ram other : List ℕ)
+        → map (item_bytes ram) items ≡ map (item_bytes other) items
+        → key_in items rules ram status ≡ key_in items rules other status }
+    ensures never_zero { (items : List HashItem) (rules status : ℕ) (ram : List ℕ)
+        → key_in items rules ram status ≢ 0 }
+    ensures fit { (items : List HashItem) (rules status : ℕ) (ram : List ℕ)
+        → key_in items rules ram status < 2 ^ 64 }
 {}

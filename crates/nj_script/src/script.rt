@@ -140,7 +140,8 @@ fn head_in(alloc: Global, value: &Value) -> Result<(), ScriptRefused>
 // The JSON value of a text of bytes.
 #[tactic(auto, using(crate::proofs::Json::texts), unfolding(crate::specs::Script::json_of))]
 fn json_in(alloc: Global, bytes: &[u8]) -> Result<Value, ScriptRefused>
-    ensures { MatchResult result (λ value. json_of bytes.now ≡ Some (view value)) (λ e. (e ≡ ScriptRefused.NoMemory) ⊎ ((e ≡ ScriptRefused.NotJson) × (json_of bytes.now ≡ None))) }
+    ensures { MatchResult result (λ value. json_of bytes.now ≡ Some (view value))
+        (λ e. (e ≡ ScriptRefused.NoMemory) ⊎ ((e ≡ ScriptRefused.NotJson) × (json_of bytes.now ≡ None))) }
 {
     match Value::from_slice(alloc, bytes) {
         Ok(value) => Ok(value),
@@ -172,13 +173,32 @@ impl Model for Script {
 
     ghost Value = { Record };
 
-    ghost view = { λ s. record { properties = s.properties; hash = s.hash; hold = s.hold; tolerance = s.tolerance; inputs = s.inputs; rules = s.rules; bucket = s.bucket; quota = s.quota } };
+    ghost view = { λ s. record {
+      properties = s.properties;
+      hash = s.hash;
+      hold = s.hold;
+      tolerance = s.tolerance;
+      inputs = s.inputs;
+      rules = s.rules;
+      bucket = s.bucket;
+      quota = s.quota;
+    } };
 
-    ghost invariant = { λ s. IsInRange (record { properties = s.properties; hash = s.hash; hold = s.hold; tolerance = s.tolerance; inputs = s.inputs; rules = s.rules; bucket = s.bucket; quota = s.quota }) };
+    ghost invariant = { λ s. IsInRange (record {
+      properties = s.properties;
+      hash = s.hash;
+      hold = s.hold;
+      tolerance = s.tolerance;
+      inputs = s.inputs;
+      rules = s.rules;
+      bucket = s.bucket;
+      quota = s.quota;
+    }) };
 }
 
 fn without_names(alloc: Global, properties: &[Named]) -> Result<Seq<Property>, ScriptRefused>
-    ensures { MatchResult result (λ ps. ps ≡ map (λ n. n.property) properties.now) (λ e. e ≡ ScriptRefused.NoMemory) }
+    ensures { MatchResult result (λ ps. ps ≡ map (λ n. n.property) properties.now)
+        (λ e. e ≡ ScriptRefused.NoMemory) }
 {
     let mut bare = Seq::new(alloc);
     for named in properties {
@@ -229,6 +249,7 @@ impl Script {
         script_in(alloc, &value)
     }
 
+    /// The rules, in the script's order, by which they are numbered.
     pub fn rules(&self) -> &Rules
         ensures value { result.now ≡ self.now.rules }
         ensures in_range { AreRulesInRange result.now.rules }
@@ -236,6 +257,7 @@ impl Script {
         &self.rules
     }
 
+    /// The sets of pads, in order.
     pub fn inputs(&self) -> &InputSets
         ensures value { result.now ≡ self.now.inputs }
         ensures in_range { AreSetsInRange result.now.sets }
@@ -243,6 +265,7 @@ impl Script {
         &self.inputs
     }
 
+    /// The ranges of working memory whose bytes tell states apart, in order.
     pub fn hash(&self) -> &HashItems
         ensures value { result.now ≡ self.now.hash }
         ensures in_range { AreItemsInRange result.now.items }
@@ -294,6 +317,7 @@ impl Script {
         self.quota
     }
 
+    /// How many properties there are.
     pub fn property_count(&self) -> u32
         ensures value { result ≡ length self.now.properties }
         ensures within { result ≤ 64 }
@@ -301,6 +325,7 @@ impl Script {
         self.properties.len() as u32
     }
 
+    /// How many rules there are.
     pub fn rule_count(&self) -> u32
         ensures value { result ≡ length self.now.rules.rules }
         ensures within { result ≤ 128 }
