@@ -62,7 +62,8 @@ fn with_rule(set: u128, number: usize, rule: &Rule, ram: &[u8]) -> u128
     requires placed { All IsPlacedCondition rule.now.when }
     requires also { All (λ n. n < 128) rule.now.also }
     ensures { (j : ℕ) → is_in result j
-        ≡ (is_in set j || (all_hold_in ram.now rule.now.when && ((number == j) || list_any (λ n. n == j) rule.now.also))) }
+        ≡ (is_in set j || (all_hold_in ram.now rule.now.when
+        && ((number == j) || list_any (λ n. n == j) rule.now.also))) }
 {
     if all_hold(rule.when.as_slice(), ram) {
         with_numbers(with_number(set, number), rule.also.as_slice())

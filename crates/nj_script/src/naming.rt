@@ -68,7 +68,8 @@ struct Parts {
 
 fn parts_of(alloc: Global, rules: Vec<NamedRule>) -> Result<Parts, ScriptRefused>
     ensures { MatchResult result
-        (λ parts. (parts.names.items ≡ map (λ r. r.name) rules.items) × (parts.bodies.items ≡ map (λ r. r.body) rules.items))
+        (λ parts. (parts.names.items ≡ map (λ r. r.name) rules.items)
+        × (parts.bodies.items ≡ map (λ r. r.body) rules.items))
         (λ e. e ≡ ScriptRefused.NoMemory) }
 {
     let mut names = Vec::new(alloc);
