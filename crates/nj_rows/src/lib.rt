@@ -32,6 +32,8 @@ pub struct Row {
     pub verdict: Verdict3,
     /// The byte of its last pad.
     pub pad: u8,
+    /// The values of the script's bucket properties in its state, in their order; unused places are 0.
+    pub bucket: [i32; 4],
 }
 
 /// The order of rows: greater reward first, then smaller number, then the other fields.
@@ -57,7 +59,8 @@ fn remainder_of(a: &Row, b: &Row) -> Ordering
 {
     let by_key = a.key.cmp(&b.key).then(a.level.cmp(&b.level));
     let by_verdict = place(a.verdict).cmp(&place(b.verdict));
-    by_key.then(by_verdict.then(a.pad.cmp(&b.pad)))
+    let by_pad = by_verdict.then(a.pad.cmp(&b.pad));
+    by_key.then(by_pad.then(a.bucket.cmp(&b.bucket)))
 }
 
 // The place of a verdict in the order.
@@ -142,6 +145,7 @@ mod tests {
             level: 0,
             verdict,
             pad: 1,
+            bucket: [0; 4],
         }
     }
 

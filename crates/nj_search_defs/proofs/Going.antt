@@ -4,19 +4,18 @@ use Rattle.std.specs.List.{All, AllPairs, concat}
 use Rattle.std.specs.List.Sorted.{IsStrictlyIncreasing}
 use Rattle.std.proofs.Math.Nat.{max-le, mul-le-mul_right}
 use Rattle.std.proofs.lemmas.List.{length_push}
-use Rattle.std.proofs.lemmas.List.Elements.{All-nil, All-cons, All-append, All-contains, All-weaker}
+use Rattle.std.proofs.lemmas.List.Elements.{All-nil, All-cons, All-append}
 use Rattle.std.proofs.lemmas.List.Sums.{sum_by_push}
 use Rattle.nj_search_defs.specs.Game.{Word, Game, Bounds}
 use Rattle.nj_search_defs.specs.Candidates.{Candidate, word_of}
 use Rattle.nj_search_defs.specs.Pruning.{Mark, Seen, key_count, forgotten, generation, top_level, raised}
 use Rattle.nj_search_defs.specs.Outcome.{State, Next, Won, Exhausted, Goes, seen_of, fresh_of, kept_of, state_after, next, Outcome, WonAt, ExhaustedAt, LimitAt, then_go_on, searched, opening}
-use Rattle.nj_search_defs.specs.Laws.{IsChild}
 use Rattle.nj_search_defs.specs.Sound.{IsWellMade, IsSound}
 use Rattle.nj_search_defs.specs.Going.{OpeningsAreSound, LimitsAreSound, ForgettingIsSound, LimitsHaveSeen}
 use Rattle.nj_search_defs.proofs.Pairs.{AllPairs-append, concat_push, up_differ, up_from_0}
 use Rattle.nj_search_defs.proofs.Forgetting.{All-forgotten, forgotten_once, forgotten_few, forgotten_fits}
 use Rattle.nj_search_defs.proofs.Generations.{All-generation, generation_up, generation_new, generation_few, generation_some}
-use Rattle.nj_search_defs.proofs.Moves.{goes_to, front_is_bounded, parents_stood_before, words_are_equally_long}
+use Rattle.nj_search_defs.proofs.Moves.{goes_to, front_is_bounded, words_are_equally_long}
 use Rattle.nj_search_defs.proofs.Lengths.{some_kept, some_word, steps_are_counted}
 
 -- ---- what holds of the seen keys behind so many steps
@@ -61,7 +60,6 @@ forgetting_is_sound bounds slots levels latest state sound =
       some = sound.some;
       few = sound.few;
       long = sound.long;
-      pads = sound.pads;
       generations = seen.generations;
       filled = seen.filled;
       rising = seen.rising;
@@ -112,13 +110,6 @@ module _ (game : Game) (levels latest step tolerance : ℕ) (cs : List Candidate
 
 -- ---- a step keeps a state sound
 
-child_pads : (front : List Word) (game : Game) (word : Word) → ((word : Word) → All (λ pad. pad < 256) (game.allowed word)) → All (All (λ pad. pad < 256)) front
-    → IsChild game front word → All (λ pad. pad < 256) word
-child_pads front game word pads all child =
-    subst (All (λ pad. pad < 256)) (sym child.is)
-    (All-append (λ pad. pad < 256) child.parent (child.pad ∷ []) (All-contains (All (λ pad. pad < 256)) front child.parent all child.stood)
-    (All-cons (λ pad. pad < 256) child.pad [] (All-contains (λ pad. pad < 256) (game.allowed child.parent) child.pad (pads child.parent) child.is_allowed) (All-nil (λ pad. pad < 256))))
-
 module _ (game : Game) (bounds : Bounds) (levels latest : ℕ) (made : IsWellMade game bounds levels) where
   few_bytes : (word : Word) → length (game.allowed word) ≤ 256
   few_bytes word = omega (arith, made.allowed word, made.inputs)
@@ -152,8 +143,6 @@ module _ (game : Game) (bounds : Bounds) (levels latest : ℕ) (made : IsWellMad
         some = some_word game bounds state new goes;
         few = front_is_bounded game bounds state new goes;
         long = words_are_equally_long game bounds state new sound.long goes;
-        pads = All-weaker (IsChild game state.front) (All (λ pad. pad < 256)) (λ word. child_pads state.front game word made.pads sound.pads) new.front
-            (parents_stood_before game bounds state new goes);
         generations = seen.generations;
         filled = seen.filled;
         rising = seen.rising;
@@ -208,7 +197,6 @@ openings_are_sound game bounds levels latest made =
       some = omega arith;
       few = omega (arith, made.some);
       long = All-cons (λ word. length word ≡ 0) [] [] refl (All-nil (λ word. length word ≡ 0));
-      pads = All-cons (All (λ pad. pad < 256)) [] [] (All-nil (λ pad. pad < 256)) (All-nil (All (λ pad. pad < 256)));
       generations = omega arith;
       filled = All-cons (λ ks. 1 ≤ length ks) (game.key [] ∷ []) [] (omega arith) (All-nil (λ ks. 1 ≤ length ks));
       rising = All-cons (λ ks. IsStrictlyIncreasing (0 ∷ ks)) (game.key [] ∷ []) [] (up_from_0 (game.key [] ∷ []) up keyed) (All-nil (λ ks. IsStrictlyIncreasing (0 ∷ ks)));
