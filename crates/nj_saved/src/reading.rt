@@ -37,7 +37,8 @@ fn contents(alloc: Global, file: &[u8], generations: Seq<Seq<u64>>) -> Result<Sa
 
 /// Reads a saved file, of version 1 or 2, for the numbers of the cartridge file and of the script file with the start.
 pub fn read_saved(alloc: Global, file: &[u8], cart: u64, script: u64) -> Result<Saved, SavedRefused>
-    ensures value { MatchResult result (λ saved. saved_of file.now cart script ≡ Ok saved) (λ refused. (refused ≡ SavedRefused.NoMemory) ⊎ (saved_of file.now cart script ≡ Err refused)) }
+    ensures value { MatchResult result (λ saved. saved_of file.now cart script ≡ Ok saved)
+        (λ refused. (refused ≡ SavedRefused.NoMemory) ⊎ (saved_of file.now cart script ≡ Err refused)) }
     ensures ranges { IfOk result (λ saved. IsInRange saved) }
 {
     check_identity(file, cart, script)?;
