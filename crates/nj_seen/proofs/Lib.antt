@@ -15,3 +15,5 @@ pub mod Oldest
 pub mod Counting
 pub mod Claims
 pub mod Newest
+pub mod Owners
+pub mod Filled
