@@ -5,7 +5,10 @@ ghost use Rattle.std.specs.List.{All};
 ghost use Rattle.nj_claims.specs.Tables.{IsTable, entries_in};
 ghost use Rattle.nj_seen.specs.Held.{first_claim};
 
-use crate::{FIRST_CLAIM, Row, Verdict3, add_keys, fresh, keys_of, publish, room, unseen};
+use crate::{
+    FIRST_CLAIM, Row, Seq, Verdict3, add_keys, fresh, generations, keys_of, publish, room,
+    table_of, unseen,
+};
 use nj_claims::{ClaimTable, Claimed, Pass, empty_table, owner_of};
 use std::alloc::{AllocError, Global};
 use std::test::Fail;
@@ -111,5 +114,18 @@ fn forgotten_keys_are_fresh_to_one_thread(rt: HostRuntime) -> Result<(), Fail> {
     assert!(rt; owner_of(&rest, 301) == Some(1));
     add_keys(&mut rest, &[1], 3);
     assert!(rt; owner_of(&rest, 1) == Some(3));
+    Ok(())
+}
+
+#[test]
+fn a_generation_comes_back(rt: HostRuntime) -> Result<(), Fail> {
+    let newest = Seq::from_vec(vec![in rt.alloc(); 7]?);
+    let seen = Seq::from_vec(vec![in rt.alloc(); newest]?);
+    let (words, keys) = table_of(rt.alloc(), 10, &seen, 5, 1023)?;
+    assert!(rt; keys.oldest == 5 && keys.count == 1);
+    assert!(rt; owner_of(&words, 7) == Some(5));
+    let told = generations(rt.alloc(), &words, keys, 5)?;
+    assert!(rt; told.len() == 1);
+    assert!(rt; told.as_slice()[0].as_slice() == [7_u64].as_slice());
     Ok(())
 }
