@@ -15,3 +15,4 @@ pub mod Oldest
 pub mod Counting
 pub mod Claims
 pub mod Newest
+pub mod Beside

@@ -39,7 +39,7 @@ fn is_first(met: &mut HashSet<u64>, key: u64, words: &[u64], from: u64) -> Resul
 }
 
 // Whether a generation from a step on has the key.
-fn has_since(words: &[u64], key: u64, from: u64) -> bool
+pub(crate) fn has_since(words: &[u64], key: u64, from: u64) -> bool
     requires { IsTable words.now }
     ensures { result ≡ is_owner_since from (owner_in words.now key) }
 {
@@ -50,7 +50,7 @@ fn has_since(words: &[u64], key: u64, from: u64) -> bool
 }
 
 // Adds the row, if told to.
-fn push_if(rows: &mut Vec<Row>, row: Row, is_told: bool) -> Result<(), AllocError>
+pub(crate) fn push_if(rows: &mut Vec<Row>, row: Row, is_told: bool) -> Result<(), AllocError>
     ensures { OnOk result (rows.new.items ≡ rows.old.items ++ (if is_told then row ∷ [] else [])) }
 {
     if is_told {
