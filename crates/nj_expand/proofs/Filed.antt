@@ -106,17 +106,15 @@ add_makes h laws before after holds added = record {
 
 -- where nothing is forgotten, they are new keys of the search's own table
 pub own_keys : (h : Held) (left : SeenKeys) (oldest : ℕ) (keys : List ℕ) → IsLeft h left → oldest ≡ oldest_step h.state.step h.state.seen → left.oldest ≡ oldest
-    → keys ≡ keys_in_rows (fresh_rows_in h)
-    → ((words : List ℕ) → HoldsLeft h words → CanAdd words (keys_in_rows (fresh_rows_in h)))
-    → ((before after : List ℕ) → HoldsLeft h before → IsAdded before (keys_in_rows (fresh_rows_in h)) (h.state.step + 1) after → IsMade h after)
+    → ((words : List ℕ) → HoldsLeft h words → CanAdd words keys)
+    → ((before after : List ℕ) → HoldsLeft h before → IsAdded before keys (h.state.step + 1) after → IsMade h after)
     → AreNewKeys h keys
-own_keys h left oldest keys is first same are can adds =
+own_keys h left oldest keys is first same can adds =
     let none : left.oldest - oldest_step h.state.step h.state.seen ≡ 0 = omega (arith, first, same) in
-    let stay : h.state.seen ≡ seen_of h.bounds h.state = ap (λ n. drop n h.state.seen) (sym none) ∙ is.gone in
-    subst (AreNewKeys h) (sym are) (record {
+    let stay : h.state.seen ≡ seen_of h.bounds h.state = ap (λ n. drop n h.state.seen) (sym none) ∙ is.gone in record {
       can = λ words t. can words (record { table = t.table; slots = t.slots; seen = subst (λ (seen : Seen). HoldsSeen words seen h.state.step) stay t.seen });
       adds = λ before after t added. adds before after (record { table = t.table; slots = t.slots; seen = subst (λ (seen : Seen). HoldsSeen before seen h.state.step) stay t.seen }) added;
-    })
+    }
 
 -- ---- the table that is put
 

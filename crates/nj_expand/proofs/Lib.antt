@@ -11,3 +11,4 @@ pub mod Fronts
 pub mod Runs
 pub mod Filed
 pub mod SavedWhole
+pub mod Beside

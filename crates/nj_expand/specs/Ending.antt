@@ -113,6 +113,12 @@ pub record AreNextKeys (held : Held) (keys : SeenKeys) : Type 0 where
 
 -- ---- a step before its end
 
+-- in order the fresh rows are those of the next step, and the table and the seen keys are those after it
+pub record IsReady (held : Held) (prepared : Prepared) : Type 0 where
+  pub fresh : in_order is_row_before prepared.fresh.items ≡ in_order is_row_before (fresh_rows_in held)
+  pub table : IsNewTable held prepared.table
+  pub keys : AreNextKeys held prepared.keys
+
 -- rows tell the winner of the next step; in order the fresh rows are its fresh; and the table and the seen keys are those
 -- after it
 pub record IsPrepared (held : Held) (rows : List Row) (prepared : Prepared) : Type 0 where

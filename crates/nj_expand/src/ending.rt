@@ -70,8 +70,10 @@ impl Search {
         self.settle(alloc, rows.as_slice(), prepared, steps)
     }
 
-    /// Ends a step by rows of its live candidates, in any order, and by the table that was opened with room for the step and
-    /// closed after the claims of all of them. After want of memory the search is spent.
+    /// Ends a step by rows of its live candidates, in any order, and by the table that was closed after the claims of all of
+    /// them. It may have been opened with the seen keys that are not forgotten, with the newest of their generations, or
+    /// with no key. The new keys go into the search's own table, which is copied only where a generation is forgotten.
+    /// After want of memory the search is spent.
     pub fn finish<L: Ledger>(
         &mut self,
         alloc: Global,
@@ -90,7 +92,7 @@ impl Search {
         ensures frames { steps.new ≤ steps.old + self.old.plan.script.hold * length (kept_in self.old) }
         ensures never_falls { steps.old ≤ steps.new }
     {
-        let prepared = self.prepare_closed(alloc, rows.as_slice(), words);
+        let prepared = self.prepare_closed(alloc, rows.as_slice(), words.as_slice());
         self.settle(alloc, rows.as_slice(), prepared, steps)
     }
 
