@@ -8,3 +8,5 @@ pub mod Table
 pub mod Again
 pub mod Ending
 pub mod Saving
+pub mod Opening
+pub mod Resuming

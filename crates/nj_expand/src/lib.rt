@@ -1,6 +1,10 @@
-//! Candidates of a search and the search between its steps: a candidate is the row of a state of the front after one more
-//! pad; a step ends by the choice of a winner or of the candidates that are kept, which are run again into a new front.
-//! The images of the front's states are kept, so that no word is ever run again from power-on.
+//! Candidates of a search and the search between its steps: a candidate is the row of a state of the front after one
+//! more pad; a step ends by the choice of a winner or of the candidates that are kept, which are run again into a new
+//! front. The images of the front's states are kept, so that no word is ever run again from power-on: a search that
+//! goes on from a saved one ([`Search::from_saved`]) runs the start once, and each word from its state.
+//!
+//! The definition to read first is `Held` in `specs/Held.antt`, what a search is between two steps, and then `IsStep`
+//! in `specs/Step.antt`; of a saved search `saved_of` and `resumed` in `specs/Saving.antt`.
 #![tactic(auto)]
 
 mod again;

@@ -1,18 +1,19 @@
 //! The claim table at the end of a step: which rows are fresh by it, and what it becomes.
 
 ghost use Rattle.std.specs.Prelude.{◌≡◌, ◌<◌, ◌+◌, ℕ, List, IfOk};
+ghost use Rattle.std.specs.List.Sorted.{IsPermutation};
 ghost use Rattle.nj_seen.specs.Held.{keys_in_rows};
 ghost use Rattle.nj_expand.specs.Held.{live_rows};
 ghost use Rattle.nj_expand.specs.Closed.{AreRowsOf, IsClosedFor};
-ghost use Rattle.nj_expand.specs.Ending.{fresh_rows_in, HoldsLeft, IsLeft, IsPrepared, IsNewTable, IsMade, CanAdd, IsAdded, CanPut, IsPut};
+ghost use Rattle.nj_expand.specs.Ending.{fresh_rows_in, HoldsLeft, IsLeft, IsReady, IsPrepared, IsNewTable, IsMade, CanAdd, IsAdded, CanPut, IsPut};
 
 use crate::laws::{a_step_is_bounded, live_rows_are_live, live_rows_can_claim};
 use crate::search::Search;
 use nj_claims::entries_are_the_map;
-use nj_rows::Row;
+use nj_rows::{Row, any_order_is_one};
 use nj_seen::{
-    SeenKeys, add_keys, added_keys_are_seen, fresh_keys_are_new, fresh_keys_are_seen, keys_of,
-    left, owned, owned_is_fresh, publish, room, rows_in_any_order, seen_keys_stand, unseen,
+    SeenKeys, add_keys, added_keys_are_seen, fresh_keys_are_new, keys_of, left, owned_unseen,
+    owned_unseen_is_fresh, room, rows_in_any_order, seen_keys_stand, unseen,
 };
 use std::alloc::{AllocError, Global};
 
@@ -59,6 +60,45 @@ impl Search {
         live_rows_can_claim();
         let left = self.left();
         let fresh = unseen(alloc, rows, self.words(), left.oldest)?;
+        let prepared = self.prepare(alloc, left, fresh)?;
+        Ok(prepared)
+    }
+
+    /// Prepares the end of a step by rows in any order and the table that was closed after the claims.
+    pub(crate) fn prepare_closed(
+        &self,
+        alloc: Global,
+        rows: &[Row],
+        claims: &[u64],
+    ) -> Result<Prepared, AllocError>
+        requires step { self.now.state.step < 16777215 }
+        requires rows { AreRowsOf self.now rows.now }
+        requires claims { IsClosedFor self.now claims.now }
+        ensures { IfOk result (IsPrepared self.now rows.now) }
+    {
+        self.few_pads();
+        live_rows_can_claim();
+        rows_in_any_order();
+        owned_unseen_is_fresh();
+        let left = self.left();
+        let fresh = owned_unseen(alloc, rows, claims, self.words(), left.oldest)?;
+        let prepared = self.prepare(alloc, left, fresh)?;
+        Ok(prepared)
+    }
+
+    // Prepares the end of a step by its fresh rows, in any order.
+    fn prepare(
+        &self,
+        alloc: Global,
+        left: SeenKeys,
+        fresh: Vec<Row>,
+    ) -> Result<Prepared, AllocError>
+        requires step { self.now.state.step < 16777215 }
+        requires left { IsLeft self.now left }
+        requires fresh { IsPermutation fresh.items (fresh_rows_in self.now) }
+        ensures { IfOk result (IsReady self.now) }
+    {
+        any_order_is_one();
         let keys = keys_of(alloc, fresh.as_slice())?;
         let count = left.count + keys.len() as u64;
         let table = self.new_table(alloc, left, keys)?;
@@ -81,7 +121,7 @@ impl Search {
     ) -> Result<NewTable, AllocError>
         requires step { self.now.state.step < 16777215 }
         requires left { IsLeft self.now left }
-        requires keys { keys.items ≡ keys_in_rows (fresh_rows_in self.now) }
+        requires keys { IsPermutation (keys_in_rows (fresh_rows_in self.now)) keys.items }
         ensures { IfOk result (IsNewTable self.now) }
     {
         if left.oldest == self.keys.oldest {
@@ -92,10 +132,13 @@ impl Search {
         Ok(NewTable::Made(words))
     }
 
-    // The keys of the fresh rows can be added to a table without the generations that are forgotten.
+    // The keys of the fresh rows, in any order, can be added to a table without the generations that are forgotten.
     fn may_add(&self)
-        ensures can { (words : List ℕ) → HoldsLeft self.now words → CanAdd words (keys_in_rows (fresh_rows_in self.now)) }
-        ensures adds { (before after : List ℕ) → HoldsLeft self.now before → IsAdded before (keys_in_rows (fresh_rows_in self.now)) (self.now.state.step + 1) after → IsMade self.now after }
+        ensures can { (words keys : List ℕ) → HoldsLeft self.now words
+            → IsPermutation (keys_in_rows (fresh_rows_in self.now)) keys → CanAdd words keys }
+        ensures adds { (before keys after : List ℕ) → HoldsLeft self.now before
+            → IsPermutation (keys_in_rows (fresh_rows_in self.now)) keys
+            → IsAdded before keys (self.now.state.step + 1) after → IsMade self.now after }
     {
         self.few_pads();
         live_rows_can_claim();
@@ -122,44 +165,13 @@ impl Search {
     // Such a table with these keys.
     fn made(&self, alloc: Global, keys: &[u64]) -> Result<Vec<u64>, AllocError>
         requires step { self.now.state.step < 16777215 }
-        requires keys { keys.now ≡ keys_in_rows (fresh_rows_in self.now) }
+        requires keys { IsPermutation (keys_in_rows (fresh_rows_in self.now)) keys.now }
         ensures { IfOk result (λ words. IsMade self.now words.items) }
     {
         self.may_add();
         let mut words = self.kept(alloc)?;
         add_keys(words.as_mut_slice(), keys, self.step as u64 + 1);
         Ok(words)
-    }
-
-    /// Prepares the end of a step by rows in any order and the table that was closed after the claims.
-    pub(crate) fn prepare_closed(
-        &self,
-        alloc: Global,
-        rows: &[Row],
-        mut words: Vec<u64>,
-    ) -> Result<Prepared, AllocError>
-        requires step { self.now.state.step < 16777215 }
-        requires rows { AreRowsOf self.now rows.now }
-        requires words { IsClosedFor self.now words.items }
-        ensures { IfOk result (IsPrepared self.now rows.now) }
-    {
-        self.few_pads();
-        live_rows_can_claim();
-        rows_in_any_order();
-        owned_is_fresh();
-        fresh_keys_are_seen();
-        let left = self.left();
-        let fresh = owned(alloc, rows, words.as_slice())?;
-        let count = left.count + fresh.len() as u64;
-        publish(words.as_mut_slice(), self.step as u64 + 1);
-        Ok(Prepared {
-            fresh,
-            table: NewTable::Made(words),
-            keys: SeenKeys {
-                oldest: left.oldest,
-                count,
-            },
-        })
     }
 
     // What is left of the seen keys once there is room for the step.

@@ -1,15 +1,14 @@
 -- The kept table, with the keys.
 use Rattle.std.proofs.Common.{◌≡◌, ◌+◌, ℕ, List, sym, ap, ◌∙◌, subst}
 use Rattle.std.proofs.lemmas.List.{with_items_is}
-use Rattle.nj_seen.specs.Held.{keys_in_rows}
 use Rattle.nj_expand.specs.Held.{Held}
-use Rattle.nj_expand.specs.Ending.{fresh_rows_in, CanAdd, IsAdded, IsMade}
+use Rattle.nj_expand.specs.Ending.{CanAdd, IsAdded, IsMade}
 use Rattle.nj_expand.proofs.search.Search.made.Goals as goal
 
 can : (c : goal.After-row_known-1) → CanAdd c.as_mut_slice.result.now c.args.keys.now
 can c =
     subst (λ (words : List ℕ). CanAdd words c.args.keys.now) (sym c.as_mut_slice.ensures.value)
-    (subst (CanAdd c.in_ok-words.words.items) (sym c.requires.keys) (c.may_add.ensures.can c.in_ok-words.words.items c.in_ok-words.ensures))
+    (c.may_add.ensures.can c.in_ok-words.words.items c.args.keys.now c.in_ok-words.ensures c.requires.keys)
 
 pub add_keys-requires-clause-named : goal.add_keys-requires-clause-named
 add_keys-requires-clause-named c = let may : CanAdd _ _ = can c in may.named
@@ -29,9 +28,8 @@ returns c =
     let step : s.step + 1 ≡ c.args.self.now.state.step + 1 = ap (λ (h : Held). h.state.step + 1) c.self.view_is in
     let added : IsAdded c.as_mut_slice.result.now c.args.keys.now (s.step + 1) c.add_keys.new.words =
     record { table = c.add_keys.ensures.table; size = c.add_keys.ensures.size; owners = c.add_keys.ensures.owners } in
-    let same : IsAdded c.in_ok-words.words.items (keys_in_rows (fresh_rows_in c.args.self.now)) (c.args.self.now.state.step + 1) c.add_keys.new.words =
-    subst (λ (n : ℕ). IsAdded c.in_ok-words.words.items (keys_in_rows (fresh_rows_in c.args.self.now)) n c.add_keys.new.words) step
-    (subst (λ (keys : List ℕ). IsAdded c.in_ok-words.words.items keys (s.step + 1) c.add_keys.new.words) c.requires.keys
-    (subst (λ (words : List ℕ). IsAdded words c.args.keys.now (s.step + 1) c.add_keys.new.words) c.as_mut_slice.ensures.value added)) in
+    let same : IsAdded c.in_ok-words.words.items c.args.keys.now (c.args.self.now.state.step + 1) c.add_keys.new.words =
+    subst (λ (n : ℕ). IsAdded c.in_ok-words.words.items c.args.keys.now n c.add_keys.new.words) step
+    (subst (λ (words : List ℕ). IsAdded words c.args.keys.now (s.step + 1) c.add_keys.new.words) c.as_mut_slice.ensures.value added) in
     subst (IsMade c.args.self.now) (sym (with_items_is c.in_ok-words.words c.add_keys.new.words (c.add_keys.auto.words ∙ c.as_mut_slice.ensures.len)))
-    (c.may_add.ensures.adds c.in_ok-words.words.items c.add_keys.new.words c.in_ok-words.ensures same)
+    (c.may_add.ensures.adds c.in_ok-words.words.items c.args.keys.now c.add_keys.new.words c.in_ok-words.ensures c.requires.keys same)
