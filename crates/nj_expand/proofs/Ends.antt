@@ -1,21 +1,24 @@
 -- The end of a step: what is decided of the rows is what the search decides of its candidates.
-use Rattle.std.proofs.Common.{◌≡◌, ℕ, ◌+◌, ◌*◌, ◌<◌, ◌≤◌, List, [], ◌∷◌, ◌++◌, length, map, drop, take, refl, ap, ap₂, sym, subst, ◌∙◌, arith, true, false, ◌==◌, eq-eqb}
+use Rattle.std.proofs.Common.{◌≡◌, ℕ, ◌+◌, ◌*◌, ◌<◌, ◌≤◌, List, [], ◌∷◌, ◌++◌, length, map, drop, refl, ap, sym, subst, ◌∙◌, arith, true, false, ◌==◌, eq-eqb}
 use Rattle.std.specs.Prelude.{Option, Some, None, option_map, filter, slice_get}
 use Rattle.std.proofs.lemmas.Bool.{eqb-true, both_ways}
-use Rattle.std.proofs.lemmas.List.{length-map, length-take}
+use Rattle.std.proofs.lemmas.List.{length-map}
 use Rattle.nj_search_defs.specs.Candidates.{Candidate}
 use Rattle.nj_search_defs.specs.Order.{in_order}
-use Rattle.nj_search_defs.specs.Pruning.{is_before, winner, fresh, kept, generation}
+use Rattle.nj_search_defs.specs.Pruning.{is_before, is_alike, winner, fresh, kept, generation}
 use Rattle.nj_search_defs.specs.Outcome.{State, Next, won_or, exhausted_or, lives_of, seen_of, fresh_of, kept_of, state_after, next}
 use Rattle.nj_game.specs.Words.{game_of}
 use Rattle.nj_rows.specs.declared.Row.{Row}
-use Rattle.nj_rows.specs.Order.{is_win_row, is_row_before}
+use Rattle.nj_rows.specs.Order.{is_win_row, is_row_before, is_alike_row}
 use Rattle.nj_seen.specs.Rows.{IsRising, winner_row, fresh_rows, kept_rows, generation_rows}
 use Rattle.nj_expand.specs.declared.Stepped.TheVariants.{Won, Exhausted, Go}
 use Rattle.nj_expand.specs.Rows.{row_of}
 use Rattle.nj_expand.specs.Held.{Held, live_rows, kept_in, next_in}
 use Rattle.nj_expand.specs.Step.{IsStepBy, IsStep}
 use Rattle.nj_expand.specs.Ending.{AreFew, fresh_rows_in, IsKeptOf}
+use Rattle.nj_search_defs.specs.Quota.{limited}
+use Rattle.nj_search_defs.proofs.Limited.{limited_few}
+use Rattle.nj_expand.proofs.Buckets.{even_buckets}
 use Rattle.nj_expand.proofs.Rising.{AreRising, lives_rise, filter_rises, rows_rise, kept_are_placed}
 use Rattle.nj_expand.proofs.Nexts.{AreKept}
 use Rattle.nj_expand.proofs.Lifts.{Prefers, winner-map, fresh-map, kept-map, generation-map}
@@ -44,12 +47,12 @@ fresh_in held =
     fresh-map (game_of held.plan) (seen_of held.bounds held.state) (lives_of (game_of held.plan) held.state)
 
 -- the kept rows are the rows of the kept
-pub kept_rows_in : (held : Held) → AreFew held → Prefers → kept_rows held.bounds.most (fresh_rows (seen_of held.bounds held.state) (live_rows held))
+pub kept_rows_in : (held : Held) → AreFew held → Prefers → kept_rows held.bounds.most held.bounds.quota (fresh_rows (seen_of held.bounds held.state) (live_rows held))
     ≡ map (row_of (game_of held.plan)) (kept_in held)
 unfolding kept_in kept_of
 kept_rows_in held few law =
-    ap (kept_rows held.bounds.most) (fresh_in held)
-    ∙ kept-map (game_of held.plan) law held.bounds.most (fresh_of (game_of held.plan) held.bounds held.state) (fresh_rise held few)
+    ap (kept_rows held.bounds.most held.bounds.quota) (fresh_in held)
+    ∙ kept-map (game_of held.plan) law (even_buckets held.plan) held.bounds.most held.bounds.quota (fresh_of (game_of held.plan) held.bounds held.state) (fresh_rise held few)
 
 -- the rows' new generation is the candidates'
 pub generation_in : (held : Held) → generation_rows (fresh_rows (seen_of held.bounds held.state) (live_rows held))
@@ -77,7 +80,7 @@ exhausted_by held goes None [] e f = refl
 exhausted_by held goes None (k ∷ ks) e f = absurd (cc)
 
 pub exhausted_step : (held : Held) → AreFew held → Prefers → winner_row (live_rows held) ≡ None
-    → kept_rows held.bounds.most (fresh_rows (seen_of held.bounds held.state) (live_rows held)) ≡ [] → IsStep held Exhausted held
+    → kept_rows held.bounds.most held.bounds.quota (fresh_rows (seen_of held.bounds held.state) (live_rows held)) ≡ [] → IsStep held Exhausted held
 unfolding IsStep next_in next kept_in
 exhausted_step held few law e f =
     let game = game_of held.plan in
@@ -104,17 +107,15 @@ kept_count held rows e = ap length e ∙ length-map (kept_in held) (row_of (game
 
 -- ---- what is kept
 
-take_most : (n : ℕ) (xs : List Candidate) → length (take n xs) ≤ n
-take_most n xs = omega (arith, length-take n xs)
-
 -- no more are kept than a front may have
 pub kept_few : (h : Held) → length (kept_in h) ≤ h.bounds.most
 unfolding kept_in kept_of kept
-kept_few h = take_most h.bounds.most (in_order (is_before (game_of h.plan)) (fresh_of (game_of h.plan) h.bounds h.state))
+kept_few h =
+    limited_few (is_alike (game_of h.plan)) h.bounds.most h.bounds.quota (in_order (is_before (game_of h.plan)) (fresh_of (game_of h.plan) h.bounds h.state))
 
 -- the kept of a search are candidates of its front, no more than its bound
 pub are_kept : (h : Held) (rows : List Row) → AreFew h → Prefers
-    → rows ≡ kept_rows h.bounds.most (fresh_rows (seen_of h.bounds h.state) (live_rows h)) → AreKept h.plan h.bounds.most h.state.front (kept_in h) rows
+    → rows ≡ kept_rows h.bounds.most h.bounds.quota (fresh_rows (seen_of h.bounds h.state) (live_rows h)) → AreKept h.plan h.bounds.most h.state.front (kept_in h) rows
 unfolding kept_in
 are_kept h rows few law is = record {
   placed = kept_are_placed (game_of h.plan) h.bounds h.state few;
@@ -131,10 +132,11 @@ unfolding winner_row
 winner_found h rows found same is = sym same ∙ sym is
 
 -- the rows that are kept of those that are fresh in some order
-pub kept_found : (h : Held) (most : ℕ) (fresh kept : List Row) → most ≡ h.bounds.most → in_order is_row_before fresh ≡ in_order is_row_before (fresh_rows_in h)
-    → kept ≡ take most (in_order is_row_before fresh) → kept ≡ kept_rows h.bounds.most (fresh_rows_in h)
+pub kept_found : (h : Held) (most quota : ℕ) (fresh kept : List Row) → most ≡ h.bounds.most → quota ≡ h.bounds.quota
+    → in_order is_row_before fresh ≡ in_order is_row_before (fresh_rows_in h)
+    → kept ≡ limited is_alike_row most quota (in_order is_row_before fresh) → kept ≡ kept_rows h.bounds.most h.bounds.quota (fresh_rows_in h)
 unfolding kept_rows
-kept_found h most fresh kept same order is = is ∙ ap₂ take same order
+kept_found h most quota fresh kept same bound order is = is ∙ (λ i. limited is_alike_row (same i) (bound i) (order i))
 
 -- rows of which there are none, and of which there are some
 pub none_found : (rows : List Row) (n : ℕ) → n ≡ length rows → (n == 0) ≡ true → rows ≡ []

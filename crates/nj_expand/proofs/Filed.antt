@@ -133,8 +133,8 @@ pub record IsAfter (h : Held) (words : List ℕ) (keys : SeenKeys) (exponent : �
 
 pub after_step : (h : Held) (words : List ℕ) (keys : SeenKeys) (exponent : ℕ)
     → ((words : List ℕ) (seen : Seen) (step : ℕ) → IsTable words → HoldsSeen words seen step → seen ≡ seen_in words step (oldest_step step seen))
-    → h.bounds.slots ≡ 2 ^ exponent → IsMade h words → AreNextKeys h keys → IsAfter h words keys exponent
-after_step h words keys exponent law slots made next =
+    → h.bounds.slots ≡ 2 ^ exponent → h.state.step < 16777215 → IsMade h words → AreNextKeys h keys → IsAfter h words keys exponent
+after_step h words keys exponent law slots lt made next =
     let told : seen_next h ≡ seen_in words (h.state.step + 1) keys.oldest =
     law words (seen_next h) (h.state.step + 1) made.table made.seen ∙ ap (seen_in words (h.state.step + 1)) (sym next.oldest) in record {
       told = sym told;
@@ -144,6 +144,7 @@ after_step h words keys exponent law slots made next =
         seen = subst (λ (seen : Seen). HoldsSeen words seen (h.state.step + 1)) told made.seen;
         oldest = next.oldest ∙ ap (oldest_step (h.state.step + 1)) told;
         count = next.count ∙ ap key_count told;
+        last = omega (arith, lt);
       };
     }
 
@@ -213,12 +214,12 @@ pub steps_low : (words : List ℕ) (step : ℕ) → step < first_claim → All (
 steps_low words step lt all = All-weaker (λ (entry : ℕ × ℕ). entry.1 ≤ step) (λ (entry : ℕ × ℕ). entry.1 < first_claim) (λ entry le. omega (arith, le, lt)) (entries_in words) all
 
 -- before the first step
-pub record IsFirst (words : List ℕ) (key exponent : ℕ) : Type 0 where
+pub record IsFirstTable (words : List ℕ) (key exponent : ℕ) : Type 0 where
   pub told : seen_in words 0 0 ≡ (key ∷ []) ∷ []
   pub at : IsTableAt words (record { oldest = 0; count = 1 }) 0 exponent
 
 pub first_table : ((words : List ℕ) (seen : Seen) (step : ℕ) → IsTable words → HoldsSeen words seen step → seen ≡ seen_in words step (oldest_step step seen))
-    → (words : List ℕ) (key exponent : ℕ) → IsTable words → slot_count words ≡ 2 ^ exponent → HoldsSeen words ((key ∷ []) ∷ []) 0 → IsFirst words key exponent
+    → (words : List ℕ) (key exponent : ℕ) → IsTable words → slot_count words ≡ 2 ^ exponent → HoldsSeen words ((key ∷ []) ∷ []) 0 → IsFirstTable words key exponent
 first_table law words key exponent table slots holds =
     let zeroth : oldest_step 0 ((key ∷ []) ∷ []) ≡ 0 = omega arith in
     let told : ((key ∷ []) ∷ []) ≡ seen_in words 0 0 = law words ((key ∷ []) ∷ []) 0 table holds ∙ ap (seen_in words 0) zeroth in record {
@@ -229,6 +230,7 @@ first_table law words key exponent table slots holds =
         seen = subst (λ (seen : Seen). HoldsSeen words seen 0) told holds;
         oldest = sym zeroth ∙ ap (oldest_step 0) told;
         count = let one : 1 ≡ key_count ((key ∷ []) ∷ []) = omega arith in one ∙ ap key_count told;
+        last = omega arith;
       };
     }
 

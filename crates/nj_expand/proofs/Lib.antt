@@ -2,6 +2,7 @@ pub mod Words
 pub mod Starts
 pub mod Played
 pub mod Rising
+pub mod Buckets
 pub mod Lifts
 pub mod Agains
 pub mod Ends
@@ -10,4 +11,7 @@ pub mod Counts
 pub mod Fronts
 pub mod Runs
 pub mod Filed
+pub mod SavedWhole
+pub mod Replays
+pub mod Resumes
 pub mod Beside

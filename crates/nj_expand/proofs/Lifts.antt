@@ -1,23 +1,25 @@
 -- What a step does with rows is what it does with their candidates.
-use Rattle.std.proofs.Common.{◌≡◌, ◌≢◌, ℕ, ◌+◌, ◌<◌, Bool, true, false, cond, not, ◌&&◌, ◌||◌, ◌==◌, List, [], ◌∷◌, map, take, max, refl, ap, sym, ◌∙◌, arith}
+use Rattle.std.proofs.Common.{◌≡◌, ◌≢◌, ℕ, ◌+◌, ◌<◌, Bool, true, false, cond, not, ◌&&◌, ◌||◌, ◌==◌, List, [], ◌∷◌, length, map, max, refl, ap, sym, ◌∙◌, arith}
 use Rattle.std.specs.Prelude.{option_map, filter, slice_get, nat_lt}
 use Rattle.std.specs.List.{All, list_any}
-use Rattle.std.proofs.lemmas.List.{take-map}
 use Rattle.std.proofs.lemmas.List.Elements.{All-head, All-tail, All-weaker, filter_agree}
 use Rattle.nj_search_defs.specs.Game.{Verdict, Go, Win, Fail, Game}
-use Rattle.nj_search_defs.specs.Candidates.{Candidate, candidates}
+use Rattle.nj_search_defs.specs.Candidates.{Candidate, word_of, candidates}
 use Rattle.nj_search_defs.specs.Outcome.{lives_of}
 use Rattle.nj_game.specs.Words.{game_of}
 use Rattle.nj_search_defs.specs.Order.{is_preferred, put_in, in_order}
-use Rattle.nj_search_defs.specs.Pruning.{Seen, Mark, is_win, is_seen, is_live_judged, judged_of, key_of, is_before, is_fresh, live, winner, fresh, kept, generation, top_level}
+use Rattle.nj_search_defs.specs.Pruning.{Seen, Mark, is_win, is_seen, is_live_judged, judged_of, key_of, is_before, is_alike, is_fresh, live, winner, fresh, kept, generation, top_level}
+use Rattle.nj_search_defs.specs.Quota.{limited}
 use Rattle.nj_search_defs.proofs.Orders.{All-in_order}
+use Rattle.nj_search_defs.proofs.Limited.{limited-map}
 use Rattle.nj_rows.specs.declared.Row.{Row}
-use Rattle.nj_rows.specs.Order.{is_win as is_row_win, is_win_row, is_row_before}
+use Rattle.nj_rows.specs.Order.{is_win as is_row_win, is_win_row, is_row_before, is_alike_row}
 use Rattle.nj_seen.specs.Verdicts.{verdict_of}
 use Rattle.nj_seen.specs.Rows.{is_live_row, is_fresh_row, winner_row, fresh_rows, kept_rows, generation_rows}
 use Rattle.nj_expand.specs.Rows.{row_verdict, row_of}
 use Rattle.nj_expand.specs.Held.{Held, live_rows, candidates_in}
 use Rattle.nj_expand.specs.Ending.{top_of_rows}
+use Rattle.nj_expand.proofs.Buckets.{EvenBuckets, same_buckets}
 use Rattle.nj_expand.proofs.Rising.{AreRising, filter_rises}
 
 -- ---- lists
@@ -118,10 +120,18 @@ module _ (game : Game) (law : Prefers) where
       ∙ ap (λ l. slice_get l 0) (order-map (filter (λ c. is_win (judged_of game c).verdict) cs) (filter_rises (λ c. is_win (judged_of game c).verdict) cs up))
       ∙ slice_get-map (row_of game) (in_order (is_before game) (filter (λ c. is_win (judged_of game c).verdict) cs))
 
+  -- rows have the same bucket where their candidates have it
+  alike_same : EvenBuckets game → (a b : Candidate) → is_alike_row (row_of game a) (row_of game b) ≡ is_alike game a b
+  unfolding row_of
+  alike_same even a b = same_buckets (game.bucket (word_of a)) (game.bucket (word_of b)) (even (word_of a) (word_of b))
+
   -- the rows of the kept are the kept rows
-  pub kept-map : (most : ℕ) (cs : List Candidate) → AreRising cs → kept_rows most (map (row_of game) cs) ≡ map (row_of game) (kept game most cs)
+  pub kept-map : EvenBuckets game → (most quota : ℕ) (cs : List Candidate) → AreRising cs
+      → kept_rows most quota (map (row_of game) cs) ≡ map (row_of game) (kept game most quota cs)
   unfolding kept_rows kept
-  kept-map most cs up = ap (take most) (order-map cs up) ∙ take-map (row_of game) most (in_order (is_before game) cs)
+  kept-map even most quota cs up =
+      ap (limited is_alike_row most quota) (order-map cs up)
+      ∙ limited-map (row_of game) (is_alike game) is_alike_row most quota (alike_same even) (in_order (is_before game) cs)
 
 module _ (game : Game) where
   fresh_same : (seen : Seen) (cs : List Candidate) (c : Candidate) → is_fresh_row seen (map (row_of game) cs) (row_of game c) ≡ is_fresh game seen cs c

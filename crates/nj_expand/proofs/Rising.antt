@@ -2,13 +2,14 @@
 use Rattle.std.proofs.Common.{◌≡◌, ℕ, zero, suc, ◌+◌, ◌*◌, ◌/◌, ◌<◌, ◌≤◌, Bool, true, false, cond, List, [], ◌∷◌, ◌++◌, length, map, get_or, ap, ◌∙◌, arith}
 use Rattle.std.specs.Prelude.{Some, filter, slice_get}
 use Rattle.std.specs.List.{All}
-use Rattle.std.proofs.lemmas.List.Elements.{All-nil, All-cons, All-head, All-tail, All-weaker, All-append, All-filter, All-map, All-take}
+use Rattle.std.proofs.lemmas.List.Elements.{All-nil, All-cons, All-head, All-tail, All-weaker, All-append, All-filter, All-map}
 use Rattle.nj_search_defs.specs.Game.{Word, Game}
 use Rattle.nj_search_defs.specs.Candidates.{Candidate, extensions, candidates_from, candidates}
 use Rattle.nj_search_defs.specs.Order.{in_order}
-use Rattle.nj_search_defs.specs.Pruning.{live, fresh, kept, is_before}
+use Rattle.nj_search_defs.specs.Pruning.{live, fresh, kept, is_before, is_alike}
 use Rattle.nj_search_defs.specs.Outcome.{State, lives_of, fresh_of, kept_of}
 use Rattle.nj_search_defs.proofs.Orders.{All-in_order}
+use Rattle.nj_search_defs.proofs.Limited.{All-limited}
 use Rattle.nj_search_defs.specs.Game.{Bounds}
 use Rattle.nj_rows.specs.declared.Row.{Row}
 use Rattle.nj_seen.specs.Rows.{IsRising}
@@ -116,7 +117,7 @@ made game front i (word ∷ words) most rest =
 pub kept_are_placed : (game : Game) (bounds : Bounds) (state : State) → ((word : Word) → length (game.allowed word) ≤ 256) → All (IsPlaced state.front) (kept_of game bounds state)
 unfolding kept_of kept fresh_of fresh lives_of live candidates
 kept_are_placed game bounds state few =
-    All-take (IsPlaced state.front) bounds.most (in_order (is_before game) (fresh_of game bounds state))
+    All-limited (is_alike game) bounds.most bounds.quota (IsPlaced state.front) (in_order (is_before game) (fresh_of game bounds state))
     (All-in_order (is_before game) (IsPlaced state.front) (fresh_of game bounds state)
     (All-filter _ (IsPlaced state.front) (lives_of game state)
     (All-filter _ (IsPlaced state.front) (candidates game state.front)

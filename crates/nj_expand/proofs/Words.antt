@@ -14,11 +14,12 @@ use Rattle.nj_rules.specs.Rules.{status_after, judged_of as judged_in}
 use Rattle.nj_rules.specs.Pads.{allowed_pads}
 use Rattle.nj_rules.specs.Key.{key_in}
 use Rattle.nj_game.specs.Plan.{Plan}
-use Rattle.nj_game.specs.Words.{state_of, status_of, judged_of, allowed_of, key_of, held, search_verdict, game_of}
+use Rattle.nj_property.specs.Property.{value_of}
+use Rattle.nj_game.specs.Words.{state_of, status_of, judged_of, allowed_of, key_of, bucket_of, held, search_verdict, game_of}
 use Rattle.nj_rows.specs.declared.Row.{Row}
 use Rattle.nj_image.specs.Pages.{IsImageSize}
 use Rattle.nj_pool.specs.Front.{need}
-use Rattle.nj_expand.specs.Rows.{row_verdict, told_verdict, row_of, judged_at, key_at, row_told, row_at}
+use Rattle.nj_expand.specs.Rows.{row_verdict, told_verdict, row_bucket, row_of, judged_at, key_at, row_told, row_at}
 use Rattle.nj_expand.specs.Front.{rom_in, size_in, image_at, need_at}
 
 pub is_image : (plan : Plan) (word : Word) → IsReady (state_of plan word) → rom_of (state_of plan word) ≡ rom_of (power_on plan.cartridge)
@@ -68,7 +69,7 @@ row_told_word plan word number pad = row_told plan.script number pad (state_of p
 same_row : (plan : Plan) (parent : Word) (number pad : ℕ) →
     let c : Candidate = record { number = number; parent = parent; pad = pad } in
     row_told plan.script number pad (state_of plan (parent ++ pad ∷ [])) (judged_of plan (parent ++ pad ∷ [])) ≡ row_of (game_of plan) c
-unfolding row_told row_of game_of key_at key_of judged_of
+unfolding row_told row_of game_of key_at key_of judged_of bucket_of
 same_row plan parent number pad =
     let word = parent ++ pad ∷ [] in
     let e = same_verdict (let j = judged_of plan word in j.verdict) in
@@ -79,6 +80,7 @@ same_row plan parent number pad =
       level = (let j = judged_of plan word in j.level);
       verdict = e i;
       pad = pad;
+      bucket = row_bucket (map (λ property. value_of property (ram_of (state_of plan word))) plan.script.bucket);
     }
 
 -- the row of a child, from its parent's state and status

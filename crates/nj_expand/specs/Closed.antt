@@ -1,5 +1,5 @@
--- What the end of a step is given where several threads made it: rows in any order and the table of claims. All of it is this
--- project's own.
+-- What the end of a step is given where several threads made it: rows in any order and the table of claims. All of it
+-- is this project's own.
 use Rattle.std.specs.Prelude.{◌≡◌, ◌≢◌, ℕ, true, List, drop}
 use Rattle.std.specs.List.{All, AllPairs, Contains}
 use Rattle.nj_search_defs.specs.Outcome.{seen_of}
@@ -15,10 +15,11 @@ pub record AreRowsOf (held : Held) (rows : List Row) : Type 0 where
   pub live : All (Contains (live_rows held)) rows
   pub once : AllPairs (λ a b. a.number ≢ b.number) rows
   pub wins : All (λ row. is_win_row row ≡ true → Contains rows row) (live_rows held)
-  pub fresh : All (λ row. is_fresh_row (seen_of held.bounds held.state) (live_rows held) row ≡ true → Contains rows row) (live_rows held)
+  pub fresh : All (λ row. is_fresh_row (seen_of held.bounds held.state) (live_rows held) row ≡ true
+      → Contains rows row) (live_rows held)
 
--- a table that was opened with the newest generations of the seen keys, with all that are not forgotten or without so many
--- of the oldest of them, and closed after the claims of all live candidates, in any order
+-- a table that was opened with the newest generations of the seen keys, with all that are not forgotten or without so
+-- many of the oldest of them, and closed after the claims of all live candidates, in any order
 pub record IsClosedFor (held : Held) (words : List ℕ) : Type 0 where
   pub opening : List ℕ
   pub claims : List (ℕ × ℕ)

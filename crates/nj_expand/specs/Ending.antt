@@ -40,7 +40,7 @@ seen_next held = seen_of held.bounds held.state ++ generation_rows (fresh_rows_i
 
 -- rows are those that the next step keeps, and some are
 pub record IsKeptOf (held : Held) (rows : List Row) : Type 0 where
-  pub kept : rows ≡ kept_rows held.bounds.most (fresh_rows_in held)
+  pub kept : rows ≡ kept_rows held.bounds.most held.bounds.quota (fresh_rows_in held)
   pub some : 0 < length rows
 
 -- ---- the table
@@ -75,12 +75,14 @@ pub record CanAdd (words keys : List ℕ) : Type 0 where
 pub record IsAdded (before keys : List ℕ) (step : ℕ) (after : List ℕ) : Type 0 where
   pub table : IsTable after
   pub size : length after ≡ length before
-  pub owners : (key : ℕ) → owner_in after key ≡ (if list_any (λ k. k == key) keys then Some step else owner_in before key)
+  pub owners : (key : ℕ)
+      → owner_in after key ≡ (if list_any (λ k. k == key) keys then Some step else owner_in before key)
 
 -- keys are those of the next step's generation: they can be added to the table of the search, and make it the next one
 pub record AreNewKeys (held : Held) (keys : List ℕ) : Type 0 where
   pub can : (words : List ℕ) → IsTableOf held words → CanAdd words keys
-  pub adds : (before after : List ℕ) → IsTableOf held before → IsAdded before keys (held.state.step + 1) after → IsMade held after
+  pub adds : (before after : List ℕ) → IsTableOf held before → IsAdded before keys (held.state.step + 1) after
+      → IsMade held after
 
 -- what becomes of the table of a search makes it the next one
 abbrev pub IsNewTable : Held → NewTable → Type 0
@@ -102,7 +104,8 @@ IsPut own step (Made made) words = words ≡ made.items
 -- what is left of the seen keys of a search once there is room for the next step
 pub record IsLeft (held : Held) (left : SeenKeys) : Type 0 where
   pub oldest : left.oldest ≡ oldest_step held.state.step (seen_of held.bounds held.state)
-  pub gone : drop (left.oldest - oldest_step held.state.step held.state.seen) held.state.seen ≡ seen_of held.bounds held.state
+  pub gone : drop (left.oldest - oldest_step held.state.step held.state.seen) held.state.seen
+      ≡ seen_of held.bounds held.state
   pub count : left.count ≡ key_count (seen_of held.bounds held.state)
   pub few : left.count ≤ 2 ^ 25
 
@@ -119,8 +122,8 @@ pub record IsReady (held : Held) (prepared : Prepared) : Type 0 where
   pub table : IsNewTable held prepared.table
   pub keys : AreNextKeys held prepared.keys
 
--- rows tell the winner of the next step; in order the fresh rows are its fresh; and the table and the seen keys are those
--- after it
+-- rows tell the winner of the next step; in order the fresh rows are its fresh; and the table and the seen keys are
+-- those after it
 pub record IsPrepared (held : Held) (rows : List Row) (prepared : Prepared) : Type 0 where
   pub winner : winner_row rows ≡ winner_row (live_rows held)
   pub fresh : in_order is_row_before prepared.fresh.items ≡ in_order is_row_before (fresh_rows_in held)

@@ -17,11 +17,16 @@ pub record Held : Type 0 where
   pub state : State
   pub spent : Bool
 
--- the bounds of a search of a script: the most words of a front, 2 to the exponent slots, the number of different pads,
--- and the script's tolerance
+-- the bounds of a search of a script: the most words of a front, the script's quota of a bucket, 2 to the exponent
+-- slots, the number of different pads, and the script's tolerance
 abbrev pub bounds_of : Given → Record → Bounds
-bounds_of given script =
-    record { most = given.front; slots = 2 ^ given.exponent; inputs = given.inputs; tolerance = script.tolerance }
+bounds_of given script = record {
+  most = given.front;
+  quota = script.quota;
+  slots = 2 ^ given.exponent;
+  inputs = given.inputs;
+  tolerance = script.tolerance;
+}
 
 -- the search before its first step
 unfoldable pub opened : Plan → Bounds → Held

@@ -7,3 +7,6 @@ pub mod Front
 pub mod Table
 pub mod Again
 pub mod Ending
+pub mod Saving
+pub mod Opening
+pub mod Resuming

@@ -58,8 +58,20 @@ fn child_again<L: Ledger>(
     requires images { All (IsImage (rom_of machine.old)) front.now.images }
     requires size { length front.now.base ≡ image_len (rom_of machine.old) }
     requires long { length image.old.items ≡ length front.now.base }
-    ensures judged { let before : Before = record { rom = rom_of machine.old; script = script.now; images = front.now.images; statuses = statuses_of judged.now } in result ≡ judged_again before row.now }
-    ensures image { let before : Before = record { rom = rom_of machine.old; script = script.now; images = front.now.images; statuses = statuses_of judged.now } in image.new.items ≡ image_again before row.now }
+    ensures judged { let before : Before = record {
+      rom = rom_of machine.old;
+      script = script.now;
+      images = front.now.images;
+      statuses = statuses_of judged.now;
+    } in
+        result ≡ judged_again before row.now }
+    ensures image { let before : Before = record {
+      rom = rom_of machine.old;
+      script = script.now;
+      images = front.now.images;
+      statuses = statuses_of judged.now;
+    } in
+        image.new.items ≡ image_again before row.now }
     ensures long { length image.new.items ≡ length front.now.base }
     ensures cartridge { rom_of machine.new ≡ rom_of machine.old }
     ensures frames { steps.new ≤ steps.old + script.now.hold }
@@ -119,8 +131,20 @@ pub(crate) fn run_again<L: Ledger>(
     requires images { All (IsImage (rom_of machine.old)) front.now.images }
     requires size { length front.now.base ≡ image_len (rom_of machine.old) }
     requires room { length kept.now * (length front.now.base + 16) ≤ limit }
-    ensures pool { let before : Before = record { rom = rom_of machine.old; script = script.now; images = front.now.images; statuses = statuses_of judged.now } in IfOk result (λ again. again.pool ≡ pool_again before front.now.base limit kept.now) }
-    ensures judged { let before : Before = record { rom = rom_of machine.old; script = script.now; images = front.now.images; statuses = statuses_of judged.now } in IfOk result (λ again. again.judged.items ≡ map (judged_again before) kept.now) }
+    ensures pool { let before : Before = record {
+      rom = rom_of machine.old;
+      script = script.now;
+      images = front.now.images;
+      statuses = statuses_of judged.now;
+    } in
+        IfOk result (λ again. again.pool ≡ pool_again before front.now.base limit kept.now) }
+    ensures judged { let before : Before = record {
+      rom = rom_of machine.old;
+      script = script.now;
+      images = front.now.images;
+      statuses = statuses_of judged.now;
+    } in
+        IfOk result (λ again. again.judged.items ≡ map (judged_again before) kept.now) }
     ensures frames { steps.new ≤ steps.old + script.now.hold * length kept.now }
     ensures never_falls { steps.old ≤ steps.new }
 {

@@ -1,10 +1,10 @@
 //! A candidate: the state of a parent after one more pad.
 
-ghost use Rattle.std.specs.Prelude.{◌≡◌, ◌≢◌, ◌≤◌, ◌+◌, ℕ};
+ghost use Rattle.std.specs.Prelude.{◌≡◌, ◌≢◌, ◌≤◌, ◌+◌, ℕ, pos, get_or};
 ghost use Rattle.nj_machine.specs.State.{rom_of};
 ghost use Rattle.nj_machine.specs.Image.{of_image, IsImage};
 ghost use Rattle.nj_game.specs.Words.{held};
-ghost use Rattle.nj_expand.specs.Rows.{told_verdict, judged_at, key_at, row_told, row_at};
+ghost use Rattle.nj_expand.specs.Rows.{told_verdict, judged_at, key_at, values_at, row_bucket, row_told, row_at};
 
 use nj_game::{a_jam_ends_its_step, one_more_frame_is_held};
 use nj_machine::{FrameEnd, Machine};
@@ -15,8 +15,8 @@ use nj_script::Script;
 use nj_steps::Steps;
 use std::sync::ledger::Ledger;
 
-// So many frames with the pad held. A jam ends them, since the frames behind it change nothing.
-fn hold_pad<L: Ledger>(machine: &mut Machine, hold: u32, pad: Pad, steps: &mut Steps<L>)
+/// So many frames with the pad held. A jam ends them, since the frames behind it change nothing.
+pub(crate) fn hold_pad<L: Ledger>(machine: &mut Machine, hold: u32, pad: Pad, steps: &mut Steps<L>)
     ensures state { machine.new ≡ held hold pad machine.old }
     ensures cartridge { rom_of machine.new ≡ rom_of machine.old }
     ensures frames { steps.new ≤ steps.old + hold }
@@ -39,8 +39,8 @@ pub(crate) fn judge_state(machine: &Machine, status: Status, script: &Script) ->
     judge(script.rules(), machine.ram(), status, machine.jammed())
 }
 
-/// The step of a pad from the state that has this image and status. The machine is left in the child's state; the answer is
-/// how the rules judge it.
+/// The step of a pad from the state that has this image and status. The machine is left in the child's state; the
+/// answer is how the rules judge it.
 pub(crate) fn run_step<L: Ledger>(
     machine: &mut Machine,
     image: &[u8],
@@ -86,6 +86,30 @@ pub(crate) fn key_in(machine: &Machine, judged: Judged, script: &Script) -> u64
     )
 }
 
+// The value of the script's bucket property at a place; 0 where it names fewer.
+fn value_at(machine: &Machine, script: &Script, place: usize) -> i32
+    ensures { result ≡ get_or (values_at script.now machine.now) place (pos 0) }
+{
+    match script.bucket().get(place) {
+        Some(property) => property.value(machine.ram()),
+        None => 0,
+    }
+}
+
+// The values of the script's bucket properties, in their order; unused places are 0.
+#[tactic(auto, unfolding(crate::specs::Rows::row_bucket))]
+fn bucket_in(machine: &Machine, script: &Script) -> [i32; 4]
+    ensures { result ≡ row_bucket (values_at script.now machine.now) }
+{
+    let _few = script.bucket();
+    [
+        value_at(machine, script, 0),
+        value_at(machine, script, 1),
+        value_at(machine, script, 2),
+        value_at(machine, script, 3),
+    ]
+}
+
 // The row of the machine's state.
 #[tactic(auto, unfolding(crate::specs::Rows::row_told))]
 fn row_in(machine: &Machine, judged: Judged, pad: Pad, number: u64, script: &Script) -> Row
@@ -99,11 +123,12 @@ fn row_in(machine: &Machine, judged: Judged, pad: Pad, number: u64, script: &Scr
         level: judged.level,
         verdict: verdict_of(judged.verdict),
         pad: pad.0,
+        bucket: bucket_in(machine, script),
     }
 }
 
-/// The row of the candidate of this number: the pad, held for a step, after the parent that has this image and status. The
-/// machine is left in the candidate's state. A jam ends the step's frames.
+/// The row of the candidate of this number: the pad, held for a step, after the parent that has this image and status.
+/// The machine is left in the candidate's state. A jam ends the step's frames.
 #[tactic(auto, unfolding(crate::specs::Rows::row_at))]
 pub fn expand<L: Ledger>(
     machine: &mut Machine,

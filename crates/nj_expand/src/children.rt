@@ -35,14 +35,18 @@ impl Search {
         requires long { length image.old ≡ size_in self.now.plan }
         requires cartridge { rom_of machine.old ≡ rom_in self.now.plan }
         requires room { length rows.old.items + self.now.bounds.inputs ≤ vec_capacity rows.old }
-        ensures rows { rows.new.items ≡ rows.old.items ++ word_rows self.now place (get_or self.now.state.front place []) }
-        ensures few { length (word_rows self.now place (get_or self.now.state.front place [])) ≤ self.now.bounds.inputs }
+        ensures rows { rows.new.items ≡ rows.old.items
+            ++ word_rows self.now place (get_or self.now.state.front place []) }
+        ensures few { length (word_rows self.now place (get_or self.now.state.front place []))
+            ≤ self.now.bounds.inputs }
         ensures keys { All (λ row. row.key ≢ 0) (word_rows self.now place (get_or self.now.state.front place [])) }
-        ensures numbers { All (λ row. row.number < 256 * (place + 1)) (word_rows self.now place (get_or self.now.state.front place [])) }
+        ensures numbers { All (λ row. row.number < 256 * (place + 1))
+            (word_rows self.now place (get_or self.now.state.front place [])) }
         ensures capacity { vec_capacity rows.new ≡ vec_capacity rows.old }
         ensures long { length image.new ≡ length image.old }
         ensures cartridge { rom_of machine.new ≡ rom_in self.now.plan }
-        ensures frames { steps.new ≤ steps.old + self.now.plan.script.hold * length (allowed_of self.now.plan (get_or self.now.state.front place [])) }
+        ensures frames { steps.new ≤ steps.old
+            + self.now.plan.script.hold * length (allowed_of self.now.plan (get_or self.now.state.front place [])) }
         ensures never_falls { steps.old ≤ steps.new }
     {
         a_candidate_is_told_by_its_parent();
@@ -58,10 +62,13 @@ impl Search {
     // What is known of the rows of a word: they are few, and can claim their keys.
     fn may_claim(&self, place: usize)
         requires { place < length self.now.state.front }
-        ensures pads { length (allowed_of self.now.plan (get_or self.now.state.front place [])) ≤ self.now.bounds.inputs }
-        ensures few { length (word_rows self.now place (get_or self.now.state.front place [])) ≤ self.now.bounds.inputs }
+        ensures pads { length (allowed_of self.now.plan (get_or self.now.state.front place []))
+            ≤ self.now.bounds.inputs }
+        ensures few { length (word_rows self.now place (get_or self.now.state.front place []))
+            ≤ self.now.bounds.inputs }
         ensures keys { All (λ row. row.key ≢ 0) (word_rows self.now place (get_or self.now.state.front place [])) }
-        ensures numbers { All (λ row. row.number < 256 * (place + 1)) (word_rows self.now place (get_or self.now.state.front place [])) }
+        ensures numbers { All (λ row. row.number < 256 * (place + 1))
+            (word_rows self.now place (get_or self.now.state.front place [])) }
         ensures place { place < 2 ^ 20 }
     {
         allowed_pads_come_once();
@@ -86,7 +93,8 @@ impl Search {
         requires first { first < 2 ^ 32 }
         requires pads { length pads.now ≤ 256 }
         requires room { length rows.old.items + length pads.now ≤ vec_capacity rows.old }
-        ensures rows { rows.new.items ≡ rows.old.items ++ live_among self.now (child_rows self.now.plan.script status.0 (of_image (rom_of machine.old) image.now) first pads.now) }
+        ensures rows { rows.new.items ≡ rows.old.items ++ live_among self.now
+            (child_rows self.now.plan.script status.0 (of_image (rom_of machine.old) image.now) first pads.now) }
         ensures capacity { vec_capacity rows.new ≡ vec_capacity rows.old }
         ensures cartridge { rom_of machine.new ≡ rom_of machine.old }
         ensures frames { steps.new ≤ steps.old + self.now.plan.script.hold * length pads.now }
@@ -128,8 +136,10 @@ fn no_pads() -> [u8; 256] {
 // The pads that may follow the state that has this image, written to the front of `pads`; the answer is their count.
 fn allow(machine: &mut Machine, image: &[u8], script: &Script, pads: &mut [u8; 256]) -> usize
     requires { IsImage (rom_of machine.old) image.now }
-    ensures pads { take result pads.new ≡ allowed_pads script.now.inputs.sets (ram_of (of_image (rom_of machine.old) image.now)) }
-    ensures count { result ≡ length (allowed_pads script.now.inputs.sets (ram_of (of_image (rom_of machine.old) image.now))) }
+    ensures pads { take result pads.new
+        ≡ allowed_pads script.now.inputs.sets (ram_of (of_image (rom_of machine.old) image.now)) }
+    ensures count { result
+        ≡ length (allowed_pads script.now.inputs.sets (ram_of (of_image (rom_of machine.old) image.now))) }
     ensures within { result ≤ 256 }
     ensures cartridge { rom_of machine.new ≡ rom_of machine.old }
 {

@@ -15,7 +15,7 @@ use crate::search::{Mark, Search};
 use crate::tables::{NewTable, Prepared, put};
 use nj_game::a_word_goes_on;
 use nj_machine::Machine;
-use nj_rows::{Row, keep, order_is_preference, winner};
+use nj_rows::{Row, keep_quota, order_is_preference, winner};
 use nj_rules::allowed_pads_come_once;
 use nj_seen::{SeenKeys, seen_is_told};
 use nj_steps::Steps;
@@ -47,9 +47,9 @@ fn raised(mark: Mark, top: u32, until: u32) -> Mark
 }
 
 impl Search {
-    /// Ends a step of one thread, by the rows of all its live candidates by rising number: finds the winner, or makes the
-    /// kept the front by running them again. The new keys go into the search's own table, which is copied only where a
-    /// generation is forgotten. After want of memory the search is spent.
+    /// Ends a step of one thread, by the rows of all its live candidates by rising number: finds the winner, or makes
+    /// the kept the front by running them again. The new keys go into the search's own table, which is copied only
+    /// where a generation is forgotten. After want of memory the search is spent.
     pub fn finish_alone<L: Ledger>(
         &mut self,
         alloc: Global,
@@ -70,10 +70,10 @@ impl Search {
         self.settle(alloc, rows.as_slice(), prepared, steps)
     }
 
-    /// Ends a step by rows of its live candidates, in any order, and by the table that was closed after the claims of all of
-    /// them. It may have been opened with the seen keys that are not forgotten, with the newest of their generations, or
-    /// with no key. The new keys go into the search's own table, which is copied only where a generation is forgotten.
-    /// After want of memory the search is spent.
+    /// Ends a step by rows of its live candidates, in any order, and by the table that was closed after the claims of
+    /// all of them. It may have been opened with the seen keys that are not forgotten, with the newest of their
+    /// generations, or with no key. The new keys go into the search's own table, which is copied only where a
+    /// generation is forgotten. After want of memory the search is spent.
     pub fn finish<L: Ledger>(
         &mut self,
         alloc: Global,
@@ -149,7 +149,8 @@ impl Search {
             table,
             keys,
         } = prepared;
-        keep(&mut kept, self.bounds.front as usize);
+        let quota = self.script.quota();
+        keep_quota(alloc, &mut kept, self.bounds.front as usize, quota)?;
         if kept.is_empty() {
             return Ok(Stepped::Exhausted);
         }
@@ -179,7 +180,9 @@ impl Search {
         requires kept { IsKeptOf self.old kept.items }
         requires table { IsNewTable self.old table }
         requires keys { AreNextKeys self.old keys }
-        ensures next { OnOk result (self.new ≡ record self.old { state = state_after (game_of self.old.plan) self.old.bounds self.old.state (kept_in self.old) }) }
+        ensures next { OnOk result (self.new ≡ record self.old {
+          state = state_after (game_of self.old.plan) self.old.bounds self.old.state (kept_in self.old);
+        }) }
         ensures plan { self.new.plan ≡ self.old.plan }
         ensures bounds { self.new.bounds ≡ self.old.bounds }
         ensures frames { steps.new ≤ steps.old + self.old.plan.script.hold * length (kept_in self.old) }

@@ -9,8 +9,8 @@ ghost use Rattle.nj_pool.specs.declared.refused.PushRefused.{PushRefused};
 ghost use Rattle.nj_claims.specs.Tables.{IsTable, slot_count};
 ghost use Rattle.nj_seen.specs.Held.{HoldsSeen};
 ghost use Rattle.nj_game.specs.Plan.{plan_of};
-ghost use Rattle.nj_game.specs.Words.{key_of, judged_of};
-ghost use Rattle.nj_expand.specs.Front.{size_in, image_at, one_state};
+ghost use Rattle.nj_expand.specs.Front.{one_state};
+ghost use Rattle.nj_expand.specs.Opening.{IsBegun, IsFirst};
 
 use crate::Bounds;
 use crate::candidate::{judge_state, key_in};
@@ -28,8 +28,16 @@ use nj_steps::Steps;
 use std::alloc::{AllocError, Global};
 use std::sync::ledger::Ledger;
 
-/// What a search has before its first step: the start's state, alone in a pool, its judgement, a claim table of its key, and
-/// its level.
+/// The machine after the start movie, the image of its state, and how the rules judge it.
+#[derive(Drop)]
+pub(crate) struct Begun {
+    pub(crate) machine: Machine,
+    pub(crate) image: Vec<u8>,
+    pub(crate) judged: Judged,
+}
+
+/// What a search has before its first step: the start's state, alone in a pool, its judgement, a claim table of its
+/// key, and its level.
 #[derive(Drop)]
 pub(crate) struct First {
     pub(crate) pool: FrontPool,
@@ -47,7 +55,8 @@ pub(crate) fn image_room(alloc: Global, machine: &Machine) -> Result<Vec<u8>, Al
 
 // The image of the machine's state.
 fn saved(alloc: Global, machine: &mut Machine) -> Result<Vec<u8>, AllocError>
-    ensures { IfOk result (λ image. image.items ≡ image_of machine.old) }
+    ensures image { IfOk result (λ image. image.items ≡ image_of machine.old) }
+    ensures same { machine.new ≡ machine.old }
 {
     let mut image = image_room(alloc, machine)?;
     save_into(machine, &mut image);
@@ -92,7 +101,7 @@ fn pool_of(alloc: Global, image: &[u8], most: u64) -> Result<FrontPool, AllocErr
 }
 
 // A table of so many slots for a key that is seen before the first step.
-fn table_of(alloc: Global, exponent: u32, key: u64) -> Result<Vec<u64>, AllocError>
+fn first_table(alloc: Global, exponent: u32, key: u64) -> Result<Vec<u64>, AllocError>
     requires low { 10 ≤ exponent }
     requires high { exponent ≤ 25 }
     requires key { key ≢ 0 }
@@ -104,6 +113,32 @@ fn table_of(alloc: Global, exponent: u32, key: u64) -> Result<Vec<u64>, AllocErr
     let mut words = empty_table(alloc, exponent)?;
     insert(words.as_mut_slice(), key, 0);
     Ok(words)
+}
+
+impl Begun {
+    /// Runs the start movie from power-on.
+    pub(crate) fn run<L: Ledger>(
+        alloc: Global,
+        cart: &Cart,
+        script: &Script,
+        start: &Movie,
+        steps: &mut Steps<L>,
+    ) -> Result<Begun, AllocError>
+        ensures begun { IfOk result (IsBegun (plan_of cart.now script.now start.now)) }
+        ensures frames { steps.new ≤ steps.old + length start.now }
+        ensures never_falls { steps.old ≤ steps.new }
+    {
+        the_empty_word_is_the_start();
+        let mut machine = Machine::power_on(alloc, cart)?;
+        machine.play(start.pads(), steps);
+        let judged = judge_state(&machine, Status(0), script);
+        let image = saved(alloc, &mut machine)?;
+        Ok(Begun {
+            machine,
+            image,
+            judged,
+        })
+    }
 }
 
 impl First {
@@ -119,25 +154,20 @@ impl First {
         requires some { 1 ≤ bounds.front }
         requires few { bounds.front ≤ 2 ^ 20 }
         requires exponent { (10 ≤ bounds.exponent) × (bounds.exponent ≤ 25) }
-        ensures pool { IfOk result (λ first. let plan = plan_of cart.now script.now start.now in first.pool ≡ one_state (bounds.front * (size_in plan + 16)) (image_at plan [])) }
-        ensures judged { IfOk result (λ first. first.judged.items ≡ judged_of (plan_of cart.now script.now start.now) [] ∷ []) }
-        ensures table { IfOk result (λ first. IsTable first.words.items) }
-        ensures slots { IfOk result (λ first. slot_count first.words.items ≡ 2 ^ bounds.exponent) }
-        ensures seen { IfOk result (λ first. HoldsSeen first.words.items ((key_of (plan_of cart.now script.now start.now) [] ∷ []) ∷ []) 0) }
-        ensures level { IfOk result (λ first. first.level ≡ (let j = judged_of (plan_of cart.now script.now start.now) [] in j.level)) }
+        ensures first { IfOk result (IsFirst (plan_of cart.now script.now start.now) bounds) }
         ensures frames { steps.new ≤ steps.old + length start.now }
         ensures never_falls { steps.old ≤ steps.new }
     {
-        the_empty_word_is_the_start();
         an_image_stands_for_its_word();
         is_cartridge(cart);
-        let mut machine = Machine::power_on(alloc, cart)?;
-        machine.play(start.pads(), steps);
-        let judged = judge_state(&machine, Status(0), script);
+        let Begun {
+            machine,
+            image,
+            judged,
+        } = Begun::run(alloc, cart, script, start, steps)?;
         let key = key_in(&machine, judged, script);
-        let image = saved(alloc, &mut machine)?;
         let pool = pool_of(alloc, image.as_slice(), bounds.front)?;
-        let words = table_of(alloc, bounds.exponent, key)?;
+        let words = first_table(alloc, bounds.exponent, key)?;
         Ok(First {
             pool,
             judged: vec![in alloc; judged]?,

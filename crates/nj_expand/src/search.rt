@@ -11,6 +11,7 @@ ghost use Rattle.nj_claims.specs.Tables.{IsTable, slot_count};
 ghost use Rattle.nj_seen.specs.Rows.{is_live_row};
 ghost use Rattle.nj_seen.specs.Held.{HoldsSeen};
 ghost use Rattle.nj_expand.specs.Held.{bounds_of, opened};
+ghost use Rattle.nj_expand.specs.Opening.{IsFirst};
 ghost use Rattle.nj_expand.specs.Front.{rom_in, size_in, image_at, need_at, one_state, AreBounds};
 
 use crate::Bounds;
@@ -65,16 +66,23 @@ impl Model for Search {
     ghost view = { λ s. record {
       plan = plan_of s.cart s.script s.start;
       bounds = bounds_of s.bounds s.script;
-      state = record { step = s.step; front = s.pool.words; seen = seen_in s.words.items s.step s.keys.oldest; mark = record { level = s.mark.level; until = s.mark.until } };
+      state = record {
+        step = s.step;
+        front = s.pool.words;
+        seen = seen_in s.words.items s.step s.keys.oldest;
+        mark = record { level = s.mark.level; until = s.mark.until };
+      };
       spent = s.spent;
     } };
 
-    ghost invariant = { λ s. AreBounds s.bounds s.script × IsFront (plan_of s.cart s.script s.start) s.bounds.front s.pool s.judged.items × IsTableAt s.words.items s.keys s.step s.bounds.exponent };
+    ghost invariant = { λ s. AreBounds s.bounds s.script
+        × IsFront (plan_of s.cart s.script s.start) s.bounds.front s.pool s.judged.items
+        × IsTableAt s.words.items s.keys s.step s.bounds.exponent };
 }
 
 impl Search {
-    /// The search before its first step: the start movie is run, and its state is the front. The cartridge moves in, since
-    /// a machine is made of it at each step.
+    /// The search before its first step: the start movie is run, and its state is the front. The cartridge moves in,
+    /// since a machine is made of it at each step.
     pub fn start<L: Ledger>(
         alloc: Global,
         cart: Cart,
@@ -87,7 +95,8 @@ impl Search {
         requires exponent { (10 ≤ bounds.exponent) × (bounds.exponent ≤ 25) }
         requires inputs { bounds.inputs ≡ length (named_pads script.inputs.sets) }
         requires fits { bounds.front * bounds.inputs ≤ 2 ^ bounds.exponent }
-        ensures opened { IfOk result (λ search. search ≡ opened (plan_of cart script start) (bounds_of bounds script)) }
+        ensures opened { IfOk result (λ search. search
+            ≡ opened (plan_of cart script start) (bounds_of bounds script)) }
         ensures frames { steps.new ≤ steps.old + length start }
         ensures never_falls { steps.old ≤ steps.new }
     {
@@ -102,12 +111,7 @@ impl Search {
     fn begun(cart: Cart, script: Script, start: Movie, bounds: Bounds, first: First) -> Search
         requires bounds { AreBounds bounds script }
         requires cartridge { IsCartridge cart }
-        requires pool { let plan = plan_of cart script start in first.pool ≡ one_state (bounds.front * (size_in plan + 16)) (image_at plan []) }
-        requires judged { first.judged.items ≡ judged_of (plan_of cart script start) [] ∷ [] }
-        requires table { IsTable first.words.items }
-        requires slots { slot_count first.words.items ≡ 2 ^ bounds.exponent }
-        requires seen { HoldsSeen first.words.items ((key_of (plan_of cart script start) [] ∷ []) ∷ []) 0 }
-        requires level { first.level ≡ (let j = judged_of (plan_of cart script start) [] in j.level) }
+        requires first { IsFirst (plan_of cart script start) bounds first }
         ensures { result ≡ opened (plan_of cart script start) (bounds_of bounds script) }
     {
         an_image_stands_for_its_word();
@@ -156,7 +160,8 @@ impl Search {
         requires spent { self.now.spent ≡ false }
         ensures image { into.new ≡ image_at self.now.plan (get_or self.now.state.front place []) }
         ensures is_image { IsImage (rom_in self.now.plan) into.new }
-        ensures state { of_image (rom_in self.now.plan) into.new ≡ state_of self.now.plan (get_or self.now.state.front place []) }
+        ensures state { of_image (rom_in self.now.plan) into.new
+            ≡ state_of self.now.plan (get_or self.now.state.front place []) }
     {
         an_image_stands_for_its_word();
         self.pool.load(place, into);
@@ -246,8 +251,8 @@ impl Search {
         self.pool.len()
     }
 
-    /// The bytes that the front's states need: each its packing over the start's image and 15 for its place in the trail
-    /// of words.
+    /// The bytes that the front's states need: each its packing over the start's image and 15 for its place in the
+    /// trail of words.
     pub fn bytes(&self) -> u64
         ensures sum { result ≡ sum_by (need_at self.now.plan) self.now.state.front }
         ensures few { result ≤ length self.now.state.front * (size_in self.now.plan + 16) }

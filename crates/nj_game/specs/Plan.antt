@@ -15,7 +15,8 @@ pub record Plan : Type 0 where
 abbrev pub held_pads : ℕ → Word → List ℕ
 held_pads hold word = flat_map (λ pad. replicate hold pad) word
 
--- the movie of a word: the start movie, and then each pad of the word for the frames of a step, also where the machine jams
+-- the movie of a word: the start movie, and then each pad of the word for the frames of a step, also where the machine
+-- jams
 unfoldable pub movie_of : Plan → Word → List ℕ
 movie_of plan word = plan.start ++ held_pads plan.script.hold word
 

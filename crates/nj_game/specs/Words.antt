@@ -1,8 +1,9 @@
 -- What a word means, by its replay from power-on. All of it is this project's own.
-use Rattle.std.specs.Prelude.{ℕ, zero, suc, List, [], ◌∷◌, length, reverse}
+use Rattle.std.specs.Prelude.{ℕ, zero, suc, List, [], ◌∷◌, length, map, reverse, ℤ}
 use Rattle.nj_search_defs.specs.Game.{Word, Game, Go as Goes, Win as Wins, Fail as Fails, Verdict as SearchVerdict}
 use Rattle.nj_machine.specs.State.{State, ram_of, is_jammed}
 use Rattle.nj_machine.specs.Frame.{frame, play}
+use Rattle.nj_property.specs.Property.{value_of}
 use Rattle.nj_rules.specs.declared.record.Verdict.{Verdict}
 use Rattle.nj_rules.specs.declared.record.Verdict.TheVariants.{Go, Win, Fail}
 use Rattle.nj_rules.specs.declared.record.Judged.{Judged}
@@ -28,8 +29,8 @@ held (suc n) pad s = held n pad (frame s pad).0
 
 -- ---- the rules
 
--- the status after a word, which is given from its last pad back: the rules that were satisfied after the word without its
--- last pad, and those that the memory satisfies; before the empty word no rule was satisfied
+-- the status after a word, which is given from its last pad back: the rules that were satisfied after the word without
+-- its last pad, and those that the memory satisfies; before the empty word no rule was satisfied
 abbrev pub status_back : Plan → Word → ℕ
 status_back plan [] = status_after plan.script.rules.rules (ram_after plan []) 0
 status_back plan (pad ∷ back) =
@@ -59,6 +60,10 @@ unfoldable pub key_of : Plan → Word → ℕ
 key_of plan word =
     key_in plan.script.hash.items (length plan.script.rules.rules) (ram_after plan word) (status_of plan word)
 
+-- the values of the bucket's properties after a word, in order
+unfoldable pub bucket_of : Plan → Word → List ℤ
+bucket_of plan word = map (λ property. value_of property (ram_after plan word)) plan.script.bucket
+
 -- a verdict of the rules, as the search has it
 abbrev pub search_verdict : Verdict → SearchVerdict
 search_verdict Go = Goes
@@ -69,7 +74,10 @@ search_verdict Fail = Fails
 unfoldable pub game_of : Plan → Game
 game_of plan = record {
   judged =
-      (λ word. let j = judged_of plan word in record { verdict = search_verdict j.verdict; reward = j.reward; level = j.level });
+      (λ word.
+      let j = judged_of plan word in
+      record { verdict = search_verdict j.verdict; reward = j.reward; level = j.level });
   allowed = allowed_of plan;
   key = key_of plan;
+  bucket = bucket_of plan;
 }

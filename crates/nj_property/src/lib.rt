@@ -10,7 +10,7 @@ ghost use Rattle.nj_property.specs.Condition.{IsPlacedCondition, IsPlacedSide, s
 
 /// How the bytes of a property are read: one byte or two with the low byte first, unsigned or in
 /// two's complement.
-#[derive(Clone, Copy, Debug, PartialEq, Eq)]
+#[derive(Clone, Copy)]
 pub enum Kind {
     U8,
     I8,
@@ -32,7 +32,7 @@ impl Kind {
 }
 
 /// A number in working memory: its first byte's address, and how its bytes are read.
-#[derive(Clone, Copy, Debug, PartialEq, Eq)]
+#[derive(Clone, Copy)]
 pub struct Property {
     pub at: u16,
     pub kind: Kind,
@@ -59,7 +59,7 @@ impl Property {
 }
 
 /// How a condition compares its sides.
-#[derive(Clone, Copy, Debug, PartialEq, Eq)]
+#[derive(Clone, Copy)]
 pub enum Cmp {
     Eq,
     Ne,
@@ -70,14 +70,14 @@ pub enum Cmp {
 }
 
 /// The right side of a condition.
-#[derive(Clone, Copy, Debug, PartialEq, Eq)]
+#[derive(Clone, Copy)]
 pub enum Side {
     Number { value: i32 },
     Other { property: Property },
 }
 
 /// A comparison that holds or fails in working memory.
-#[derive(Clone, Copy, Debug, PartialEq, Eq)]
+#[derive(Clone, Copy)]
 pub struct Condition {
     pub left: Property,
     pub op: Cmp,

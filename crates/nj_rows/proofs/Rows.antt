@@ -1,8 +1,9 @@
 -- The order of rows sorts them, and only equal rows tie. The winner, row by row.
-use Rattle.std.proofs.Common.{◌≡◌, ◌≢◌, ℕ, ℤ, Ordering, Less, Equal, Greater, Bool, true, false, cond, List, [], ◌∷◌, refl, sym, ap, ◌∙◌, ◌+◌, ◌<◌, length, drop, get_or, arith}
+use Rattle.std.proofs.Common.{◌≡◌, ◌≢◌, ℕ, ℤ, Ordering, Less, Equal, Greater, Bool, true, false, cond, List, [], ◌∷◌, refl, sym, ap, ap₂, ◌∙◌, ◌+◌, ◌<◌, length, drop, get_or, arith}
 use Rattle.std.specs.Prelude.{Option, Some, None, ◌↔◌, filter, slice_get, All}
 use Rattle.std.specs.Ordering.{is_lt, ordering_then, ordering_reverse, int_cmp, nat_cmp}
 use Rattle.std.specs.Cmp.{IsTotalOrder, IsStrictWeakOrder}
+use Rattle.std.specs.Cmp.Lexicographic.{slice_cmp, lists_total}
 use Rattle.std.specs.Fn.{Called, ComparesAs}
 use Rattle.std.specs.List.Sorted.{IsPermutation, IsSortedBy}
 use denote.Param.Members.{Mut}
@@ -29,7 +30,8 @@ unfolding remainder
 remainder_total =
     then_total
     (then_total (on_total (λ (r : Row). r.key) nat_cmp_total) (on_total (λ (r : Row). r.level) nat_cmp_total))
-    (then_total (on_total (λ (r : Row). place_of r.verdict) nat_cmp_total) (on_total (λ (r : Row). r.pad) nat_cmp_total))
+    (then_total (then_total (on_total (λ (r : Row). place_of r.verdict) nat_cmp_total) (on_total (λ (r : Row). r.pad) nat_cmp_total))
+    (on_total (λ (r : Row). r.bucket) (lists_total int_cmp_total)))
 
 row_order_total : IsTotalOrder row_order
 unfolding row_order
@@ -62,22 +64,33 @@ equal_verdicts Fail Go h = absurd (omega (arith, h))
 equal_verdicts Fail Win h = absurd (omega (arith, h))
 equal_verdicts Fail Fail h = refl
 
+-- lists of values that compare as equal are equal
+equal_values : (xs ys : List ℤ) → slice_cmp int_cmp xs ys ≡ Equal → xs ≡ ys
+equal_values [] [] h = refl
+equal_values [] (y ∷ ys) h = absurd (cc)
+equal_values (x ∷ xs) [] h = absurd (cc)
+equal_values (x ∷ xs) (y ∷ ys) h =
+    let both = then_ties (int_cmp x y) (slice_cmp int_cmp xs ys) h in
+    ap₂ (λ z zs. z ∷ zs) (equal_rewards x y both.0) (equal_values xs ys both.1)
+
 -- rows that compare as equal are equal
 equal_rows : (a b : Row) → row_order a b ≡ Equal → a ≡ b
 unfolding row_order preference remainder
 equal_rows a b h =
     let both = then_ties (preference a b) (remainder a b) h in
     let first = then_ties (int_cmp b.reward a.reward) (nat_cmp a.number b.number) both.0 in
-    let rest = then_ties (ordering_then (nat_cmp a.key b.key) (nat_cmp a.level b.level)) (ordering_then (nat_cmp (place_of a.verdict) (place_of b.verdict)) (nat_cmp a.pad b.pad)) both.1 in
+    let rest = then_ties (ordering_then (nat_cmp a.key b.key) (nat_cmp a.level b.level)) (ordering_then (ordering_then (nat_cmp (place_of a.verdict) (place_of b.verdict)) (nat_cmp a.pad b.pad)) (slice_cmp int_cmp a.bucket b.bucket)) both.1 in
     let third = then_ties (nat_cmp a.key b.key) (nat_cmp a.level b.level) rest.0 in
-    let last = then_ties (nat_cmp (place_of a.verdict) (place_of b.verdict)) (nat_cmp a.pad b.pad) rest.1 in
+    let fourth = then_ties (ordering_then (nat_cmp (place_of a.verdict) (place_of b.verdict)) (nat_cmp a.pad b.pad)) (slice_cmp int_cmp a.bucket b.bucket) rest.1 in
+    let last = then_ties (nat_cmp (place_of a.verdict) (place_of b.verdict)) (nat_cmp a.pad b.pad) fourth.0 in
     let reward : a.reward ≡ b.reward = sym (equal_rewards b.reward a.reward first.0) in
     let number : a.number ≡ b.number = equal_numbers a.number b.number first.1 in
     let key : a.key ≡ b.key = equal_numbers a.key b.key third.0 in
     let level : a.level ≡ b.level = equal_numbers a.level b.level third.1 in
     let verdict : a.verdict ≡ b.verdict = equal_verdicts a.verdict b.verdict (equal_numbers (place_of a.verdict) (place_of b.verdict) last.0) in
     let pad : a.pad ≡ b.pad = equal_numbers a.pad b.pad last.1 in
-    λ i. record { number = number i; key = key i; reward = reward i; level = level i; verdict = verdict i; pad = pad i }
+    let bucket : a.bucket ≡ b.bucket = equal_values a.bucket b.bucket fourth.1 in
+    λ i. record { number = number i; key = key i; reward = reward i; level = level i; verdict = verdict i; pad = pad i; bucket = bucket i }
 
 -- what is neither before nor after is equal
 neither : (o p : Ordering) → p ≡ ordering_reverse o → is_lt o ≡ false → is_lt p ≡ false → o ≡ Equal

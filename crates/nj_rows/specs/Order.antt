@@ -2,7 +2,9 @@
 -- fields that are left, so that only equal rows tie.
 use Rattle.std.specs.Prelude.{ℕ, Bool, true, false}
 use Rattle.std.specs.Ordering.{is_lt, ordering_then, int_cmp, nat_cmp}
+use Rattle.std.specs.Cmp.Lexicographic.{slice_cmp}
 use Rattle.std.specs.declared.cmp.Ordering.{Ordering}
+use Rattle.nj_search_defs.specs.Quota.{same_values}
 use Rattle.nj_rows.specs.declared.Row.{Row}
 use Rattle.nj_rows.specs.declared.Verdict3.{Verdict3}
 use Rattle.nj_rows.specs.declared.Verdict3.TheVariants.{Go, Win, Fail}
@@ -23,11 +25,12 @@ place_of Fail = 2
 unfoldable pub preference : Row → Row → Ordering
 preference a b = ordering_then (int_cmp b.reward a.reward) (nat_cmp a.number b.number)
 
--- then smaller keys, smaller levels, verdicts by their place, and smaller pads
+-- then smaller keys, smaller levels, verdicts by their place, smaller pads, and smaller buckets, value by value
 unfoldable pub remainder : Row → Row → Ordering
 remainder a b =
     ordering_then (ordering_then (nat_cmp a.key b.key) (nat_cmp a.level b.level))
-    (ordering_then (nat_cmp (place_of a.verdict) (place_of b.verdict)) (nat_cmp a.pad b.pad))
+    (ordering_then (ordering_then (nat_cmp (place_of a.verdict) (place_of b.verdict)) (nat_cmp a.pad b.pad))
+    (slice_cmp int_cmp a.bucket b.bucket))
 
 -- the order of rows
 unfoldable pub row_order : Row → Row → Ordering
@@ -40,3 +43,7 @@ is_row_before a b = is_lt (row_order a b)
 -- whether a row wins
 abbrev pub is_win_row : Row → Bool
 is_win_row row = is_win row.verdict
+
+-- two rows have the same bucket
+abbrev pub is_alike_row : Row → Row → Bool
+is_alike_row a b = same_values a.bucket b.bucket

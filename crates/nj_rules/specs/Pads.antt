@@ -12,7 +12,8 @@ distinct (x ∷ xs) = x ∷ filter (λ y. not (y == x)) (distinct xs)
 abbrev pub offered_pads : List InputSet → List ℕ → List ℕ
 offered_pads [] ram = []
 offered_pads (set ∷ sets) ram =
-    if all_hold_in ram set.when then set.pads ++ (if set.stop then [] else offered_pads sets ram) else offered_pads sets ram
+    if all_hold_in ram set.when then set.pads ++ (if set.stop then [] else offered_pads sets ram)
+    else offered_pads sets ram
 
 -- the pads that may come next
 unfoldable pub allowed_pads : List InputSet → List ℕ → List ℕ

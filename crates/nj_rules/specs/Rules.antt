@@ -85,4 +85,9 @@ level_of rules status = count_by (λ rule. rule.checkpoint) (satisfied_rules rul
 unfoldable pub judged_of : List Rule → List ℕ → ℕ → Bool → Judged
 judged_of rules ram old jammed =
     let status : ℕ = status_after rules ram old in
-    record { status = record { 0 = status }; verdict = verdict_of rules status jammed; reward = reward_of rules ram status; level = level_of rules status }
+    record {
+      status = record { 0 = status };
+      verdict = verdict_of rules status jammed;
+      reward = reward_of rules ram status;
+      level = level_of rules status;
+    }

@@ -61,7 +61,9 @@ fn with_rule(set: u128, number: usize, rule: &Rule, ram: &[u8]) -> u128
     requires number { number < 128 }
     requires placed { All IsPlacedCondition rule.now.when }
     requires also { All (λ n. n < 128) rule.now.also }
-    ensures { (j : ℕ) → is_in result j ≡ (is_in set j || (all_hold_in ram.now rule.now.when && ((number == j) || list_any (λ n. n == j) rule.now.also))) }
+    ensures { (j : ℕ) → is_in result j
+        ≡ (is_in set j || (all_hold_in ram.now rule.now.when
+        && ((number == j) || list_any (λ n. n == j) rule.now.also))) }
 {
     if all_hold(rule.when.as_slice(), ram) {
         with_numbers(with_number(set, number), rule.also.as_slice())
@@ -112,7 +114,8 @@ fn tally_of(rules: &[Rule], status: u128) -> Tally
 }
 
 fn verdict_from(tally: Tally, jammed: bool) -> Verdict
-    ensures { result ≡ (if jammed || tally.fails then Verdict.Fail else if tally.wins then Verdict.Win else Verdict.Go) }
+    ensures { result
+        ≡ (if jammed || tally.fails then Verdict.Fail else if tally.wins then Verdict.Win else Verdict.Go) }
 {
     if jammed || tally.fails {
         Verdict::Fail

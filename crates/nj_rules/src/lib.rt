@@ -12,7 +12,7 @@ mod record;
 pub use judging::judge;
 pub use keys::key_of;
 pub use laws::{
-    allowed_pads_come_once, keys_tell_bytes_and_status, naming_is_one_level_deep,
+    allowed_pads_come_once, keys_tell_bytes_and_status, levels_are_few, naming_is_one_level_deep,
     no_rule_gives_nothing, satisfied_rules_stay,
 };
 pub use nj_pad::Pad;

@@ -3,13 +3,13 @@ use nj_property::{Condition, Property};
 use nj_seq::Seq;
 
 /// A script's rules, each known by its place, from 0: at most 128.
-#[derive(Debug, Drop)]
+#[derive(Drop)]
 pub struct Rules {
     pub rules: Seq<Rule>,
 }
 
 /// A rule: what has to hold, and what it is worth once satisfied.
-#[derive(Debug, Drop)]
+#[derive(Drop)]
 pub struct Rule {
     /// The conditions, all of which have to hold: at most 16.
     pub when: Seq<Condition>,
@@ -25,7 +25,7 @@ pub struct Rule {
 }
 
 /// A part of a reward: a number of times a property's value.
-#[derive(Clone, Copy, Debug, PartialEq, Eq)]
+#[derive(Clone, Copy)]
 pub struct Weight {
     pub property: Property,
     /// From -2^20 to 2^20.
@@ -55,13 +55,13 @@ pub struct Judged {
 }
 
 /// A script's input sets, in order: at most 32.
-#[derive(Debug, Drop)]
+#[derive(Drop)]
 pub struct InputSets {
     pub sets: Seq<InputSet>,
 }
 
 /// Pads that are offered where conditions hold.
-#[derive(Debug, Drop)]
+#[derive(Drop)]
 pub struct InputSet {
     /// The conditions, all of which have to hold: at most 16.
     pub when: Seq<Condition>,
@@ -72,13 +72,13 @@ pub struct InputSet {
 }
 
 /// The parts of working memory that tell states apart, in order: at most 64.
-#[derive(Debug, Drop)]
+#[derive(Drop)]
 pub struct HashItems {
     pub items: Seq<HashItem>,
 }
 
 /// The bytes of working memory from one address to another, both ends included: at most to 2,047.
-#[derive(Clone, Copy, Debug, PartialEq, Eq)]
+#[derive(Clone, Copy)]
 pub struct HashItem {
     pub from: u16,
     pub to: u16,

@@ -13,13 +13,13 @@ use Rattle.nj_script.specs.declared.rules.Body.{Body}
 use Rattle.nj_script.specs.declared.rules.NamedRule.{NamedRule}
 use Rattle.nj_script.specs.declared.refusal.ScriptRefused.TheVariants.{UnknownName}
 use Rattle.nj_script.specs.Reading.{then_read, if_there}
-use Rattle.nj_script.specs.Fields.{natural_or, list}
+use Rattle.nj_script.specs.Fields.{natural_or, list, list_or_none, text_in}
 use Rattle.nj_script.specs.Lists.{each, collected}
-use Rattle.nj_script.specs.Names.{number_of}
+use Rattle.nj_script.specs.Names.{number_of, property_named}
 use Rattle.nj_script.specs.Kinds.{property_in, item_in, set_in, rule_in}
-use Rattle.nj_script.specs.Script.{IsInRange, properties_in, items_in, sets_in, named_rules_in, numbers_of, rule_of, rules_in, head_in, script_in}
-use Rattle.nj_script.proofs.Accepted.{ok_then, ok_after, ok_weaker, ok_collected, ok_natural_or, ok_list}
-use Rattle.nj_script.proofs.Members.{ArePlaced, IsBodyInRange, ok_members, ok_property_in, ok_item_in, ok_set_in, ok_rule_in}
+use Rattle.nj_script.specs.Script.{IsInRange, properties_in, items_in, sets_in, named_rules_in, numbers_of, rule_of, rules_in, bucket_property_in, bucket_in, head_in, script_in}
+use Rattle.nj_script.proofs.Accepted.{ok_then, ok_after, ok_weaker, ok_collected, ok_natural_or, ok_list, ok_list_or_none}
+use Rattle.nj_script.proofs.Members.{ArePlaced, IsBodyInRange, ok_members, ok_property_in, ok_property_named, ok_item_in, ok_set_in, ok_rule_in}
 
 pub ok_properties_in : (d : Data) → IfOk (properties_in d) (λ ps. ArePlaced ps × (length ps ≤ 64))
 unfolding properties_in
@@ -88,6 +88,15 @@ ok_rules_in properties d h =
         let same : length (map (λ r. r.name) named) ≡ length rules = length-map named (λ r. r.name) ∙ sym (length-map named (λ r. r.body)) ∙ sym count in
         record { few = omega (arith, count, length-map named (λ r. r.body)); each = subst (λ n. All (IsRuleInRange n) rules) same each }
 
+ok_bucket_property_in : (properties : List Named) (d : Data) → ArePlaced properties → IfOk (bucket_property_in properties d) IsPlaced
+unfolding bucket_property_in
+ok_bucket_property_in properties d h = ok_after (text_in (codes "bucket") d) (property_named properties) IsPlaced (λ name. ok_property_named properties name h)
+
+ok_bucket_in : (properties : List Named) (d : Data) → ArePlaced properties → IfOk (bucket_in properties d) (λ ps. All IsPlaced ps × (length ps ≤ 4))
+unfolding bucket_in
+ok_bucket_in properties d h =
+    ok_members (λ _. bucket_property_in properties) IsPlaced (list_or_none (codes "bucket") 4 d) 4 (λ _ v. ok_bucket_property_in properties v h) (ok_list_or_none (codes "bucket") 4 d)
+
 -- what a whole script accepts
 pub ok_script_in : (d : Data) → IfOk (script_in d) IsInRange
 unfolding script_in
@@ -99,4 +108,19 @@ ok_script_in d =
     ok_then (natural_or (codes "tolerance") 0 1048576 0 d) _ (λ n. (0 ≤ n) × (n ≤ 1048576)) IsInRange (ok_natural_or (codes "tolerance") 0 1048576 0 d (omega arith) (omega arith)) (λ tolerance tolerance_range.
     ok_then (sets_in named d) _ AreSetsInRange IsInRange (ok_sets_in named d placed.0) (λ sets set_ranges.
     ok_then (rules_in named d) _ AreRulesInRange IsInRange (ok_rules_in named d placed.0) (λ rules rule_ranges.
-    record { properties = omega (arith, placed.1, length-map named (λ n. n.property)); placed = All-map IsPlaced (λ n. n.property) named placed.0; hash = item_ranges; hold_low = hold_range.0; hold_high = hold_range.1; tolerance = tolerance_range.1; inputs = set_ranges; rules = rule_ranges })))))))
+    ok_then (bucket_in named d) _ (λ ps. All IsPlaced ps × (length ps ≤ 4)) IsInRange (ok_bucket_in named d placed.0) (λ bucket bucket_ranges.
+    ok_then (natural_or (codes "quota") 1 1048576 1048576 d) _ (λ n. (1 ≤ n) × (n ≤ 1048576)) IsInRange (ok_natural_or (codes "quota") 1 1048576 1048576 d (omega arith) (omega arith)) (λ quota quota_range.
+    record {
+      properties = omega (arith, placed.1, length-map named (λ n. n.property));
+      placed = All-map IsPlaced (λ n. n.property) named placed.0;
+      hash = item_ranges;
+      hold_low = hold_range.0;
+      hold_high = hold_range.1;
+      tolerance = tolerance_range.1;
+      inputs = set_ranges;
+      rules = rule_ranges;
+      bucket_few = bucket_ranges.1;
+      bucket = bucket_ranges.0;
+      quota_low = quota_range.0;
+      quota_high = quota_range.1;
+    })))))))))

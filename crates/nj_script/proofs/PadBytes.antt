@@ -10,7 +10,7 @@ use Rattle.nj_script.specs.Fields.{opened, truth, text_in, natural_or, list}
 use Rattle.nj_script.specs.Lists.{each}
 use Rattle.nj_script.specs.Names.{pad_named}
 use Rattle.nj_script.specs.Kinds.{conditions_in, pad_in, pads_in, set_in}
-use Rattle.nj_script.specs.Script.{Record, head_in, items_in, json_of, properties_in, rules_in, script_in, script_of, sets_in}
+use Rattle.nj_script.specs.Script.{Record, bucket_in, head_in, items_in, json_of, properties_in, rules_in, script_in, script_of, sets_in}
 use Rattle.nj_script.proofs.Accepted.{ok_then, ok_after, ok_if_there, ok_weaker, ok_list}
 use Rattle.nj_script.proofs.Members.{ok_members}
 
@@ -65,7 +65,9 @@ module _ (byte : (text : List ℕ) (pad : ℕ) → pad_of_text text ≡ Some pad
       ok_after (natural_or (codes "hold") 1 60 1 d) _ NamesBytes (λ hold.
       ok_after (natural_or (codes "tolerance") 0 1048576 0 d) _ NamesBytes (λ tolerance.
       ok_then (sets_in named d) _ (All HasBytes) NamesBytes (ok_sets_in named d) (λ sets bytes.
-      ok_after (rules_in named d) _ NamesBytes (λ rules. bytes)))))))
+      ok_after (rules_in named d) _ NamesBytes (λ rules.
+      ok_after (bucket_in named d) _ NamesBytes (λ bucket.
+      ok_after (natural_or (codes "quota") 1 1048576 1048576 d) _ NamesBytes (λ quota. bytes)))))))))
 
   -- what a text of bytes says names bytes alone
   pub ok_script_of : (bytes : List ℕ) → IfOk (script_of bytes) NamesBytes

@@ -46,7 +46,8 @@ natural key low high d = then_read (integer key (pos low) (pos high) d) (λ n. O
 
 -- the same, where a member that is not there stands for a number
 unfoldable pub natural_or : List ℕ → ℕ → ℕ → ℕ → Data → Reading ℕ
-natural_or key low high default d = then_read (integer_or key (pos low) (pos high) (pos default) d) (λ n. Ok (unsigned_abs n))
+natural_or key low high default d =
+    then_read (integer_or key (pos low) (pos high) (pos default) d) (λ n. Ok (unsigned_abs n))
 
 -- a truth value, false where it is not there
 unfoldable pub truth : List ℕ → Data → Reading Bool
@@ -63,7 +64,8 @@ text key d = then_read (required key d) (text_in key)
 -- a list of at most so many members
 unfoldable pub list_in : List ℕ → ℕ → Data → Reading Items
 list_in key limit value =
-    if_there (as_array value) (Err (WrongKind key)) (λ items. if nat_lt limit (items_len items) then Err (TooMany key limit) else Ok items)
+    if_there (as_array value) (Err (WrongKind key))
+    (λ items. if nat_lt limit (items_len items) then Err (TooMany key limit) else Ok items)
 
 -- the list of a member, which has to be there
 unfoldable pub list : List ℕ → ℕ → Data → Reading Items

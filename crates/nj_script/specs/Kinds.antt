@@ -64,7 +64,8 @@ item_in properties d =
 -- the keys that a condition may have: `value` only where there is no `other`
 abbrev pub condition_keys : Bool → List (List ℕ)
 condition_keys other =
-    if other then codes "property" ∷ codes "op" ∷ codes "other" ∷ [] else codes "property" ∷ codes "op" ∷ codes "other" ∷ codes "value" ∷ []
+    if other then codes "property" ∷ codes "op" ∷ codes "other" ∷ []
+    else codes "property" ∷ codes "op" ∷ codes "other" ∷ codes "value" ∷ []
 
 -- a condition's comparison
 unfoldable pub comparison_in : Data → Reading Cmp
@@ -75,7 +76,8 @@ unfoldable pub side_in : List Named → Data → Reading Side
 side_in properties d =
     if_there (get (codes "other") d)
     (then_read (integer (codes "value") (neg_ℤ (pos 65536)) (pos 65535) d) (λ n. Ok (Number n)))
-    (λ value. then_read (text_in (codes "other") value) (λ name. then_read (property_named properties name) (λ p. Ok (Other p))))
+    (λ value. then_read (text_in (codes "other") value) (λ name.
+    then_read (property_named properties name) (λ p. Ok (Other p))))
 
 -- a condition
 unfoldable pub condition_in : List Named → Data → Reading Condition
@@ -148,7 +150,8 @@ body_in properties d =
 -- the keys that a rule may have
 abbrev pub rule_keys : List (List ℕ)
 rule_keys =
-    codes "name" ∷ codes "when" ∷ codes "win" ∷ codes "fail" ∷ codes "checkpoint" ∷ codes "reward" ∷ codes "weights" ∷ codes "also" ∷ []
+    codes "name" ∷ codes "when" ∷ codes "win" ∷ codes "fail" ∷ codes "checkpoint" ∷ codes "reward" ∷ codes "weights"
+    ∷ codes "also" ∷ []
 
 -- a rule, where these are before it
 unfoldable pub rule_in : List Named → List NamedRule → Data → Reading NamedRule

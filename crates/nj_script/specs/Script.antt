@@ -1,5 +1,5 @@
 -- A whole script: what its text says, or the first refusal. The layout is this project's own; JSON is RFC 8259.
-use Rattle.std.specs.Prelude.{◌≡◌, ℕ, ⊤, ◌<◌, ◌≤◌, All, List, [], ◌∷◌, length, map, pos, codes, Option, None, Ok, Err, option_and_then, if◌then◌else◌}
+use Rattle.std.specs.Prelude.{◌≡◌, ℕ, ⊤, ◌<◌, ◌≤◌, All, List, [], ◌∷◌, ◌++◌, length, map, pos, codes, Option, None, Ok, Err, option_and_then, if◌then◌else◌}
 use Rattle.std.specs.Str.{is_utf8}
 use Rattle.std.specs.Ordering.{int_eq}
 use Rattle.serde_json.specs.Data.{Data}
@@ -17,14 +17,17 @@ use Rattle.nj_rules.specs.Limits.{AreRulesInRange, AreSetsInRange, AreItemsInRan
 use Rattle.nj_script.specs.declared.names.Named.{Named}
 use Rattle.nj_script.specs.declared.rules.Body.{Body}
 use Rattle.nj_script.specs.declared.rules.NamedRule.{NamedRule}
+use Rattle.nj_script.specs.declared.script.ScriptVersion.{ScriptVersion}
+use Rattle.nj_script.specs.declared.script.ScriptVersion.TheVariants.{One, Two}
 use Rattle.nj_script.specs.declared.refusal.ScriptRefused.TheVariants.{NotJson, WrongKind, Version}
 use Rattle.nj_script.specs.Reading.{Reading, then_read, if_there}
-use Rattle.nj_script.specs.Fields.{opened, required, natural_or, list}
+use Rattle.nj_script.specs.Fields.{opened, required, natural_or, list, list_or_none, text_in}
 use Rattle.nj_script.specs.Lists.{each, collected}
-use Rattle.nj_script.specs.Names.{number_of}
+use Rattle.nj_script.specs.Names.{number_of, property_named}
 use Rattle.nj_script.specs.Kinds.{property_in, item_in, set_in, rule_in}
 
--- what a script says; names are gone, and the properties stand in order
+-- what a script says; names are gone, and the properties stand in order. The values of the properties of `bucket` are
+-- a state's bucket, and `quota` is how many states that are kept may have one bucket
 pub record Record : Type 0 where
   pub properties : List Property
   pub hash : HashItems
@@ -32,6 +35,8 @@ pub record Record : Type 0 where
   pub tolerance : ℕ
   pub inputs : InputSets
   pub rules : Rules
+  pub bucket : List Property
+  pub quota : ℕ
 
 -- the numbers of a script are in their ranges
 pub record IsInRange (script : Record) : Type 0 where
@@ -43,6 +48,10 @@ pub record IsInRange (script : Record) : Type 0 where
   pub tolerance : script.tolerance ≤ 1048576
   pub inputs : AreSetsInRange script.inputs.sets
   pub rules : AreRulesInRange script.rules.rules
+  pub bucket_few : length script.bucket ≤ 4
+  pub bucket : All IsPlaced script.bucket
+  pub quota_low : 1 ≤ script.quota
+  pub quota_high : script.quota ≤ 1048576
 
 -- ---- the lists of a script
 
@@ -70,31 +79,55 @@ numbers_of names also = collected (number_of names) [] also
 unfoldable pub rule_of : List (List ℕ) → Body → Reading Rule
 rule_of names body =
     then_read (numbers_of names body.also) (λ also.
-    Ok (record { when = body.when; win = body.flags.win; fail = body.flags.fail; checkpoint = body.flags.checkpoint; reward = body.reward; weights = body.weights; also = also }))
+    Ok (record {
+      when = body.when;
+      win = body.flags.win;
+      fail = body.flags.fail;
+      checkpoint = body.flags.checkpoint;
+      reward = body.reward;
+      weights = body.weights;
+      also = also;
+    }))
 
 -- the rules, whose names in `also` are looked up once all were read
 unfoldable pub rules_in : List Named → Data → Reading (List Rule)
 rules_in properties d =
-    then_read (named_rules_in properties d) (λ named. collected (rule_of (map (λ r. r.name) named)) [] (map (λ r. r.body) named))
+    then_read (named_rules_in properties d) (λ named.
+    collected (rule_of (map (λ r. r.name) named)) [] (map (λ r. r.body) named))
+
+-- a property that `bucket` names
+unfoldable pub bucket_property_in : List Named → Data → Reading Property
+bucket_property_in properties d = then_read (text_in (codes "bucket") d) (property_named properties)
+
+-- the properties whose values are a state's bucket
+unfoldable pub bucket_in : List Named → Data → Reading (List Property)
+bucket_in properties d = then_read (list_or_none (codes "bucket") 4 d) (each (λ _. bucket_property_in properties) [])
 
 -- ---- the whole
 
--- the version, which is 1
-unfoldable pub version_in : Data → Reading ⊤
+-- the version, which is 1 or 2
+unfoldable pub version_in : Data → Reading ScriptVersion
 version_in d =
     then_read (required (codes "version") d) (λ value.
     if_there (option_and_then as_i64 (as_number value)) (Err (WrongKind (codes "version")))
-    (λ n. if int_eq n (pos 1) then Ok tt else Err (Version n)))
+    (λ n. if int_eq n (pos 1) then Ok One else if int_eq n (pos 2) then Ok Two else Err (Version n)))
 
--- the keys that a script may have
-abbrev pub script_keys : List (List ℕ)
-script_keys =
-    codes "version" ∷ codes "properties" ∷ codes "hash" ∷ codes "hold" ∷ codes "tolerance" ∷ codes "inputs" ∷ codes "rules" ∷ []
+-- the keys that a script of either version may have
+abbrev pub common_keys : List (List ℕ)
+common_keys =
+    codes "version" ∷ codes "properties" ∷ codes "hash" ∷ codes "hold" ∷ codes "tolerance" ∷ codes "inputs"
+    ∷ codes "rules" ∷ []
 
--- an object of this version, without unknown keys
+-- the keys that a script of the version may have
+abbrev pub script_keys : ScriptVersion → List (List ℕ)
+script_keys One = common_keys
+script_keys Two = common_keys ++ codes "bucket" ∷ codes "quota" ∷ []
+
+-- an object of a version, without keys unknown to it
 unfoldable pub head_in : Data → Reading ⊤
 head_in d =
-    if_there (as_object d) (Err (WrongKind [])) (λ _. then_read (version_in d) (λ _. opened [] script_keys d))
+    if_there (as_object d) (Err (WrongKind []))
+    (λ _. then_read (version_in d) (λ version. opened [] (script_keys version) d))
 
 -- the script that a JSON value is
 unfoldable pub script_in : Data → Reading Record
@@ -106,7 +139,18 @@ script_in d =
     then_read (natural_or (codes "tolerance") 0 1048576 0 d) (λ tolerance.
     then_read (sets_in named d) (λ sets.
     then_read (rules_in named d) (λ rules.
-    Ok (record { properties = map (λ n. n.property) named; hash = record { items = items }; hold = hold; tolerance = tolerance; inputs = record { sets = sets }; rules = record { rules = rules } }))))))))
+    then_read (bucket_in named d) (λ bucket.
+    then_read (natural_or (codes "quota") 1 1048576 1048576 d) (λ quota.
+    Ok (record {
+      properties = map (λ n. n.property) named;
+      hash = record { items = items };
+      hold = hold;
+      tolerance = tolerance;
+      inputs = record { sets = sets };
+      rules = record { rules = rules };
+      bucket = bucket;
+      quota = quota;
+    }))))))))))
 
 -- the JSON value of a text of bytes, where it is one
 unfoldable pub json_of : List ℕ → Option Data

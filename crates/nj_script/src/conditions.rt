@@ -34,7 +34,8 @@ fn comparison_in(alloc: Global, object: &Value) -> Result<Cmp, ScriptRefused>
 }
 
 fn number_side(alloc: Global, object: &Value) -> Result<Side, ScriptRefused>
-    ensures { Gives (then_read (integer (codes "value") (neg_ℤ (pos 65536)) (pos 65535) (view object.now)) (λ n. Ok (Side.Number n))) result }
+    ensures { Gives (then_read (integer (codes "value") (neg_ℤ (pos 65536)) (pos 65535) (view object.now))
+        (λ n. Ok (Side.Number n))) result }
 {
     let value = integer(alloc, object, "value", -65536, 65535)?;
     Ok(Side::Number {
@@ -43,7 +44,8 @@ fn number_side(alloc: Global, object: &Value) -> Result<Side, ScriptRefused>
 }
 
 fn other_side(alloc: Global, value: &Value, properties: &[Named]) -> Result<Side, ScriptRefused>
-    ensures { Gives (then_read (text_in (codes "other") (view value.now)) (λ name. then_read (property_named properties.now name) (λ p. Ok (Side.Other p)))) result }
+    ensures { Gives (then_read (text_in (codes "other") (view value.now))
+        (λ name. then_read (property_named properties.now name) (λ p. Ok (Side.Other p)))) result }
 {
     let name = text_in(alloc, value, "other")?;
     let property = property_named(alloc, properties, name)?;

@@ -21,6 +21,7 @@ fn missing(alloc: Global, key: &str) -> ScriptRefused
     }
 }
 
+/// The refusal of a value of a wrong kind under the key.
 pub fn wrong_kind(alloc: Global, key: &str) -> ScriptRefused
     ensures { (result ≡ ScriptRefused.NoMemory) ⊎ (result ≡ ScriptRefused.WrongKind key.now) }
 {
@@ -50,6 +51,7 @@ fn too_many(alloc: Global, key: &str, limit: u64) -> ScriptRefused
 
 // ---- members
 
+/// The member under the key, which must be there.
 #[tactic(auto, unfolding(crate::specs::Fields::required))]
 pub fn required<'a>(alloc: Global, object: &'a Value, key: &str) -> Result<&'a Value, ScriptRefused>
     ensures { GivesAs (λ v. view v.now) (required key.now (view object.now)) result }
@@ -80,6 +82,7 @@ fn integer_in(
     Ok(n)
 }
 
+/// The whole number under the key, which must be there, from `low` to `high`.
 #[tactic(auto, unfolding(crate::specs::Fields::integer))]
 pub fn integer(
     alloc: Global,
@@ -95,6 +98,7 @@ pub fn integer(
     integer_in(alloc, value, key, low, high)
 }
 
+/// The whole number under the key, from `low` to `high`, or the default where there is none.
 #[tactic(auto, unfolding(crate::specs::Fields::integer_or))]
 pub fn integer_or(
     alloc: Global,
@@ -115,6 +119,7 @@ pub fn integer_or(
     }
 }
 
+/// As [`integer`], for numbers from 0.
 #[tactic(auto, unfolding(crate::specs::Fields::natural))]
 pub fn natural(
     alloc: Global,
@@ -130,6 +135,7 @@ pub fn natural(
     Ok(n as u32)
 }
 
+/// As [`integer_or`], for numbers from 0.
 #[tactic(auto, unfolding(crate::specs::Fields::natural_or))]
 pub fn natural_or(
     alloc: Global,
@@ -155,6 +161,7 @@ pub fn natural_or(
     Ok(n as u32)
 }
 
+/// The truth value under the key, false where there is none.
 #[tactic(auto, unfolding(crate::specs::Fields::truth))]
 pub fn truth(alloc: Global, object: &Value, key: &str) -> Result<bool, ScriptRefused>
     ensures { Gives (truth key.now (view object.now)) result }
@@ -168,6 +175,7 @@ pub fn truth(alloc: Global, object: &Value, key: &str) -> Result<bool, ScriptRef
     }
 }
 
+/// The text that the value is, which stands under the key or in its list.
 #[tactic(auto, unfolding(crate::specs::Fields::text_in))]
 pub fn text_in<'a>(alloc: Global, value: &'a Value, key: &str) -> Result<&'a str, ScriptRefused>
     ensures { GivesAs (λ s. s.now) (text_in key.now (view value.now)) result }
@@ -178,6 +186,7 @@ pub fn text_in<'a>(alloc: Global, value: &'a Value, key: &str) -> Result<&'a str
     }
 }
 
+/// The text under the key, which must be there.
 #[tactic(auto, unfolding(crate::specs::Fields::text))]
 pub fn text<'a>(alloc: Global, object: &'a Value, key: &str) -> Result<&'a str, ScriptRefused>
     ensures { GivesAs (λ s. s.now) (text key.now (view object.now)) result }
@@ -205,6 +214,7 @@ fn list_in<'a>(
     Ok(items.as_slice())
 }
 
+/// The members of the list under the key, which must be there, at most `limit`.
 #[tactic(auto, unfolding(crate::specs::Fields::list))]
 pub fn list<'a>(
     alloc: Global,
@@ -219,6 +229,7 @@ pub fn list<'a>(
     list_in(alloc, value, key, limit)
 }
 
+/// As [`list`], with no members where there is no list.
 #[tactic(auto, unfolding(crate::specs::Fields::list_or_none))]
 pub fn list_or_none<'a>(
     alloc: Global,
@@ -254,7 +265,8 @@ fn is_among(key: &str, known: &[&str]) -> bool
 
 // The first key that is not among the known ones.
 fn unknown_among<'a>(members: &'a Map<String, Value>, known: &[&str]) -> Option<&'a str>
-    ensures { option_map (λ s. s.now) result ≡ find (λ key. not (list_any (λ word. bytes_eq key word.now) known.now)) (map string_bytes (keys members.now)) }
+    ensures { option_map (λ s. s.now) result
+        ≡ find (λ key. not (list_any (λ word. bytes_eq key word.now) known.now)) (map string_bytes (keys members.now)) }
 {
     for key in members.keys() {
         if !is_among(key.as_str(), known) {
@@ -264,6 +276,8 @@ fn unknown_among<'a>(members: &'a Map<String, Value>, known: &[&str]) -> Option<
     None
 }
 
+/// That the value is an object whose keys are all known; else it is of a wrong kind for the list that it stands in, or
+/// has an unknown key.
 #[tactic(auto, unfolding(crate::specs::Fields::opened))]
 pub fn open(alloc: Global, value: &Value, list: &str, known: &[&str]) -> Result<(), ScriptRefused>
     ensures { GivesAs (λ _. tt) (opened list.now (map (λ s. s.now) known.now) (view value.now)) result }

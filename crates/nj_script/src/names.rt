@@ -46,6 +46,7 @@ pub fn free_name(alloc: Global, taken: bool, name: &str) -> Result<Text, ScriptR
     Ok(name)
 }
 
+/// The first property of that name.
 #[tactic(auto, unfolding(crate::specs::Names::property_named))]
 pub fn property_named(
     alloc: Global,
@@ -53,7 +54,8 @@ pub fn property_named(
     name: &str,
 ) -> Result<Property, ScriptRefused>
     ensures property { Gives (property_named properties.now name.now) result }
-    ensures among { IfOk result (λ p. (k : ℕ) × (k < length properties.now) × ((d : Named) → (slice_index_or properties.now k d).property ≡ p)) }
+    ensures among { IfOk result (λ p. (k : ℕ) × (k < length properties.now)
+        × ((d : Named) → (slice_index_or properties.now k d).property ≡ p)) }
 {
     for named in properties {
         if named.name.as_str() == name {
@@ -70,6 +72,7 @@ fn place_of(names: &[Text], name: &str) -> Option<usize>
     names.iter().position(|known| known.as_str() == name)
 }
 
+/// The number of the first rule of that name.
 #[tactic(auto, unfolding(crate::specs::Names::number_of))]
 pub fn number_of(alloc: Global, names: &[Text], name: &str) -> Result<u32, ScriptRefused>
     requires { length names.now < 2 ^ 32 }
@@ -81,6 +84,7 @@ pub fn number_of(alloc: Global, names: &[Text], name: &str) -> Result<u32, Scrip
     }
 }
 
+/// The kind that is written so.
 #[tactic(auto, unfolding(crate::specs::Names::kind_named))]
 pub fn kind_named(alloc: Global, name: &str) -> Result<Kind, ScriptRefused>
     ensures { Gives (kind_named name.now) result }
@@ -94,6 +98,7 @@ pub fn kind_named(alloc: Global, name: &str) -> Result<Kind, ScriptRefused>
     }
 }
 
+/// The comparison that is written so.
 #[tactic(auto, unfolding(crate::specs::Names::comparison_named))]
 pub fn comparison_named(alloc: Global, name: &str) -> Result<Cmp, ScriptRefused>
     ensures { Gives (comparison_named name.now) result }
@@ -109,6 +114,7 @@ pub fn comparison_named(alloc: Global, name: &str) -> Result<Cmp, ScriptRefused>
     }
 }
 
+/// The pad that is written so: eight characters, as in a line of a movie.
 #[tactic(auto, unfolding(crate::specs::Names::pad_named))]
 pub fn pad_named(alloc: Global, name: &str) -> Result<Pad, ScriptRefused>
     ensures { Gives (pad_named name.now) result }

@@ -67,7 +67,10 @@ struct Parts {
 }
 
 fn parts_of(alloc: Global, rules: Vec<NamedRule>) -> Result<Parts, ScriptRefused>
-    ensures { MatchResult result (λ parts. (parts.names.items ≡ map (λ r. r.name) rules.items) × (parts.bodies.items ≡ map (λ r. r.body) rules.items)) (λ e. e ≡ ScriptRefused.NoMemory) }
+    ensures { MatchResult result
+        (λ parts. (parts.names.items ≡ map (λ r. r.name) rules.items)
+        × (parts.bodies.items ≡ map (λ r. r.body) rules.items))
+        (λ e. e ≡ ScriptRefused.NoMemory) }
 {
     let mut names = Vec::new(alloc);
     let mut bodies = Vec::new(alloc);

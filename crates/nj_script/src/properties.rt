@@ -5,8 +5,9 @@ ghost use Rattle.nj_property.specs.Property.{IsPlaced};
 ghost use Rattle.nj_script.specs.Reading.{Gives, then_read};
 ghost use Rattle.nj_script.specs.Names.{property_named};
 ghost use Rattle.nj_script.specs.Kinds.{kind_in, property_in, property_at, range_in, range_of, item_in};
+ghost use Rattle.nj_script.specs.Script.{bucket_property_in};
 
-use crate::fields::{natural, open, text};
+use crate::fields::{natural, open, text, text_in};
 use crate::lists::Member;
 use crate::names::{Named, free_name, kind_named, property_named};
 use crate::refusal::ScriptRefused;
@@ -144,4 +145,27 @@ fn item_named(alloc: Global, properties: &[Named], name: &str) -> Result<HashIte
 {
     let property = property_named(alloc, properties, name)?;
     Ok(range_of(property))
+}
+
+/// The members of `bucket`: names of properties.
+#[derive(Clone, Copy)]
+pub struct BucketMember<'a> {
+    pub properties: &'a [Named],
+}
+
+impl Member for BucketMember<'_> {
+    type Made = Property;
+
+    ghost reading = { λ m _ d. bucket_property_in m.properties.now d };
+
+    #[tactic(auto, unfolding(crate::specs::Script::bucket_property_in))]
+    fn read(
+        &self,
+        alloc: Global,
+        _before: &[Property],
+        value: &Value,
+    ) -> Result<Property, ScriptRefused> {
+        let name = text_in(alloc, value, "bucket")?;
+        property_named(alloc, self.properties, name)
+    }
 }

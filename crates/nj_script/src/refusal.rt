@@ -24,7 +24,7 @@ pub enum ScriptRefused {
     TwiceNamed { name: Text },
     /// A list has more members than its limit.
     TooMany { key: Text, limit: u64 },
-    /// The version is another than 1.
+    /// The version is neither 1 nor 2.
     Version { n: i64 },
     /// Memory was short. It may come at any time.
     NoMemory,

@@ -4,13 +4,13 @@ ghost use Rattle.nj_property.specs.Property.{IsPlaced};
 ghost use Rattle.nj_rules.specs.Limits.{AreRulesInRange, AreSetsInRange, AreItemsInRange};
 ghost use Rattle.nj_rules.specs.Pads.{named_pads};
 ghost use Rattle.nj_script.specs.Reading.{Gives, GivesAs};
-ghost use Rattle.nj_script.specs.Script.{properties_in, items_in, sets_in, version_in, script_keys, head_in, json_of, script_in, script_of};
+ghost use Rattle.nj_script.specs.Script.{properties_in, items_in, sets_in, version_in, script_keys, head_in, bucket_in, json_of, script_in, script_of};
 
-use crate::fields::{list, natural_or, open, required, wrong_kind};
+use crate::fields::{list, list_or_none, natural_or, open, required, wrong_kind};
 use crate::lists::read_each;
 use crate::names::Named;
 use crate::naming::rules_in;
-use crate::properties::{ItemMember, PropertyMember};
+use crate::properties::{BucketMember, ItemMember, PropertyMember};
 use crate::refusal::ScriptRefused;
 use crate::sets::SetMember;
 use nj_rules::{HashItem, HashItems, InputSet, InputSets, Property, Rules, pad_count};
@@ -64,32 +64,66 @@ fn sets_in(
     read_each(alloc, items, &SetMember { properties })
 }
 
+#[tactic(auto, unfolding(crate::specs::Script::bucket_in))]
+fn bucket_in(
+    alloc: Global,
+    object: &Value,
+    properties: &[Named],
+) -> Result<Vec<Property>, ScriptRefused>
+    ensures { GivesAs (λ v. v.items) (bucket_in properties.now (view object.now)) result }
+{
+    let items = list_or_none(alloc, object, "bucket", 4)?;
+    read_each(alloc, items, &BucketMember { properties })
+}
+
 // ---- the whole
 
+/// The version of a script's text, which says what keys it may have.
+#[derive(Clone, Copy)]
+pub enum ScriptVersion {
+    One,
+    /// With `bucket` and `quota`.
+    Two,
+}
+
 #[tactic(auto, unfolding(crate::specs::Script::version_in))]
-fn version_in(alloc: Global, object: &Value) -> Result<(), ScriptRefused>
-    ensures { GivesAs (λ _. tt) (version_in (view object.now)) result }
+fn version_in(alloc: Global, object: &Value) -> Result<ScriptVersion, ScriptRefused>
+    ensures { Gives (version_in (view object.now)) result }
 {
     let value = required(alloc, object, "version")?;
     match value.as_i64() {
-        Some(1) => Ok(()),
+        Some(1) => Ok(ScriptVersion::One),
+        Some(2) => Ok(ScriptVersion::Two),
         Some(n) => Err(ScriptRefused::Version { n }),
         None => Err(wrong_kind(alloc, "version")),
     }
 }
 
-fn keys_of_script() -> &'static [&'static str]
-    ensures { map (λ s. s.now) result.now ≡ script_keys }
+fn keys_of_script(version: ScriptVersion) -> &'static [&'static str]
+    ensures { map (λ s. s.now) result.now ≡ script_keys version }
 {
-    &[
-        "version",
-        "properties",
-        "hash",
-        "hold",
-        "tolerance",
-        "inputs",
-        "rules",
-    ]
+    match version {
+        ScriptVersion::One => &[
+            "version",
+            "properties",
+            "hash",
+            "hold",
+            "tolerance",
+            "inputs",
+            "rules",
+        ],
+        ScriptVersion::Two => &[
+            "version",
+            "properties",
+            "hash",
+            "hold",
+            "tolerance",
+            "inputs",
+            "rules",
+            "bucket",
+            "quota",
+        ],
+    }
 }
 
 #[tactic(auto, unfolding(crate::specs::Script::head_in))]
@@ -99,14 +133,15 @@ fn head_in(alloc: Global, value: &Value) -> Result<(), ScriptRefused>
     if !value.is_object() {
         return Err(wrong_kind(alloc, ""));
     }
-    version_in(alloc, value)?;
-    open(alloc, value, "", keys_of_script())
+    let version = version_in(alloc, value)?;
+    open(alloc, value, "", keys_of_script(version))
 }
 
 // The JSON value of a text of bytes.
 #[tactic(auto, using(crate::proofs::Json::texts), unfolding(crate::specs::Script::json_of))]
 fn json_in(alloc: Global, bytes: &[u8]) -> Result<Value, ScriptRefused>
-    ensures { MatchResult result (λ value. json_of bytes.now ≡ Some (view value)) (λ e. (e ≡ ScriptRefused.NoMemory) ⊎ ((e ≡ ScriptRefused.NotJson) × (json_of bytes.now ≡ None))) }
+    ensures { MatchResult result (λ value. json_of bytes.now ≡ Some (view value))
+        (λ e. (e ≡ ScriptRefused.NoMemory) ⊎ ((e ≡ ScriptRefused.NotJson) × (json_of bytes.now ≡ None))) }
 {
     match Value::from_slice(alloc, bytes) {
         Ok(value) => Ok(value),
@@ -129,6 +164,8 @@ pub struct Script {
     tolerance: u32,
     inputs: InputSets,
     rules: Rules,
+    bucket: Seq<Property>,
+    quota: u32,
 }
 
 impl Model for Script {
@@ -136,13 +173,32 @@ impl Model for Script {
 
     ghost Value = { Record };
 
-    ghost view = { λ s. record { properties = s.properties; hash = s.hash; hold = s.hold; tolerance = s.tolerance; inputs = s.inputs; rules = s.rules } };
+    ghost view = { λ s. record {
+      properties = s.properties;
+      hash = s.hash;
+      hold = s.hold;
+      tolerance = s.tolerance;
+      inputs = s.inputs;
+      rules = s.rules;
+      bucket = s.bucket;
+      quota = s.quota;
+    } };
 
-    ghost invariant = { λ s. IsInRange (record { properties = s.properties; hash = s.hash; hold = s.hold; tolerance = s.tolerance; inputs = s.inputs; rules = s.rules }) };
+    ghost invariant = { λ s. IsInRange (record {
+      properties = s.properties;
+      hash = s.hash;
+      hold = s.hold;
+      tolerance = s.tolerance;
+      inputs = s.inputs;
+      rules = s.rules;
+      bucket = s.bucket;
+      quota = s.quota;
+    }) };
 }
 
 fn without_names(alloc: Global, properties: &[Named]) -> Result<Seq<Property>, ScriptRefused>
-    ensures { MatchResult result (λ ps. ps ≡ map (λ n. n.property) properties.now) (λ e. e ≡ ScriptRefused.NoMemory) }
+    ensures { MatchResult result (λ ps. ps ≡ map (λ n. n.property) properties.now)
+        (λ e. e ≡ ScriptRefused.NoMemory) }
 {
     let mut bare = Seq::new(alloc);
     for named in properties {
@@ -162,6 +218,8 @@ fn script_in(alloc: Global, value: &Value) -> Result<Script, ScriptRefused>
     let tolerance = natural_or(alloc, value, "tolerance", 0, 1_048_576, 0)?;
     let sets = sets_in(alloc, value, named.as_slice())?;
     let rules = rules_in(alloc, value, named.as_slice())?;
+    let bucket = bucket_in(alloc, value, named.as_slice())?;
+    let quota = natural_or(alloc, value, "quota", 1, 1_048_576, 1_048_576)?;
     let properties = without_names(alloc, named.as_slice())?;
     Ok(Script {
         properties,
@@ -176,6 +234,8 @@ fn script_in(alloc: Global, value: &Value) -> Result<Script, ScriptRefused>
         rules: Rules {
             rules: Seq::from_vec(rules),
         },
+        bucket: Seq::from_vec(bucket),
+        quota,
     })
 }
 
@@ -189,6 +249,7 @@ impl Script {
         script_in(alloc, &value)
     }
 
+    /// The rules, in the script's order, by which they are numbered.
     pub fn rules(&self) -> &Rules
         ensures value { result.now ≡ self.now.rules }
         ensures in_range { AreRulesInRange result.now.rules }
@@ -196,6 +257,7 @@ impl Script {
         &self.rules
     }
 
+    /// The sets of pads, in order.
     pub fn inputs(&self) -> &InputSets
         ensures value { result.now ≡ self.now.inputs }
         ensures in_range { AreSetsInRange result.now.sets }
@@ -203,6 +265,7 @@ impl Script {
         &self.inputs
     }
 
+    /// The ranges of working memory whose bytes tell states apart, in order.
     pub fn hash(&self) -> &HashItems
         ensures value { result.now ≡ self.now.hash }
         ensures in_range { AreItemsInRange result.now.items }
@@ -236,6 +299,25 @@ impl Script {
         self.properties.as_slice()
     }
 
+    /// The properties whose values in a state are its bucket, in order; none in a script of version 1.
+    pub fn bucket(&self) -> &[Property]
+        ensures value { result.now ≡ self.now.bucket }
+        ensures few { length result.now ≤ 4 }
+        ensures placed { All IsPlaced result.now }
+    {
+        self.bucket.as_slice()
+    }
+
+    /// How many kept states may have one bucket; 1,048,576 in a script of version 1.
+    pub fn quota(&self) -> u32
+        ensures value { result ≡ self.now.quota }
+        ensures low { 1 ≤ result }
+        ensures high { result ≤ 1048576 }
+    {
+        self.quota
+    }
+
+    /// How many properties there are.
     pub fn property_count(&self) -> u32
         ensures value { result ≡ length self.now.properties }
         ensures within { result ≤ 64 }
@@ -243,6 +325,7 @@ impl Script {
         self.properties.len() as u32
     }
 
+    /// How many rules there are.
     pub fn rule_count(&self) -> u32
         ensures value { result ≡ length self.now.rules.rules }
         ensures within { result ≤ 128 }

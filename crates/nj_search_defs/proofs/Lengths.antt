@@ -9,6 +9,8 @@ use Rattle.nj_search_defs.specs.Candidates.{Candidate, word_of, candidates}
 use Rattle.nj_search_defs.specs.Pruning.{live, winner}
 use Rattle.nj_search_defs.specs.Outcome.{State, Next, Won, Exhausted, Goes, won_or, exhausted_or, lives_of, kept_of, state_after, next, Outcome, WonAt, ExhaustedAt, LimitAt, then_go_on, searched, opening, judged_first, outcome}
 use Rattle.nj_search_defs.specs.Laws.{IsWonWithin, IsAtLimit, WonWordsAreAsLong, LimitsHaveFronts, StepsAreCounted}
+use Rattle.nj_search_defs.specs.Sound.{IsEven}
+use Rattle.nj_search_defs.specs.Going.{LimitsHaveFrontsFrom, WonWordsAreAsLongFrom}
 use Rattle.nj_search_defs.proofs.Moves.{won_or-Goes, IsOf, made, longer, goes_to, winner_is_best, words_are_equally_long}
 
 -- ---- the cases of a step
@@ -31,14 +33,14 @@ exhausted_or-some [] f new h = absurd (cc)
 exhausted_or-some (k ∷ ks) f new h = omega arith
 
 -- a step that goes on keeps some candidate
-some_kept : (game : Game) (bounds : Bounds) (state new : State) → next game bounds state ≡ Goes new → 1 ≤ length (kept_of game bounds state)
+pub some_kept : (game : Game) (bounds : Bounds) (state new : State) → next game bounds state ≡ Goes new → 1 ≤ length (kept_of game bounds state)
 unfolding next
 some_kept game bounds state new h =
     exhausted_or-some (kept_of game bounds state) (state_after game bounds state) new
     (won_or-Goes (winner game (lives_of game state)) (exhausted_or (kept_of game bounds state) (state_after game bounds state)) new h)
 
 -- so its front has some word
-some_word : (game : Game) (bounds : Bounds) (state new : State) → next game bounds state ≡ Goes new → 1 ≤ length new.front
+pub some_word : (game : Game) (bounds : Bounds) (state new : State) → next game bounds state ≡ Goes new → 1 ≤ length new.front
 unfolding state_after
 some_word game bounds state new h =
     let P : State → Type 0 = λ s. 1 ≤ length s.front in
@@ -51,11 +53,6 @@ unfolding state_after
 steps_are_counted game bounds state new h = sym (ap (λ (s : State). s.step) (goes_to game bounds state new h))
 
 -- ---- lengths
-
--- a front has words, each as long as the steps
-record IsEven (state : State) : Type 0 where
-  some : 1 ≤ length state.front
-  long : All (λ word. length word ≡ state.step) state.front
 
 -- what a step leads to has its length
 Leads : State → Next → Type 0
@@ -137,3 +134,13 @@ won_words_are_as_long game bounds limit step word h = subst (Ends limit) h (outc
 pub limits_have_fronts : LimitsHaveFronts
 unfolding Ends
 limits_have_fronts game bounds limit state h = subst (Ends limit) h (outcome_ends game bounds limit)
+
+pub limits_have_fronts_from : LimitsHaveFrontsFrom
+unfolding Ends
+limits_have_fronts_from game bounds limit from state even h =
+    subst (Ends (from.step + limit)) h (ends game bounds (from.step + limit) limit from refl even)
+
+pub won_words_are_as_long_from : WonWordsAreAsLongFrom
+unfolding Ends
+won_words_are_as_long_from game bounds limit from step word even h =
+    subst (Ends (from.step + limit)) h (ends game bounds (from.step + limit) limit from refl even)

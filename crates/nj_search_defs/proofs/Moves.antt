@@ -1,16 +1,18 @@
 -- The laws of a step and of a whole search.
-use Rattle.std.proofs.Common.{◌≡◌, ℕ, zero, suc, ◌+◌, ◌*◌, ◌≤◌, Bool, true, false, cond, List, [], ◌∷◌, ◌++◌, length, take, refl, ap, subst, ◌∙◌, arith, zero-add, length-append}
+use Rattle.std.proofs.Common.{◌≡◌, ℕ, zero, suc, ◌+◌, ◌*◌, ◌≤◌, Bool, true, false, cond, List, [], ◌∷◌, ◌++◌, length, refl, ap, subst, ◌∙◌, arith, zero-add, length-append}
 use Rattle.std.specs.Prelude.{Option, Some, None, filter, slice_get}
 use Rattle.std.specs.List.{All, Contains}
-use Rattle.std.proofs.lemmas.List.{length-map, length-take}
-use Rattle.std.proofs.lemmas.List.Elements.{All-nil, All-cons, All-head, All-tail, All-weaker, All-append, All-filter, All-take, All-map, All-contains, All-contains_itself, filter_passes}
+use Rattle.std.proofs.lemmas.List.{length-map}
+use Rattle.std.proofs.lemmas.List.Elements.{All-nil, All-cons, All-head, All-tail, All-weaker, All-append, All-filter, All-map, All-contains, All-contains_itself, filter_passes}
 use Rattle.nj_search_defs.specs.Game.{Word, Verdict, Go, Win, Fail, Game, Bounds}
 use Rattle.nj_search_defs.specs.Candidates.{Candidate, word_of, extensions, candidates_from, candidates}
 use Rattle.nj_search_defs.specs.Order.{in_order}
-use Rattle.nj_search_defs.specs.Pruning.{judged_of, is_before, is_win, live, winner, fresh, kept}
+use Rattle.nj_search_defs.specs.Pruning.{judged_of, is_before, is_alike, is_win, live, winner, fresh, kept}
 use Rattle.nj_search_defs.specs.Outcome.{State, Next, Won, Exhausted, Goes, won_or, exhausted_or, lives_of, fresh_of, kept_of, state_after, next, Outcome, WonAt, ExhaustedAt, LimitAt, then_go_on, searched, opening, judged_first, outcome}
 use Rattle.nj_search_defs.specs.Laws.{gone_on, LimitsAdd, FrontIsBounded, IsChild, ParentsStoodBefore, WordsAreEquallyLong, IsBestWin, WinnerIsBest, WonWins}
+use Rattle.nj_search_defs.specs.Going.{WonWinsFrom}
 use Rattle.nj_search_defs.proofs.Preference.{is_before_orders}
+use Rattle.nj_search_defs.proofs.Limited.{limited_few, All-limited}
 use Rattle.nj_search_defs.proofs.Orders.{All-in_order, IsHeaded, headed}
 
 then_gone_on : (step : ℕ) (n : Next) (f g h : State → Outcome) → ((s : State) → f s ≡ gone_on (g s) h)
@@ -49,15 +51,16 @@ goes_to game bounds state new h =
     exhausted_or-Goes (kept_of game bounds state) (state_after game bounds state) new
     (won_or-Goes (winner game (lives_of game state)) (exhausted_or (kept_of game bounds state) (state_after game bounds state)) new h)
 
-take_most : (n : ℕ) (xs : List Candidate) → length (take n xs) ≤ n
-take_most n xs = omega (arith, length-take n xs)
+-- no more candidates are kept than a front may have
+pub few_kept : (game : Game) (bounds : Bounds) (state : State) → length (kept_of game bounds state) ≤ bounds.most
+unfolding kept_of kept
+few_kept game bounds state = limited_few (is_alike game) bounds.most bounds.quota (in_order (is_before game) (fresh_of game bounds state))
 
 pub front_is_bounded : FrontIsBounded
-unfolding kept_of state_after kept
+unfolding state_after
 front_is_bounded game bounds state new h =
     let P : State → Type 0 = λ s. length s.front ≤ bounds.most in
-    subst P (goes_to game bounds state new h)
-    (rw (length-map (take bounds.most (in_order (is_before game) (fresh_of game bounds state))) word_of) (take_most bounds.most (in_order (is_before game) (fresh_of game bounds state))))
+    subst P (goes_to game bounds state new h) (rw (length-map (kept_of game bounds state) word_of) (few_kept game bounds state))
 
 -- a candidate of a front: its parent is one of the words, and its pad one of those allowed after it
 pub record IsOf (game : Game) (front : List Word) (c : Candidate) : Type 0 where
@@ -83,7 +86,7 @@ made game front i (word ∷ words) all =
 kept_are_of : (game : Game) (bounds : Bounds) (state : State) → All (IsOf game state.front) (kept_of game bounds state)
 unfolding kept_of kept fresh_of fresh lives_of live candidates
 kept_are_of game bounds state =
-    All-take (IsOf game state.front) bounds.most (in_order (is_before game) (fresh_of game bounds state))
+    All-limited (is_alike game) bounds.most bounds.quota (IsOf game state.front) (in_order (is_before game) (fresh_of game bounds state))
     (All-in_order (is_before game) (IsOf game state.front) (fresh_of game bounds state)
     (All-filter _ (IsOf game state.front) (lives_of game state)
     (All-filter _ (IsOf game state.front) (candidates game state.front)
@@ -159,8 +162,8 @@ winner_is_best game lives best h =
     (headed (is_before game) (is_before_orders game) (filter p lives)) h
 
 -- each word that an outcome has won with wins
-WonWinsFrom : Game → Outcome → Type 0
-WonWinsFrom game o = (step : ℕ) (word : Word) → o ≡ WonAt step word → (game.judged word).verdict ≡ Win
+WonFrom : Game → Outcome → Type 0
+WonFrom game o = (step : ℕ) (word : Word) → o ≡ WonAt step word → (game.judged word).verdict ≡ Win
 
 word_in : Outcome → Word
 word_in (WonAt step word) = word
@@ -169,24 +172,24 @@ word_in (LimitAt state) = []
 
 won_step : (game : Game) (step : ℕ) (w : Option Candidate) (ks : List Candidate) (g : List Candidate → State) (f : State → Outcome)
     → ((best : Candidate) → w ≡ Some best → (judged_of game best).verdict ≡ Win)
-    → ((s : State) → WonWinsFrom game (f s)) → WonWinsFrom game (then_go_on step (won_or w (exhausted_or ks g)) f)
-unfolding WonWinsFrom word_in
+    → ((s : State) → WonFrom game (f s)) → WonFrom game (then_go_on step (won_or w (exhausted_or ks g)) f)
+unfolding WonFrom word_in
 won_step game step (Some c) ks g f wins later =
     λ s word h. let e : word_of c ≡ word = ap word_in h in
     let P : Word → Type 0 = λ w. (game.judged w).verdict ≡ Win in subst P e (wins c refl)
 won_step game step None [] g f wins later = λ s word h. absurd (cc)
 won_step game step None (k ∷ ks) g f wins later = later (g (k ∷ ks))
 
-searched_wins : (game : Game) (bounds : Bounds) (limit : ℕ) (state : State) → WonWinsFrom game (searched game bounds limit state)
-unfolding WonWinsFrom searched next
+searched_wins : (game : Game) (bounds : Bounds) (limit : ℕ) (state : State) → WonFrom game (searched game bounds limit state)
+unfolding WonFrom searched next
 searched_wins game bounds zero state = λ s word h. absurd (cc)
 searched_wins game bounds (suc limit) state =
     won_step game (state.step + 1) (winner game (lives_of game state)) (kept_of game bounds state) (state_after game bounds state) (searched game bounds limit)
     (λ best h. (winner_is_best game (lives_of game state) best h).wins)
     (λ s. searched_wins game bounds limit s)
 
-first_wins : (game : Game) (v : Verdict) (o : Outcome) → (game.judged []).verdict ≡ v → WonWinsFrom game o → WonWinsFrom game (judged_first v o)
-unfolding WonWinsFrom word_in
+first_wins : (game : Game) (v : Verdict) (o : Outcome) → (game.judged []).verdict ≡ v → WonFrom game o → WonFrom game (judged_first v o)
+unfolding WonFrom word_in
 first_wins game Go o is wins = wins
 first_wins game Win o is wins =
     λ s word h. let e : [] ≡ word = ap word_in h in
@@ -194,6 +197,10 @@ first_wins game Win o is wins =
 first_wins game Fail o is wins = λ s word h. absurd (cc)
 
 pub won_wins : WonWins
-unfolding WonWinsFrom outcome
+unfolding WonFrom outcome
 won_wins game bounds limit step word h =
     first_wins game (game.judged []).verdict (searched game bounds limit (opening game)) refl (searched_wins game bounds limit (opening game)) step word h
+
+pub won_wins_from : WonWinsFrom
+unfolding WonFrom
+won_wins_from game bounds limit from step word h = searched_wins game bounds limit from step word h

@@ -1,7 +1,7 @@
 -- Small searches, computed. Each game counts the presses of Right in a word, x, and the frames, t, as a
 -- program does that reads the pad once a frame; the answers were found by hand.
 use Rattle.std.proofs.Common.{◌≡◌, ℕ, pos, ◌+◌, ◌*◌, Bool, true, false, cond, ◌==◌, List, [], ◌∷◌, length, replicate, refl}
-use Rattle.std.specs.Prelude.{count_by, nat_le, ◌&&◌}
+use Rattle.std.specs.Prelude.{count_by, fold, nat_le, ◌&&◌}
 use Rattle.nj_search_defs.specs.Game.{Word, Go, Win, Fail, Judged, Game, Bounds}
 use Rattle.nj_search_defs.specs.Candidates.{candidates}
 use Rattle.nj_search_defs.specs.Pruning.{live, winner, forgotten, fresh, kept, generation, raised}
@@ -24,6 +24,7 @@ five_presses = record {
   judged = λ word. judgement (x_of word == 5) false (x_of word + cond (x_of word == 5) 100 0) 0;
   allowed = λ word. 0 ∷ 128 ∷ [];
   key = x_of;
+  bucket = λ word. [];
 }
 
 -- the same where the first frame reads no pad
@@ -32,6 +33,7 @@ late_presses = record {
   judged = λ word. five_presses.judged word;
   allowed = λ word. 0 ∷ 128 ∷ [];
   key = λ word. cond (nat_le (length word) 1) 0 1;
+  bucket = λ word. [];
 }
 
 -- no rules; the key is of x and t
@@ -40,6 +42,7 @@ no_rules pads = record {
   judged = λ word. judgement false false 0 0;
   allowed = λ word. pads;
   key = λ word. 1000 * x_of word + length word;
+  bucket = λ word. [];
 }
 
 -- the empty word wins, and may fail too
@@ -48,6 +51,7 @@ at_once fails = record {
   judged = λ word. judgement (x_of word == 0) fails 100 0;
   allowed = λ word. 0 ∷ 128 ∷ [];
   key = x_of;
+  bucket = λ word. [];
 }
 
 -- a press is a checkpoint; so many frames without one win a hundred
@@ -57,10 +61,20 @@ checkpoint frames = record {
       (x_of word + cond ((x_of word == 0) && (length word == frames)) 100 0) (cond (nat_le 1 (x_of word)) 1 0);
   allowed = λ word. 0 ∷ 128 ∷ [];
   key = λ word. 1000 * x_of word + length word;
+  bucket = λ word. [];
+}
+
+-- one point for each press; the key tells all words apart, and a bucket has the words of one number of presses
+abbrev buckets_by_presses : Game
+buckets_by_presses = record {
+  judged = λ word. judgement false false (x_of word) 0;
+  allowed = λ word. 0 ∷ 128 ∷ [];
+  key = λ word. fold (λ n pad. 2 * n + pad) 1 word;
+  bucket = λ word. pos (x_of word) ∷ [];
 }
 
 abbrev bounds : ℕ → ℕ → Bounds
-bounds most tolerance = record { most = most; slots = 1048576; inputs = 2; tolerance = tolerance }
+bounds most tolerance = record { most = most; quota = 1048576; slots = 1048576; inputs = 2; tolerance = tolerance }
 
 -- the front's first word at the limit
 abbrev first_word : Outcome → List Word
@@ -111,6 +125,16 @@ cut_at_once = refl
 kept_by_tolerance : outcome (checkpoint 2) (bounds 4 2) 2 ≡ WonAt 2 (0 ∷ 0 ∷ [])
 unfolding candidates live winner fresh kept generation raised lives_of seen_of fresh_of kept_of state_after next searched opening outcome
 kept_by_tolerance = refl
+
+-- of the four words of two frames two have one press: with a quota of one the first of them is kept
+quota_of_one : first_word (outcome buckets_by_presses (record (bounds 4 0) { quota = 1 }) 2) ≡ (128 ∷ 128 ∷ []) ∷ (128 ∷ 0 ∷ []) ∷ (0 ∷ 0 ∷ []) ∷ []
+unfolding candidates live winner fresh kept generation raised lives_of seen_of fresh_of kept_of state_after next searched opening outcome
+quota_of_one = refl
+
+-- with a quota of two all four are kept
+quota_of_two : first_word (outcome buckets_by_presses (record (bounds 4 0) { quota = 2 }) 2) ≡ (128 ∷ 128 ∷ []) ∷ (128 ∷ 0 ∷ []) ∷ (0 ∷ 128 ∷ []) ∷ (0 ∷ 0 ∷ []) ∷ []
+unfolding candidates live winner fresh kept generation raised lives_of seen_of fresh_of kept_of state_after next searched opening outcome
+quota_of_two = refl
 
 -- behind the tolerance it is cut
 cut_behind_tolerance : length (first_word (outcome (checkpoint 4) (bounds 4 2) 4)) ≡ 4

@@ -1,9 +1,10 @@
 -- The laws of the search, in its own words.
-use Rattle.std.specs.Prelude.{◌≡◌, ℕ, ◌+◌, ◌/◌, ◌≤◌, false, List, [], ◌∷◌, ◌++◌, length, All, Contains, Some, slice_get}
+use Rattle.std.specs.Prelude.{◌≡◌, ℕ, ◌+◌, ◌/◌, ◌≤◌, false, List, [], ◌∷◌, ◌++◌, length, All, Contains, Some, slice_get, take, count_by}
 use Rattle.nj_search_defs.specs.Game.{Word, Win, Game, Bounds}
 use Rattle.nj_search_defs.specs.Candidates.{Candidate}
-use Rattle.nj_search_defs.specs.Pruning.{judged_of, is_before, winner}
-use Rattle.nj_search_defs.specs.Outcome.{State, Won, Goes, next, Outcome, WonAt, LimitAt, searched, outcome}
+use Rattle.nj_search_defs.specs.Order.{in_order}
+use Rattle.nj_search_defs.specs.Pruning.{judged_of, is_before, is_alike, winner}
+use Rattle.nj_search_defs.specs.Outcome.{State, Won, Goes, fresh_of, kept_of, next, Outcome, WonAt, LimitAt, searched, outcome}
 
 -- a search of a + b steps is one of a steps that goes on for b more where it came to its limit
 abbrev pub gone_on : Outcome → (State → Outcome) → Outcome
@@ -86,3 +87,13 @@ abbrev pub WinnersTellParents : Type 0
 WinnersTellParents = (game : Game) (bounds : Bounds) (state : State) (c : Candidate)
     → ((word : Word) → length (game.allowed word) ≤ 256)
     → next game bounds state ≡ Won c → slice_get state.front (c.number / 256) ≡ Some c.parent
+
+-- of the candidates that a step keeps no more than the quota have one bucket
+abbrev pub BucketsAreBounded : Type 0
+BucketsAreBounded = (game : Game) (bounds : Bounds) (state : State) (c : Candidate)
+    → count_by (is_alike game c) (kept_of game bounds state) ≤ bounds.quota
+
+-- a quota that is no less than the words of a front keeps the first of the fresh candidates, as many as these
+abbrev pub LargeQuotasKeepTheFirst : Type 0
+LargeQuotasKeepTheFirst = (game : Game) (bounds : Bounds) (state : State) → bounds.most ≤ bounds.quota
+    → kept_of game bounds state ≡ take bounds.most (in_order (is_before game) (fresh_of game bounds state))

@@ -31,7 +31,7 @@ fresh_of game bounds state = fresh game (seen_of bounds state) (lives_of game st
 
 -- the fresh candidates that the step keeps, the most preferred first
 unfoldable pub kept_of : Game → Bounds → State → List Candidate
-kept_of game bounds state = kept game bounds.most (fresh_of game bounds state)
+kept_of game bounds state = kept game bounds.most bounds.quota (fresh_of game bounds state)
 
 -- the state after a step that keeps these candidates
 unfoldable pub state_after : Game → Bounds → State → List Candidate → State

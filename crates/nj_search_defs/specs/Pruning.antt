@@ -1,9 +1,10 @@
 -- What a step does with its candidates: which are live, which wins, which are fresh and which are kept.
-use Rattle.std.specs.Prelude.{ℕ, Bool, true, false, not, ◌&&◌, ◌||◌, ◌==◌, ◌+◌, nat_lt, nat_le, List, [], ◌∷◌, length, map, take, filter, max, sum_by, Option, slice_get, if◌then◌else◌}
+use Rattle.std.specs.Prelude.{ℕ, Bool, true, false, not, ◌&&◌, ◌||◌, ◌==◌, ◌+◌, nat_lt, nat_le, List, [], ◌∷◌, length, map, filter, max, sum_by, Option, slice_get, if◌then◌else◌}
 use Rattle.std.specs.List.{list_any}
 use Rattle.nj_search_defs.specs.Game.{Verdict, Win, Fail, Judged, Game}
 use Rattle.nj_search_defs.specs.Candidates.{Candidate, word_of}
 use Rattle.nj_search_defs.specs.Order.{is_preferred, in_order}
+use Rattle.nj_search_defs.specs.Quota.{same_values, limited}
 
 -- the greatest checkpoint level that a front has had, and the last step at which a lower level is kept
 pub record Mark : Type 0 where
@@ -72,9 +73,13 @@ is_fresh game seen lives c =
 unfoldable pub fresh : Game → Seen → List Candidate → List Candidate
 fresh game seen lives = filter (is_fresh game seen lives) lives
 
--- the most preferred of the fresh candidates, as many as a front may have
-unfoldable pub kept : Game → ℕ → List Candidate → List Candidate
-kept game most fresh = take most (in_order (is_before game) fresh)
+-- two candidates have the same bucket
+abbrev pub is_alike : Game → Candidate → Candidate → Bool
+is_alike game c d = same_values (game.bucket (word_of c)) (game.bucket (word_of d))
+
+-- the most preferred of the fresh candidates, as many as a front may have, and of each bucket no more than the quota
+unfoldable pub kept : Game → ℕ → ℕ → List Candidate → List Candidate
+kept game most quota fresh = limited (is_alike game) most quota (in_order (is_before game) fresh)
 
 -- the keys of these candidates, in rising order
 unfoldable pub generation : Game → List Candidate → List ℕ

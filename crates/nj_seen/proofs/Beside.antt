@@ -1,14 +1,14 @@
 -- The claims of a step in a table beside the seen keys'.
-use Rattle.std.proofs.Common.{◌≡◌, ◌≢◌, ℕ, zero, suc, ◌+◌, ◌-◌, ◌<◌, ◌≤◌, Bool, true, false, not, ◌&&◌, List, [], ◌∷◌, ◌++◌, length, drop, refl, sym, ap, ◌∙◌, arith}
-use Rattle.std.specs.Prelude.{Option, Some, None}
-use Rattle.std.specs.List.{All, concat}
+use Rattle.std.proofs.Common.{◌≡◌, ℕ, zero, suc, ◌-◌, Bool, true, false, not, ◌&&◌, List, [], ◌∷◌, drop, refl, sym, ap, ◌∙◌, arith}
+use Rattle.std.specs.Prelude.{None}
+use Rattle.std.specs.List.{concat}
 use Rattle.std.proofs.lemmas.Bool.{false_from_ne_true, both_ways}
 use Rattle.std.proofs.lemmas.List.Elements.{All-nil}
 use Rattle.nj_search_defs.specs.Pruning.{Seen, is_seen}
 use Rattle.nj_rows.specs.declared.Row.{Row}
 use Rattle.nj_claims.specs.Tables.{owner_in}
 use Rattle.nj_seen.specs.Rows.{is_fresh_row}
-use Rattle.nj_seen.specs.Held.{AreInOrder, HoldsSeen, is_owned, is_owned_unseen, is_owner_since, oldest_step}
+use Rattle.nj_seen.specs.Held.{AreInOrder, HoldsSeen, is_owned_unseen, is_owner_since, oldest_step}
 use Rattle.nj_seen.proofs.Members.{In, in_right}
 use Rattle.nj_seen.proofs.Claims.{Claimed, IsClosed, is_beaten, is_seen_in, in_seen, row_owns}
 use Rattle.nj_seen.proofs.Added.{since_seen}

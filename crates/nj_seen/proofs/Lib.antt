@@ -16,3 +16,5 @@ pub mod Counting
 pub mod Claims
 pub mod Newest
 pub mod Beside
+pub mod Owners
+pub mod Filled

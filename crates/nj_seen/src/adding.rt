@@ -75,6 +75,7 @@ pub fn add_keys(words: &mut [u64], keys: &[u64], step: u64)
     requires room { length (entries_in words.old) + length keys.now ≤ slot_count words.old }
     ensures table { IsTable words.new }
     ensures size { length words.new ≡ length words.old }
+    ensures count { length (entries_in words.new) ≡ length (entries_in words.old) + length keys.now }
     ensures owners { (key : ℕ) → owner_in words.new key ≡ (if list_any (λ k. k == key) keys.now then Some step else owner_in words.old key) }
 {
     for key in keys {

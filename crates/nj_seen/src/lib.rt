@@ -9,20 +9,26 @@
 //! opened with the seen keys and room ([`room`]), a row is fresh where it owns its key ([`fresh`]), and
 //! [`publish`] makes the claimed keys the new generation. The laws say that all find the same.
 //!
+//! A search that is saved tells its generations ([`generations`]), and one that goes on from them makes
+//! its table of them ([`table_of`]).
+//!
 //! The definition to read first is `HoldsSeen` in `specs/Held.antt`: what it is that a table holds the
 //! seen keys of a search.
 #![tactic(auto)]
 
 mod adding;
 mod claimed;
+mod filling;
 mod forgetting;
 mod laws;
 mod publishing;
+mod telling;
 #[cfg(test)]
 mod tests;
 
 pub use adding::{add_keys, keys_of, unseen};
 pub use claimed::owned_unseen;
+pub use filling::table_of;
 pub use forgetting::{SeenKeys, left, room};
 pub use laws::{
     added_keys_are_seen, claims_are_of_rows, fresh_keys_are_new, fresh_keys_are_seen,
@@ -30,4 +36,6 @@ pub use laws::{
     rows_in_any_order, seen_is_told, seen_keys_stand,
 };
 pub use nj_rows::{Row, Verdict3};
+pub use nj_seq::Seq;
 pub use publishing::{FIRST_CLAIM, fresh, publish};
+pub use telling::generations;

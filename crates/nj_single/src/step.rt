@@ -9,8 +9,8 @@ use nj_steps::Steps;
 use std::alloc::{AllocError, Global};
 use std::sync::ledger::Ledger;
 
-/// Makes the next step: runs all candidates, and ends the step by the rows of the live ones. A candidate costs at most the
-/// frames of a step, and one that is kept as many again. After want of memory the search is spent.
+/// Makes the next step: runs all candidates, and ends the step by the rows of the live ones. A candidate costs at most
+/// the frames of a step, and one that is kept as many again. After want of memory the search is spent.
 pub fn next_single<L: Ledger>(
     search: &mut Search,
     alloc: Global,
@@ -22,8 +22,10 @@ pub fn next_single<L: Ledger>(
     ensures spent { OnErr result (search.new.spent ≡ true) }
     ensures plan { search.new.plan ≡ search.old.plan }
     ensures bounds { search.new.bounds ≡ search.old.bounds }
-    ensures frames { steps.new ≤ steps.old + search.old.plan.script.hold * (length (candidates_in search.old) + length (kept_in search.old)) }
-    ensures bound { steps.new ≤ steps.old + search.old.plan.script.hold * (search.old.bounds.most * (search.old.bounds.inputs + 1)) }
+    ensures frames { steps.new
+        ≤ steps.old + search.old.plan.script.hold * (length (candidates_in search.old) + length (kept_in search.old)) }
+    ensures bound { steps.new
+        ≤ steps.old + search.old.plan.script.hold * (search.old.bounds.most * (search.old.bounds.inputs + 1)) }
     ensures never_falls { steps.old ≤ steps.new }
 {
     runs_are_bounded(search);
@@ -38,7 +40,8 @@ pub fn next_single<L: Ledger>(
 
 // Candidates and those that are kept are no more than the bounds of the search say.
 fn runs_are_bounded(search: &Search)
-    ensures { length (candidates_in search.now) + length (kept_in search.now) ≤ search.now.bounds.most * (search.now.bounds.inputs + 1) }
+    ensures { length (candidates_in search.now) + length (kept_in search.now)
+        ≤ search.now.bounds.most * (search.now.bounds.inputs + 1) }
 {
     a_step_is_bounded();
     let _bounds = search.bounds();

@@ -1,4 +1,4 @@
-use Rattle.std.proofs.Common.{arith, ◌≡◌, ◌+◌, ◌*◌, ◌<◌, ◌≤◌, length, get_or, pos, refl, ap, sym, subst, ◌∙◌, le-add_right}
+use Rattle.std.proofs.Common.{arith, ◌≡◌, ◌+◌, ◌*◌, ◌<◌, ◌≤◌, [], length, get_or, pos, refl, ap, sym, subst, ◌∙◌, le-add_right}
 use Rattle.std.specs.Prelude.{All}
 use Rattle.nj_machine.specs.State.{Rom, rom_of}
 use Rattle.nj_machine.specs.Image.{IsImage}
@@ -48,7 +48,7 @@ push-requires-clause-room g c =
 pub loop-row-preserved : goal.loop-row-preserved
 loop-row-preserved g c =
     let before : Before = record { rom = rom_of c.args.machine.now; script = c.args.script.now; images = c.args.front.now.images; statuses = statuses_of c.args.judged.now } in
-    let d : Row = record { number = 0; key = 0; reward = pos 0; level = 0; verdict = Go; pad = 0 } in
+    let d : Row = record { number = 0; key = 0; reward = pos 0; level = 0; verdict = Go; pad = 0; bucket = [] } in
     let row = get_or c.args.kept.now c.loop-row.row-index d in
     let at = λ (rom : Rom). (let b : Before = record { rom = rom; script = c.args.script.now; images = c.args.front.now.images; statuses = statuses_of c.args.judged.now } in b) in
     let cartridge = c.loop-row.invariant.cartridge in

@@ -127,7 +127,7 @@ invariant_of-self-2 g c =
     let done : IsPut s.words.items (s.step + 1) c.args.table c.put.result.items =
     subst (λ (own : Vec ℕ Global). IsPut own.items (s.step + 1) c.args.table c.put.result.items) c.replace-own.ensures.value c.put.ensures in
     let after : IsAfter h c.put.result.items c.args.keys s.bounds.exponent =
-    after_step h c.put.result.items c.args.keys s.bounds.exponent c.seen_is_told.ensures refl
+    after_step h c.put.result.items c.args.keys s.bounds.exponent c.seen_is_told.ensures refl (subst (λ (h : Held). h.state.step < 16777215) (sym c.self.view_is) c.requires.step)
     (put_makes h s.words.items (s.step + 1) c.args.table c.put.result.items refl (record { table = table.table; slots = table.slots; seen = table.seen }) new done) next in
     let some : 0 < length (kept_in h) = omega (arith, kept.some, ap length c.as_slice-2.ensures.value, kept_count h c.as_slice-2.result.now are.rows_are) in (
       c.self.invariant.0,
@@ -159,7 +159,7 @@ returns-clause-next g c =
     let done : IsPut s.words.items (s.step + 1) c.args.table c.put.result.items =
     subst (λ (own : Vec ℕ Global). IsPut own.items (s.step + 1) c.args.table c.put.result.items) c.replace-own.ensures.value c.put.ensures in
     let after : IsAfter h c.put.result.items c.args.keys s.bounds.exponent =
-    after_step h c.put.result.items c.args.keys s.bounds.exponent c.seen_is_told.ensures refl
+    after_step h c.put.result.items c.args.keys s.bounds.exponent c.seen_is_told.ensures refl (subst (λ (h : Held). h.state.step < 16777215) (sym c.self.view_is) c.requires.step)
     (put_makes h s.words.items (s.step + 1) c.args.table c.put.result.items refl (record { table = table.table; slots = table.slots; seen = table.seen }) new done) next in
     let seen = after.told ∙ ap (λ (keys : List ℕ). seen_of h.bounds h.state ++ keys ∷ []) (generation_in h) in
     let mark =
