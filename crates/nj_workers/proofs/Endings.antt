@@ -1,10 +1,10 @@
 -- What all hands bring back serves the end of the step.
-use Rattle.std.proofs.Common.{◌≡◌, ◌≢◌, ℕ, suc, ◌+◌, ◌*◌, ◌/◌, ◌<◌, ◌≤◌, ◌==◌, ⊎_elim, Bool, true, false, List, [], ◌∷◌, ◌++◌, length, get_or, refl, sym, ap, ◌∙◌, subst, arith, if◌then◌else◌, append-nil}
+use Rattle.std.proofs.Common.{◌≡◌, ◌≢◌, ℕ, suc, ◌+◌, ◌*◌, ◌<◌, ◌≤◌, ◌==◌, ⊎_elim, Bool, true, false, not, List, [], ◌∷◌, ◌++◌, length, get_or, refl, sym, ap, ◌∙◌, subst, arith, if◌then◌else◌, append-nil}
 use Rattle.std.specs.Prelude.{map}
 use Rattle.std.specs.List.{All, AllPairs, Contains, sum_by}
 use Rattle.std.specs.List.Sorted.{IsPermutation}
-use Rattle.std.proofs.lemmas.Bool.{eqb-true, eqb-false, eq-eqb, ne_eqb}
-use Rattle.std.proofs.lemmas.List.{length-map}
+use Rattle.std.proofs.lemmas.Bool.{eqb-true, eqb-false, eq-eqb, ne_eqb, and_parts}
+use Rattle.std.proofs.lemmas.List.{length-map, drop_all}
 use Rattle.std.proofs.Math.ListN.{get_or-map}
 use Rattle.std.proofs.lemmas.List.Elements.{All-map, All-weaker, All-contains, All-contains_itself, Contains-append_left, Contains-append_right, Contains-append_cases}
 use Rattle.std.proofs.lemmas.List.Kept.{AllPairs-cons}
@@ -13,7 +13,7 @@ use Rattle.std.proofs.lemmas.List.Sums.{sum_by-append, sum_by-cons, get_or-le-su
 use Rattle.nj_claims.specs.Tables.{IsTable, entries_in, owner_in, owner_after, slot_count}
 use Rattle.nj_claims.specs.Passes.{PassView, WasOwner, HadNoRoom}
 use Rattle.nj_search_defs.specs.Outcome.{seen_of}
-use Rattle.nj_search_defs.specs.Pruning.{Seen}
+use Rattle.nj_search_defs.specs.Pruning.{Seen, is_seen}
 use Rattle.nj_rows.specs.declared.Row.{Row}
 use Rattle.nj_seen.specs.Rows.{IsRising, is_fresh_row}
 use Rattle.nj_seen.specs.Held.{first_claim, claim_of, is_owner, is_owned, HoldsSeen, AreClaims}
@@ -82,7 +82,7 @@ not_owned opening closed claims seen row were saw =
 pub rows_serve : (held : Held) (opening closed : List ℕ) (claims seen : List (ℕ × ℕ)) (rows dropped : List Row)
     → IsPermutation (live_rows held) (rows ++ dropped) → All (MayBeDropped seen) dropped
     → All (λ entry. WasOwner opening closed claims entry.0 entry.1) seen
-    → All (λ row. is_owned closed row ≡ is_fresh_row (seen_of held.bounds held.state) (live_rows held) row) (live_rows held)
+    → All (λ row. is_owned closed row ≡ is_fresh_row [] (live_rows held) row) (live_rows held)
     → IsRising (live_rows held) → AreRowsOf held rows
 rows_serve held opening closed claims seen rows dropped moved may were owned rising = record {
   live = All-weaker (Contains rows) (Contains (live_rows held)) (λ row there. Contains-permutation (rows ++ dropped) (live_rows held) row back (Contains-append_left rows dropped row there)) rows
@@ -93,8 +93,13 @@ rows_serve held opening closed claims seen rows dropped moved may were owned ris
       omega (arith, sum_by-append (one_at number) rows dropped));
   wins = λ k d within win. place (get_or (live_rows held) k d) (here k d within) (λ is_dropped. absurd (absurd_win (is_dropped.0) win));
   fresh = λ k d within fresh. place (get_or (live_rows held) k d) (here k d within)
-      (λ is_dropped. absurd (absurd_win (not_owned opening closed claims seen (get_or (live_rows held) k d) were is_dropped.1) (owned k d within ∙ fresh)));
+      (λ is_dropped. absurd (absurd_win (not_owned opening closed claims seen (get_or (live_rows held) k d) were is_dropped.1) (owned k d within ∙ first k d fresh)));
 } where
+  -- what is fresh is so where nothing is seen
+  first : (k : ℕ) (d : Row) → is_fresh_row (seen_of held.bounds held.state) (live_rows held) (get_or (live_rows held) k d) ≡ true
+      → is_fresh_row [] (live_rows held) (get_or (live_rows held) k d) ≡ true
+  first k d fresh = (and_parts (not (is_seen (seen_of held.bounds held.state) (get_or (live_rows held) k d).key)) _ fresh).1
+
   back : IsPermutation (rows ++ dropped) (live_rows held)
   back = IsPermutation-sym (live_rows held) (rows ++ dropped) moved
 
@@ -190,13 +195,13 @@ pub all_serves : (laws : Laws) (held : Held) (opening closed : List ℕ) (root p
     → AreRowsOf held rows × IsClosedFor held closed
 all_serves laws held opening closed root pass lives rows opened step rising few moved no_claims no_seen no_full claimed after = (
   rows_serve held opening closed pass.claims pass.seen rows claimed.dropped (IsPermutation-trans (live_rows held) lives (rows ++ claimed.dropped) moved claimed.choice) claimed.dropped_may after.seen
-      (laws.owned opening closed (seen_of held.bounds held.state) held.state.step (live_rows held) pass.claims opened.seen step are_claims after.owners) rising,
+      (laws.owned opening closed [] held.state.step (live_rows held) pass.claims opened.seen step are_claims after.owners) rising,
   record {
     opening = opening;
     claims = pass.claims;
+    older = length (seen_of held.bounds held.state);
     table = after.table;
-    size = ap (λ (n : ℕ). n / 2) after.size ∙ opened.size;
-    seen = opened.seen;
+    seen = subst (λ (seen : Seen). HoldsSeen opening seen held.state.step) (sym (drop_all (length (seen_of held.bounds held.state)) (seen_of held.bounds held.state) (omega arith))) opened.seen;
     claimed = are_claims;
     owners = after.owners;
   },

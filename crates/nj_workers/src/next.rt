@@ -1,6 +1,6 @@
 //! The whole of a step by several workers.
 
-ghost use Rattle.std.specs.Prelude.{◌≡◌, ◌≤◌, ◌<◌, ◌+◌, ◌*◌, false, true, length, IfOk, OnErr};
+ghost use Rattle.std.specs.Prelude.{◌≡◌, ◌≤◌, ◌<◌, ◌+◌, ◌*◌, ◌^◌, false, true, length, IfOk, OnErr};
 ghost use Rattle.nj_expand.specs.Held.{candidates_in, kept_in};
 ghost use Rattle.nj_expand.specs.Step.{IsStep};
 ghost use Rattle.nj_expand.specs.Closed.{AreRowsOf, IsClosedFor};
@@ -8,9 +8,10 @@ ghost use Rattle.nj_workers.specs.Room.{IsOpenFor};
 ghost use Rattle.nj_workers.specs.Counted.{AreCounted};
 
 use crate::step::shared;
+use nj_claims::empty_table;
 use nj_expand::{Row, Search, Stepped};
 use nj_outside::Gate;
-use nj_seen::{room, seen_keys_stand};
+use nj_seen::no_key_is_seen;
 use nj_steps::Steps;
 use std::alloc::{AllocError, Global};
 use std::sync::Wait;
@@ -40,7 +41,7 @@ pub fn next_shared<R: Threads + Wait + Sync, G: Gate, L: Ledger + Send>(
     ensures frames { AreCounted workers steps.old.items steps.new.items (search.old.plan.script.hold * (length (candidates_in search.old) + length (kept_in search.old))) }
 {
     match made(rt, search, alloc, workers, gate, steps) {
-        Ok((rows, words)) => search.finish(alloc, rows, words, &mut steps[0]),
+        Ok((rows, claims)) => search.finish(alloc, rows, claims, &mut steps[0]),
         Err(error) => {
             search.spend();
             Err(error)
@@ -48,7 +49,7 @@ pub fn next_shared<R: Threads + Wait + Sync, G: Gate, L: Ledger + Send>(
     }
 }
 
-// The rows and the closed table of the next step.
+// The rows of the next step, and the closed table of their claims.
 fn made<R: Threads + Wait + Sync, G: Gate, L: Ledger + Send>(
     rt: &R,
     search: &Search,
@@ -66,18 +67,35 @@ fn made<R: Threads + Wait + Sync, G: Gate, L: Ledger + Send>(
     ensures words { IfOk result (λ pair. IsClosedFor search.now pair.1.items) }
     ensures frames { AreCounted workers steps.old.items steps.new.items (search.now.plan.script.hold * length (candidates_in search.now)) }
 {
-    let words = opening(search, alloc)?;
-    shared(rt, alloc, search, words, workers, gate, steps)
+    let claims = opening(search, alloc)?;
+    shared(rt, alloc, search, claims, workers, gate, steps)
 }
 
-// The search's table with room for the next step.
+// An empty table with room for the claims of the next step.
 fn opening(search: &Search, alloc: Global) -> Result<Vec<u64>, AllocError>
-    requires step { search.now.state.step < 16777215 }
-    ensures { IfOk result (λ words. IsOpenFor search.now words.items) }
+    ensures { IfOk result (λ claims. IsOpenFor search.now claims.items) }
 {
-    seen_keys_stand();
-    let inputs = search.bounds().inputs;
-    let front = search.front_len() as u64;
-    let words = room(alloc, search.words(), front, inputs)?;
-    Ok(words)
+    no_key_is_seen();
+    let bounds = search.bounds();
+    let room = search.front_len() as u64 * bounds.inputs;
+    let claims = empty_table(alloc, exponent_for(room, bounds.exponent))?;
+    Ok(claims)
+}
+
+// The least exponent from 10 on of a table with twice the room, or the greatest that is allowed, which has the room. In a
+// table that is half empty few slots are passed before a key's.
+fn exponent_for(room: u64, most: u32) -> u32
+    requires least { 10 ≤ most }
+    requires most { most ≤ 25 }
+    requires fits { room ≤ 2 ^ most }
+    ensures least { 10 ≤ result }
+    ensures most { result ≤ 25 }
+    ensures fits { room ≤ 2 ^ result }
+{
+    for exponent in 10..most {
+        if 2 * room <= 2_u64.pow(exponent) {
+            return exponent;
+        }
+    }
+    most
 }

@@ -64,7 +64,7 @@ fn claimed_rows<R: Threads + Wait + Sync, G: Gate, L: Ledger + Send>(
     Ok(rows)
 }
 
-// The rows and the closed table that serve the end of a step, over a table with room for it.
+// The rows, and the closed table of their claims, that serve the end of a step, over a table with room for the claims.
 pub(crate) fn shared<R: Threads + Wait + Sync, G: Gate, L: Ledger + Send>(
     rt: &R,
     alloc: Global,
