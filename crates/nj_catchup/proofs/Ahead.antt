@@ -138,7 +138,7 @@ place-after k p s fits below = elim (ahead k p s fits below) [
 ]
 
 -- a position from its place
-position-at : (n : ℕ) (q : Position) → q.dot < 341 → n ≡ place_of q → record { line = n / 341; dot = n % 341 } ≡ q
+pub position-at : (n : ℕ) (q : Position) → q.dot < 341 → n ≡ place_of q → record { line = n / 341; dot = n % 341 } ≡ q
 position-at n q within at =
     let l : n / 341 ≡ q.line = omega (arith, within, at) in
     let d : n % 341 ≡ q.dot = omega (arith, within, at) in

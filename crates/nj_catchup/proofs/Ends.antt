@@ -65,11 +65,11 @@ end-dot p s far line end =
     ∙ ap (λ e. moved (drawn p e)) (flagged-apart s (next-apart 241 s h) (next-apart 261 s h))
     ∙ ap moved (drawn-end p s h) ∙ moved-end s line
 
-next-inner : (q : Position) → (q.dot ≡ 340 → ⊥) → after_position q ≡ record q { dot = q.dot + 1 }
+pub next-inner : (q : Position) → (q.dot ≡ 340 → ⊥) → after_position q ≡ record q { dot = q.dot + 1 }
 unfolding after_position
 next-inner q inner = if-false (q.dot == 340) _ _ (ne_eqb _ _ inner)
 
-next-last : (q : Position) → q.dot ≡ 340 → after_position q ≡ record { line = q.line + 1; dot = 0 }
+pub next-last : (q : Position) → q.dot ≡ 340 → after_position q ≡ record { line = q.line + 1; dot = 0 }
 unfolding after_position
 next-last q last = if-true (q.dot == 340) _ _ (eq-eqb _ _ last)
 

@@ -12,3 +12,6 @@ pub mod Limits
 pub mod Meets
 pub mod Lines
 pub mod Ends
+pub mod Rests
+pub mod Away
+pub mod Skips

@@ -159,7 +159,7 @@ unfolding drawn
 row-drawn p s aside = row-if _ s _ _ (row-if _ s _ _ (row-shown p s aside) (row-hidden s aside)) (row-refl s)
 
 -- a dot away from the events
-dot-apart : (p : List ℕ) (s : Screen) → (IsEvent s → ⊥) → dot_of p s ≡ moved (drawn p (raised s))
+pub dot-apart : (p : List ℕ) (s : Screen) → (IsEvent s → ⊥) → dot_of p s ≡ moved (drawn p (raised s))
 unfolding dot_of
 dot-apart p s apart =
     let a : is_next 241 1 (raised s) ≡ false = raised-next 241 1 s ∙ not-next 241 1 s (λ at. apart (inl at)) in
@@ -188,7 +188,7 @@ far-dot p s apart miss =
     let here : Far (drawn p (raised s)) = far-drawn p (raised s) (λ from. raised-hit s ∙ miss (subst (λ d. 1 ≤ d) (raised-dot s) from)) (raised-near s) in
     ap (λ e. e.near) (dot-apart p s apart ∙ moves.same) ∙ here.far
 
-row-dot : (p : List ℕ) (s : Screen) → (IsEvent s → ⊥) → (s.position.dot ≡ 257 → ⊥) → (dot_of p s).sprite_row ≡ s.sprite_row
+pub row-dot : (p : List ℕ) (s : Screen) → (IsEvent s → ⊥) → (s.position.dot ≡ 257 → ⊥) → (dot_of p s).sprite_row ≡ s.sprite_row
 row-dot p s apart aside =
     let moves : Moves (drawn p (raised s)) (moved (drawn p (raised s))) = moves-moved (drawn p (raised s)) in
     let here : SameRow (raised s) (drawn p (raised s)) = row-drawn p (raised s) (ap (λ d. d == 257) (raised-dot s) ∙ ne_eqb _ _ aside) in
@@ -307,7 +307,7 @@ dot-misses s from =
     let past : (nat_lt s.position.line 240 && nat_le s.position.dot 255) ≡ false = and-false (nat_lt s.position.line 240) _ late in
     ap (λ a. a && shows_both_layers s.mask && background_bit s.shift s.scroll.x && shows_at s.sprite_row (s.position.dot - 1) && is_shown_column s.mask (s.position.dot - 1)) past
 
-shown-misses : (s : Screen) → shows_at s.sprite_row (s.position.dot - 1) ≡ false → is_hit_pixel s ≡ false
+pub shown-misses : (s : Screen) → shows_at s.sprite_row (s.position.dot - 1) ≡ false → is_hit_pixel s ≡ false
 unfolding may_hit
 shown-misses s miss = misses-hit s (and-false (shows_both_layers s.mask) _ miss)
 

@@ -9,3 +9,4 @@ pub mod Steady
 pub mod Fixed
 pub mod Limit
 pub mod Line
+pub mod Skip

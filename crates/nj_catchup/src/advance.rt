@@ -4,9 +4,11 @@ ghost use Rattle.std.specs.Prelude.{◌≡◌, ◌≤◌, length};
 ghost use Rattle.nj_dots.specs.Screen.{IsScreen};
 ghost use Rattle.nj_dots.specs.Dots.{after_dots};
 
+use crate::blank::run_blank;
 use crate::ending::end_line;
 use crate::idle::idle_dots;
 use crate::line::run_pixels;
+use crate::skip::run_lines;
 use nj_dots::Screen;
 
 /// Runs the next dots.
@@ -36,10 +38,44 @@ fn advance_some(screen: &mut Screen, left: u32, pattern: &[u8]) -> u32
     if ending > 0 {
         return ending;
     }
-    run_idle(screen, left, pattern)
+    run_more(screen, left, pattern)
 }
 
 // The same where no line ends.
+fn run_more(screen: &mut Screen, left: u32, pattern: &[u8]) -> u32
+    requires fits { IsScreen screen.old }
+    requires pattern { length pattern.now ≡ 8192 }
+    requires left { 1 ≤ left }
+    ensures dots { screen.new ≡ after_dots result pattern.now screen.old }
+    ensures some { 1 ≤ result }
+    ensures within { result ≤ left }
+    ensures fits { IsScreen screen.new }
+{
+    let blank = run_blank(screen, left);
+    if blank > 0 {
+        return blank;
+    }
+    run_drawn(screen, left, pattern)
+}
+
+// The same where the next dot is one of a line that is drawn.
+fn run_drawn(screen: &mut Screen, left: u32, pattern: &[u8]) -> u32
+    requires fits { IsScreen screen.old }
+    requires pattern { length pattern.now ≡ 8192 }
+    requires left { 1 ≤ left }
+    ensures dots { screen.new ≡ after_dots result pattern.now screen.old }
+    ensures some { 1 ≤ result }
+    ensures within { result ≤ left }
+    ensures fits { IsScreen screen.new }
+{
+    let lines = run_lines(screen, left, pattern);
+    if lines > 0 {
+        return lines;
+    }
+    run_idle(screen, left, pattern)
+}
+
+// The same where dot 257 is not the next.
 fn run_idle(screen: &mut Screen, left: u32, pattern: &[u8]) -> u32
     requires fits { IsScreen screen.old }
     requires pattern { length pattern.now ≡ 8192 }

@@ -7,7 +7,7 @@ ghost use Rattle.nj_dots.specs.Registers.{weighed};
 ghost use Rattle.nj_catchup.specs.Fixed.{IsRead};
 ghost use Rattle.nj_catchup.specs.Steady.{IsSteady};
 
-use crate::steady::{dots_to_hit, is_steady};
+use crate::steady::{dots_to_hit, dots_to_sprite, is_steady};
 use nj_dots::Screen;
 
 /// What reads of $2002 answer, and for how many dots they do so and change nothing.
@@ -37,8 +37,8 @@ pub fn was_read(screen: &Screen) -> bool
     screen.latch == hit + overflow + screen.latch % 32
 }
 
-// Some of the next dots, all of which leave what a read of $2002 answers: those before the next event, or those up to the
-// next that latches a row of sprite zero or may be a hit.
+// Some of the next dots, all of which leave what a read of $2002 answers: those before the next event, those up to the
+// first line of sprite zero, or those up to the next that latches a row of it or may be a hit.
 pub fn steady_dots(screen: &Screen) -> u32
     requires fits { IsScreen screen.now }
     ensures { (p : List ℕ) → 0 < result → IsSteady result p screen.now }
@@ -48,6 +48,10 @@ pub fn steady_dots(screen: &Screen) -> u32
     if is_steady(screen, far) {
         return far;
     }
+    let away = dots_to_sprite(screen).min(far);
     let near = dots_to_hit(screen).min(far);
+    if near < away && is_steady(screen, away) {
+        return away;
+    }
     if is_steady(screen, near) { near } else { 0 }
 }

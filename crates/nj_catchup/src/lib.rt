@@ -16,12 +16,16 @@
 #![tactic(auto)]
 
 mod advance;
+mod blank;
 mod ending;
 mod fixed;
 mod idle;
 mod line;
+
 mod lull;
 mod place;
+mod skip;
+mod sprites;
 mod steady;
 mod visible;
 

@@ -4,10 +4,11 @@ ghost use Rattle.std.specs.Prelude.{◌≡◌, ◌≤◌, ◌<◌, ◌+◌, ℕ,
 ghost use Rattle.nj_dots.specs.Screen.{IsScreen, place_of};
 ghost use Rattle.nj_dots.specs.Dots.{after_dots, is_hit_pixel, to_event};
 ghost use Rattle.nj_dots.specs.Laws.{IsOverflow};
-ghost use Rattle.nj_catchup.specs.Steady.{IsAlong, IsAside, IsSteady};
+ghost use Rattle.nj_catchup.specs.Steady.{IsAlong, IsAside, IsAway, IsSteady};
 
+use crate::sprites::{has_few_sprites, sprite_height};
 use nj_dots::laws::sprite_overflow_is_timed;
-use nj_dots::{DOTS_OF_FRAME, Position, Screen, shows_both_layers};
+use nj_dots::{DOTS_OF_FRAME, DOTS_OF_LINE, Position, Screen, shows_both_layers};
 use nj_sprite0::SpriteRow;
 
 /// No pending dot changes what a read of $2002 answers, nor does the read change what they do.
@@ -37,11 +38,20 @@ fn keeps_overflow(screen: &Screen, dots: u32) -> bool
         → (after_dots dots p screen.now).sprite_overflow ≡ screen.now.sprite_overflow }
 {
     sprite_overflow_is_timed();
-    counts_no_sprites(screen, dots) || screen.sprite_overflow
+    screen.sprite_overflow || counts_no_sprites(screen, dots)
+}
+
+// None of the next dots counts more sprites on a line than it can show.
+fn counts_no_sprites(screen: &Screen, dots: u32) -> bool
+    requires fits { IsScreen screen.now }
+    requires before_event { dots < to_event screen.now }
+    ensures { (p : List ℕ) (n : ℕ) → result ≡ true → n < dots → IsOverflow (after_dots n p screen.now) → ⊥ }
+{
+    passes_no_count(screen, dots) || has_few_sprites(&screen.oam)
 }
 
 // None of the next dots counts the sprites of a line.
-fn counts_no_sprites(screen: &Screen, dots: u32) -> bool
+fn passes_no_count(screen: &Screen, dots: u32) -> bool
     requires fits { IsScreen screen.now }
     requires before_event { dots < to_event screen.now }
     ensures { (p : List ℕ) (n : ℕ) → result ≡ true → n < dots → IsOverflow (after_dots n p screen.now) → ⊥ }
@@ -53,6 +63,16 @@ fn counts_no_sprites(screen: &Screen, dots: u32) -> bool
 
 // The pixel of none of the next dots is a hit.
 fn has_no_hit(screen: &Screen, dots: u32) -> bool
+    requires fits { IsScreen screen.now }
+    requires before_event { dots < to_event screen.now }
+    ensures { (p : List ℕ) (n : ℕ) → result ≡ true → n < dots → 1 ≤ (after_dots n p screen.now).position.dot
+        → is_hit_pixel (after_dots n p screen.now) ≡ false }
+{
+    misses_row(screen, dots) || stays_away(screen, dots)
+}
+
+// The same where no line is begun, or none shows a hit.
+fn misses_row(screen: &Screen, dots: u32) -> bool
     requires fits { IsScreen screen.now }
     requires before_event { dots < to_event screen.now }
     ensures { (p : List ℕ) (n : ℕ) → result ≡ true → n < dots → 1 ≤ (after_dots n p screen.now).position.dot
@@ -70,6 +90,31 @@ fn stays_below(position: Position, dots: u32) -> bool
     ensures frame { result ≡ true → place_of position + dots ≤ 89341 }
 {
     position.line >= 240 && position.place() + dots < DOTS_OF_FRAME
+}
+
+// No row of sprite zero is latched, and none of the next dots latches one: in this frame, they end at dot 257 of its first
+// line or begin below its last.
+fn stays_away(screen: &Screen, dots: u32) -> bool
+    requires fits { IsScreen screen.now }
+    requires few { dots ≤ 89342 }
+    ensures { result ≡ true → IsAway dots screen.now }
+{
+    if screen.sprite_row.is_some() {
+        return false;
+    }
+    let end = screen.position.place() + dots;
+    let top = u32::from(screen.oam[0]);
+    let last = top + u32::from(sprite_height(screen));
+    let line = u32::from(screen.position.line);
+    end < DOTS_OF_FRAME && (end <= top * DOTS_OF_LINE + 257 || last <= line)
+}
+
+/// How many dots there are up to dot 257 of the first line of sprite zero, 0 where that is behind.
+pub fn dots_to_sprite(screen: &Screen) -> u32
+    requires { IsScreen screen.now }
+{
+    let first = u32::from(screen.oam[0]) * DOTS_OF_LINE + 257;
+    first.saturating_sub(screen.position.place())
 }
 
 // How many dots there are at least up to one that latches a row of sprite zero or is a pixel of the latched one.

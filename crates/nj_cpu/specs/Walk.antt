@@ -7,8 +7,12 @@ use Rattle.nj_isa.specs.declared.operations.Op.{Op}
 use Rattle.nj_isa.specs.declared.modes.Index.{Index}
 use Rattle.nj_isa.specs.declared.modes.Index.TheVariants.{X, Y}
 use Rattle.nj_cpu.specs.declared.state.Cpu.{Cpu}
-use Rattle.nj_cpu.specs.declared.state.Rises.{Rises}
 use Rattle.nj_cpu.specs.Effects.{stored_by, changed_by, is_taken}
+
+-- where the NMI line rose within a unit: before its last cycle so far, and in that cycle
+pub record Rises : Type 0 where
+  pub before : Bool
+  pub last : Bool
 
 -- an instruction on its way: the processor, what the bus holds, where the NMI line rose, and the bytes gathered so far
 pub record Walk (Held : Type 0) : Type 0 where

@@ -13,20 +13,19 @@ fn look<B: Bus>(cpu: &mut Cpu, rises: &mut Rises, bus: &B)
     ensures rises { rises.new ≡ risen cpu.old.line (B.acts.line (B.held bus.now)) rises.old }
 {
     let level = bus.nmi_line();
-    if level != cpu.line || rises.last {
+    if level != cpu.line || rises.any() {
         note_change(cpu, rises, level);
     }
 }
 
-// The same where the line has changed, or rose in the cycle before.
+// The same where the line has changed, or rose before in this unit.
 #[cold]
 #[inline(never)]
 fn note_change(cpu: &mut Cpu, rises: &mut Rises, level: bool)
     ensures cpu { cpu.new ≡ record cpu.old { line = level } }
     ensures rises { rises.new ≡ risen cpu.old.line level rises.old }
 {
-    rises.before = rises.before || rises.last;
-    rises.last = level && !cpu.line;
+    rises.turn(level && !cpu.line);
     cpu.line = level;
 }
 

@@ -1,8 +1,10 @@
 //! The processor's registers, and what lasts from one unit to the next.
 
-ghost use Rattle.std.specs.Prelude.{◌≡◌};
+ghost use Rattle.std.specs.Prelude.{◌≡◌, ◌||◌};
+ghost use Rattle.nj_cpu.specs.Unit.{no_rise};
 
 use nj_alu::Flags;
+use std::marker::Model;
 
 /// What is known of an NMI that was not taken yet. `Late` means that the line rose in the last cycle
 /// of a unit, too late to be taken after it; `Due` that the next unit is its entry.
@@ -38,6 +40,58 @@ pub enum UnitEnd {
 /// Where the NMI line rose within a unit: before its last cycle so far, and in that cycle.
 #[derive(Drop)]
 pub(crate) struct Rises {
-    pub before: bool,
-    pub last: bool,
+    // 2 where it rose before, and 1 where in the last cycle, so that one look tells whether it rose at all.
+    marks: u8,
+}
+
+impl Model for Rises {
+    ghost use Rattle.std.specs.Prelude.{◌==◌, ◌%◌, nat_le};
+    ghost use Rattle.nj_cpu.specs.Walk.{Rises as Edges};
+
+    ghost Value = { Edges };
+
+    ghost view = { λ r. record { before = nat_le 2 r.marks; last = r.marks % 2 == 1 } };
+}
+
+impl Rises {
+    /// The line has not risen yet.
+    #[inline(always)]
+    pub fn none() -> Rises
+        ensures { result ≡ no_rise }
+    {
+        Rises { marks: 0 }
+    }
+
+    /// Whether it rose at all.
+    #[inline(always)]
+    pub fn any(&self) -> bool
+        ensures { result ≡ (self.now.before || self.now.last) }
+    {
+        self.marks != 0
+    }
+
+    /// Whether it rose in the last cycle so far.
+    #[inline(always)]
+    pub fn last(&self) -> bool
+        ensures { result ≡ self.now.last }
+    {
+        self.marks % 2 == 1
+    }
+
+    /// Whether it rose before that cycle.
+    #[inline(always)]
+    pub fn before(&self) -> bool
+        ensures { result ≡ self.now.before }
+    {
+        self.marks >= 2
+    }
+
+    /// One cycle more, in which it rose or not.
+    #[inline(always)]
+    pub fn turn(&mut self, rose: bool)
+        ensures { self.new ≡ record { before = self.old.before || self.old.last; last = rose } }
+    {
+        let before = if self.marks == 0 { 0 } else { 2 };
+        self.marks = before + rose as u8;
+    }
 }

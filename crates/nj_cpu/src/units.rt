@@ -112,7 +112,7 @@ fn run_active<B: Bus>(cpu: &mut Cpu, rises: &mut Rises, bus: &mut B)
 fn set_note(cpu: &mut Cpu, began: Note, rises: &Rises)
     ensures { cpu.new ≡ record cpu.old { note = note_after began cpu.old.note rises.now } }
 {
-    if rises.before || rises.last || began == Note::Late {
+    if rises.any() || began == Note::Late {
         cpu.note = next_note(began, cpu.note, rises);
     }
 }
@@ -124,9 +124,9 @@ fn set_note(cpu: &mut Cpu, began: Note, rises: &Rises)
 fn next_note(began: Note, now: Note, rises: &Rises) -> Note
     ensures { result ≡ note_after began now rises.now }
 {
-    if rises.before || began == Note::Late {
+    if rises.before() || began == Note::Late {
         Note::Due
-    } else if rises.last && now != Note::Due {
+    } else if rises.last() && now != Note::Due {
         Note::Late
     } else {
         now
@@ -145,10 +145,7 @@ pub fn unit<B: Bus>(cpu: &mut Cpu, bus: &mut B) -> UnitEnd
         return UnitEnd::Jammed;
     }
     let began = cpu.note;
-    let mut rises = Rises {
-        before: false,
-        last: false,
-    };
+    let mut rises = Rises::none();
     run_active(cpu, &mut rises, bus);
     set_note(cpu, began, &rises);
     end_now(cpu)

@@ -10,3 +10,4 @@ pub mod Counts
 pub mod Fronts
 pub mod Runs
 pub mod Filed
+pub mod Saving

@@ -7,3 +7,4 @@ pub mod Front
 pub mod Table
 pub mod Again
 pub mod Ending
+pub mod Saving

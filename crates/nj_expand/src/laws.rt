@@ -16,6 +16,7 @@ ghost use Rattle.nj_expand.specs.Held.{Held, live_rows, candidates_in, kept_in, 
 ghost use Rattle.nj_expand.specs.Front.{rom_in, size_in, image_at};
 ghost use Rattle.nj_expand.specs.Children.{rows_from, runs_from};
 ghost use Rattle.nj_expand.specs.Ending.{AreFew};
+ghost use Rattle.nj_expand.specs.Saving.{saved_of, state_in, CanBeSaved};
 
 use nj_game::{a_word_goes_on, a_word_keeps_the_cartridge};
 use nj_machine::an_image_tells_its_state;
@@ -89,3 +90,8 @@ pub fn a_front_follows_the_one_before()
     words_are_equally_long();
     parents_stood_before();
 }
+
+/// Nothing of a state is lost when it is saved, where it has made some steps and each word of its front is as long as these.
+pub fn states_are_saved_whole()
+    ensures { (state : State) → CanBeSaved state → state_in (saved_of state) ≡ state }
+{}

@@ -10,6 +10,8 @@ mod ending;
 mod laws;
 mod movies;
 mod opening;
+mod resuming;
+mod saving;
 mod search;
 mod tables;
 
@@ -17,11 +19,13 @@ pub use candidate::expand;
 pub use laws::{
     a_candidate_is_told_by_its_parent, a_front_follows_the_one_before, a_step_is_bounded,
     an_image_stands_for_its_word, live_rows_are_live, live_rows_can_claim, live_rows_come_by_words,
+    states_are_saved_whole,
 };
 pub use nj_machine::{Cart, Machine, Pad};
 pub use nj_movie::Movie;
 pub use nj_rows::{Row, Verdict3};
 pub use nj_rules::{Judged, Status};
+pub use nj_saved::Saved;
 pub use nj_script::Script;
 pub use nj_steps::Steps;
 pub use search::Search;

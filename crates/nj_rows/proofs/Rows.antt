@@ -31,7 +31,7 @@ remainder_total =
     then_total
     (then_total (on_total (λ (r : Row). r.key) nat_cmp_total) (on_total (λ (r : Row). r.level) nat_cmp_total))
     (then_total (then_total (on_total (λ (r : Row). place_of r.verdict) nat_cmp_total) (on_total (λ (r : Row). r.pad) nat_cmp_total))
-      (on_total (λ (r : Row). r.bucket) (lists_total int_cmp_total)))
+    (on_total (λ (r : Row). r.bucket) (lists_total int_cmp_total)))
 
 row_order_total : IsTotalOrder row_order
 unfolding row_order

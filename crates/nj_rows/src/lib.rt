@@ -1,6 +1,11 @@
 //! The rows of a step: what the search keeps of each candidate, the order of rows, the most preferred
-//! of them and the winner. None of it takes memory.
+//! of them, with no more of one bucket than a quota, and the winner. Only [`keep_quota`] takes memory.
+//!
+//! The definitions to read first are `row_order` in `specs/Order.antt`, and `limited` of nj_search_defs,
+//! which says what is kept under a quota.
 #![tactic(auto)]
+
+mod keeping;
 
 ghost use Rattle.std.specs.Prelude.{◌≡◌, ◌≢◌, ◌↔◌, false, List, All, take, filter, slice_get, None};
 ghost use Rattle.std.specs.List.Sorted.{IsPermutation};
@@ -9,6 +14,7 @@ ghost use Rattle.nj_rows.specs.declared.Row.{Row};
 ghost use Rattle.nj_rows.specs.Order.{is_win_row, place_of, preference, remainder, row_order, is_row_before};
 ghost use Rattle.nj_rows.specs.Best.{first, better};
 
+pub use keeping::keep_quota;
 use std::cmp::Ordering;
 
 /// How a candidate is judged: it goes on, it wins or it fails.
@@ -160,6 +166,24 @@ mod tests {
         assert_eq!(rt; rows.as_slice(), [first, second].as_slice());
         assert_eq!(rt; winner(&rows[1..]), None);
         assert!(rt; order(&second, &third).is_lt());
+        Ok(())
+    }
+
+    // A row of this number, reward and bucket.
+    fn placed(number: u64, reward: i64, value: i32) -> Row {
+        let mut row = row(number, reward, Verdict3::Go);
+        row.bucket[0] = value;
+        row
+    }
+
+    #[test]
+    fn a_full_bucket_keeps_no_more(rt: HostRuntime) -> Result<(), Fail> {
+        let first = placed(0, 9, 5);
+        let second = placed(1, 8, 5);
+        let third = placed(2, 7, -5);
+        let mut rows = vec![in rt.alloc(); third, second, first]?;
+        keep_quota(rt.alloc(), &mut rows, 2, 1)?;
+        assert_eq!(rt; rows.as_slice(), [first, third].as_slice());
         Ok(())
     }
 }

@@ -5,6 +5,7 @@ pub mod Heads
 pub mod InRange
 pub mod Keys
 pub mod Loops
+pub mod Once
 pub mod Passing
 pub mod Pieces
 pub mod Placed

@@ -66,7 +66,7 @@ module _ (file : List ℕ) (are : All (λ b. b < 256) file) where
         | inr past ↦ subst (λ keys. slice_index keys k < 2 ^ 64) (sym (get_or_past (generations_below file n) g [] (omega (arith, past, all)))) (omega arith)
       ]
 
-  contents_fit : Fits (contents_of file)
+  pub contents_fit : Fits (contents_of file)
   unfolding contents_of
   contents_fit = record { cart = number_fits 8; script = number_fits 16; keys = keys_fit (count_of file) }
 

@@ -20,16 +20,19 @@ u32_at file at = from_le_bytes w32 (slice_range file at (at + 4))
 unfoldable pub u64_at : List ℕ → ℕ → ℕ
 u64_at file at = from_le_bytes w64 (slice_range file at (at + 8))
 
--- the fields of the head
+-- the field of the head that tells the version
 abbrev pub version_of : List ℕ → ℕ
 version_of file = u32_at file 4
 
+-- that of the step
 abbrev pub step_of : List ℕ → ℕ
 step_of file = u32_at file 24
 
+-- that of the count of words
 abbrev pub front_of : List ℕ → ℕ
 front_of file = u32_at file 28
 
+-- that of the count of generations
 abbrev pub count_of : List ℕ → ℕ
 count_of file = u32_at file 40
 
@@ -42,7 +45,7 @@ abbrev pub list_below : {A : Type 0} → (ℕ → A) → ℕ → List A
 list_below f zero = []
 list_below f (suc n) = list_below f n ++ f n ∷ []
 
--- the place of a generation's count of keys: the first stands behind the words, each other one behind the keys of that before
+-- the place of a generation's count of keys: the first stands behind the words, each other behind the keys before it
 abbrev pub place_of : List ℕ → ℕ → ℕ
 place_of file zero = words_end file
 place_of file (suc g) = place_of file g + 4 + 8 * u32_at file (place_of file g)

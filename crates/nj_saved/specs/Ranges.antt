@@ -1,5 +1,6 @@
 -- What holds of each saved search. The limits are our own.
-use Rattle.std.specs.Prelude.{◌≡◌, ℕ, ◌+◌, ◌*◌, ◌/◌, ◌^◌, ◌<◌, ◌≤◌, false, List, [], ◌∷◌, length, take, slice_index, slice_index_or}
+use Rattle.std.specs.Prelude.{◌≡◌, ◌≢◌, ℕ, ◌+◌, ◌*◌, ◌/◌, ◌^◌, ◌<◌, ◌≤◌, false, List, [], ◌∷◌, length, take, slice_index, slice_index_or}
+use Rattle.std.specs.List.{All, AllPairs, concat}
 use Rattle.std.specs.List.Sorted.{IsStrictlyIncreasing}
 use Rattle.nj_saved.specs.declared.saved.Saved.{Saved}
 use Rattle.nj_saved.specs.Reading.{key_count, has_key}
@@ -16,7 +17,14 @@ pub record IsNext (older : List (List ℕ)) (keys : List ℕ) : Type 0 where
 
 -- each generation is one behind those before it
 abbrev pub AreGenerations : List (List ℕ) → Type 0
-AreGenerations generations = (g : ℕ) → g < length generations → IsNext (take g generations) (slice_index_or generations g [])
+AreGenerations generations =
+    (g : ℕ) → g < length generations → IsNext (take g generations) (slice_index_or generations g [])
+
+-- the same in the words of lists: each generation has a key, its keys rise from above 0, and no key comes twice in all
+pub record ComeOnce (generations : List (List ℕ)) : Type 0 where
+  pub some : All (λ keys. 1 ≤ length keys) generations
+  pub rising : All (λ keys. IsStrictlyIncreasing (0 ∷ keys)) generations
+  pub once : AllPairs (λ a b. a ≢ b) (concat generations)
 
 -- the ranges of the fields
 pub record IsInRange (saved : Saved) : Type 0 where

@@ -32,7 +32,7 @@ identity_tests file cart script =
     ∷ cut file 16 ∷ (not (u64_at file 8 == cart), OtherCartridge (u64_at file 8) cart)
     ∷ cut file 24 ∷ (not (u64_at file 16 == script), OtherScript (u64_at file 16) script) ∷ []
 
--- the other fields before the generations: step, count of words, level and last step of the mark, count of generations, words
+-- the fields up to the generations: step, count of words, level and last step of the mark, count of generations, words
 unfoldable pub size_tests : List ℕ → List Test
 size_tests file =
     cut file 28 ∷ outside file 24 1 16777215
@@ -50,12 +50,15 @@ key_count generations = sum_by length generations
 abbrev pub has_key : List (List ℕ) → ℕ → Bool
 has_key generations key = list_any (λ keys. list_any (λ k. k == key) keys) generations
 
--- the k-th key of the generation whose count stands at the place: it is above the one before it (the first is not 0), and
--- in no older generation
+-- the k-th key of the generation whose count stands at the place: above the one before it (the first is not 0), and in
+-- no older generation
 unfoldable pub key_tests : List ℕ → List (List ℕ) → ℕ → ℕ → List Test
 key_tests file older at k =
     cut file (key_place at k + 8)
-    ∷ (nat_le (u64_at file (key_place at k)) (key_before file at k) || has_key older (u64_at file (key_place at k)), Range (key_place at k))
+    ∷ (
+      nat_le (u64_at file (key_place at k)) (key_before file at k) || has_key older (u64_at file (key_place at k)),
+      Range (key_place at k),
+    )
     ∷ []
 
 -- the tests of the numbers below n, in order
@@ -76,7 +79,8 @@ generation_tests file older at = count_tests file older at ++ tests_below (key_t
 
 -- all generations
 unfoldable pub generations_tests : List ℕ → List Test
-generations_tests file = tests_below (λ g. generation_tests file (generations_below file g) (place_of file g)) (count_of file)
+generations_tests file =
+    tests_below (λ g. generation_tests file (generations_below file g) (place_of file g)) (count_of file)
 
 -- nothing stands behind the last field
 abbrev pub trailing : List ℕ → ℕ → Test
@@ -108,7 +112,7 @@ abbrev pub accepted_unless : Option SavedRefused → Saved → Result Saved Save
 accepted_unless (Some refusal) saved = Err refusal
 accepted_unless None saved = Ok saved
 
--- the reading of a file, for the numbers of the cartridge and the script of now: its first refusal, else what its fields are
+-- the reading of a file, for the numbers of cartridge and script of now: its first refusal, else what it contains
 unfoldable pub saved_of : List ℕ → ℕ → ℕ → Result Saved SavedRefused
 saved_of file cart script = accepted_unless (first_refusal (tests_of file cart script)) (contents_of file)
 

@@ -66,7 +66,9 @@ fn read_keys(
 ) -> Result<Seq<u64>, SavedRefused>
     requires count { count ≡ u32_at file.now at }
     requires reached { at + 4 ≤ length file.now }
-    ensures { MatchResult result (λ keys. AreKeys file.now older.now at keys) (λ refused. (refused ≡ SavedRefused.NoMemory) ⊎ (first_refusal (tests_below (key_tests file.now older.now at) (u32_at file.now at)) ≡ Some refused)) }
+    ensures { MatchResult result (λ keys. AreKeys file.now older.now at keys)
+        (λ refused. (refused ≡ SavedRefused.NoMemory)
+        ⊎ (first_refusal (tests_below (key_tests file.now older.now at) (u32_at file.now at)) ≡ Some refused)) }
 {
     let mut keys = Vec::new(alloc);
     let mut last = 0;
@@ -87,7 +89,9 @@ fn read_generation(
 ) -> Result<Seq<u64>, SavedRefused>
     requires there { at ≤ length file.now }
     requires few { key_count older.now ≤ MOST_KEYS }
-    ensures { MatchResult result (λ keys. IsNextGeneration file.now older.now at keys) (λ refused. (refused ≡ SavedRefused.NoMemory) ⊎ (first_refusal (generation_tests file.now older.now at) ≡ Some refused)) }
+    ensures { MatchResult result (λ keys. IsNextGeneration file.now older.now at keys)
+        (λ refused. (refused ≡ SavedRefused.NoMemory)
+        ⊎ (first_refusal (generation_tests file.now older.now at) ≡ Some refused)) }
 {
     let count = read_count(file, older, at)?;
     read_keys(alloc, file, older, at, count)
@@ -97,7 +101,8 @@ fn read_generation(
 #[tactic(auto, unfolding(crate::specs::Reading::generations_tests))]
 pub(crate) fn read_generations(alloc: Global, file: &[u8]) -> Result<(Older, usize), SavedRefused>
     requires { HasHead file.now }
-    ensures { MatchResult result (λ read. AreGenerationsTo file.now read.0 read.1) (λ refused. (refused ≡ SavedRefused.NoMemory) ⊎ (first_refusal (generations_tests file.now) ≡ Some refused)) }
+    ensures { MatchResult result (λ read. AreGenerationsTo file.now read.0 read.1)
+        (λ refused. (refused ≡ SavedRefused.NoMemory) ⊎ (first_refusal (generations_tests file.now) ≡ Some refused)) }
 {
     let mut older = Older::new(alloc);
     let mut at = words_end(file);

@@ -27,7 +27,8 @@ impl Model for Older {
 
     ghost view = { λ o. o.generations.items };
 
-    ghost invariant = { λ o. ((key : ℕ) → contains nat_eq o.keys key ≡ has_key o.generations.items key) × (o.count ≡ key_count o.generations.items) };
+    ghost invariant = { λ o. ((key : ℕ) → contains nat_eq o.keys key ≡ has_key o.generations.items key)
+        × (o.count ≡ key_count o.generations.items) };
 }
 
 impl Older {
@@ -86,7 +87,8 @@ impl Older {
 
 // Puts the keys into the set.
 fn insert_all(set: &mut HashSet<u64>, keys: &[u64]) -> Result<(), AllocError>
-    ensures { OnOk result ((key : ℕ) → contains nat_eq set.new key ≡ (contains nat_eq set.old key || list_any (λ k. k == key) keys.now)) }
+    ensures { OnOk result ((key : ℕ) → contains nat_eq set.new key
+        ≡ (contains nat_eq set.old key || list_any (λ k. k == key) keys.now)) }
 {
     for key in keys {
         set.insert(*key)?;

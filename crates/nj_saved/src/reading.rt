@@ -3,7 +3,7 @@
 ghost use Rattle.std.specs.Prelude.{◌≡◌, ◌⊎◌, Ok, Err, IfOk, MatchResult};
 ghost use Rattle.nj_saved.specs.declared.refusal.SavedRefused.{SavedRefused};
 ghost use Rattle.nj_saved.specs.Fields.{generations_below, count_of, contents_of};
-ghost use Rattle.nj_saved.specs.Ranges.{IsInRange};
+ghost use Rattle.nj_saved.specs.Ranges.{IsInRange, Fits};
 ghost use Rattle.nj_saved.specs.Reading.{HasHead, saved_of};
 
 use crate::fields::{u32_at, u64_at};
@@ -37,8 +37,10 @@ fn contents(alloc: Global, file: &[u8], generations: Seq<Seq<u64>>) -> Result<Sa
 
 /// Reads a saved file, of version 1 or 2, for the numbers of the cartridge file and of the script file with the start.
 pub fn read_saved(alloc: Global, file: &[u8], cart: u64, script: u64) -> Result<Saved, SavedRefused>
-    ensures value { MatchResult result (λ saved. saved_of file.now cart script ≡ Ok saved) (λ refused. (refused ≡ SavedRefused.NoMemory) ⊎ (saved_of file.now cart script ≡ Err refused)) }
+    ensures value { MatchResult result (λ saved. saved_of file.now cart script ≡ Ok saved)
+        (λ refused. (refused ≡ SavedRefused.NoMemory) ⊎ (saved_of file.now cart script ≡ Err refused)) }
     ensures ranges { IfOk result (λ saved. IsInRange saved) }
+    ensures fits { IfOk result (λ saved. Fits saved) }
 {
     check_identity(file, cart, script)?;
     check_sizes(file)?;

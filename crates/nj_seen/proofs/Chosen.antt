@@ -1,5 +1,5 @@
 -- Rows in any order that have all of a kind give these in the same order as all rows do.
-use Rattle.std.proofs.Common.{◌≡◌, ◌≢◌, ℕ, ◌<◌, Bool, true, List, [], ◌∷◌, filter, refl, sym, ap, ◌∙◌, arith}
+use Rattle.std.proofs.Common.{◌≡◌, ◌≢◌, ◌<◌, Bool, true, List, [], ◌∷◌, filter, refl, sym, ap, ◌∙◌, arith}
 use Rattle.std.specs.List.{All, AllPairs, Contains}
 use Rattle.std.specs.List.Sorted.{IsPermutation}
 use Rattle.std.specs.Prelude.{slice_get}
@@ -8,7 +8,6 @@ use Rattle.nj_search_defs.specs.Pruning.{Seen}
 use Rattle.nj_rows.specs.declared.Row.{Row}
 use Rattle.nj_rows.specs.Order.{is_win_row, is_row_before}
 use Rattle.nj_seen.specs.Rows.{IsRising, winner_row, is_fresh_row, fresh_rows}
-use Rattle.nj_seen.specs.Held.{is_owned}
 use Rattle.nj_seen.proofs.Members.{In, Distinct, in_list, of_member, in_filter, filtered, distinct, distinct_filter}
 use Rattle.nj_seen.proofs.Shuffling.{same_members}
 
@@ -45,10 +44,9 @@ same_winner law some rows once rises within wins =
     ap (λ xs. slice_get xs 0) (law (filter is_win_row some) (filter is_win_row rows)
     (of_kind is_win_row is_win_row some rows (differ_by some once) (rising_differ rows rises) within (λ k d lt. refl) wins))
 
-pub same_fresh : HaveOneOrder → (some rows : List Row) (words : List ℕ) (seen : Seen) → AllPairs (λ a b. a.number ≢ b.number) some → IsRising rows → All (Contains rows) some
-    → All (λ row. is_owned words row ≡ is_fresh_row seen rows row) rows → All (λ row. is_fresh_row seen rows row ≡ true → Contains some row) rows
-    → in_order is_row_before (filter (is_owned words) some) ≡ in_order is_row_before (fresh_rows seen rows)
+pub same_fresh : (some rows : List Row) (test : Row → Bool) (seen : Seen) → AllPairs (λ a b. a.number ≢ b.number) some → IsRising rows
+    → All (Contains rows) some → All (λ row. test row ≡ is_fresh_row seen rows row) rows
+    → All (λ row. is_fresh_row seen rows row ≡ true → Contains some row) rows → IsPermutation (filter test some) (fresh_rows seen rows)
 unfolding fresh_rows
-same_fresh law some rows words seen once rises within same has =
-    law (filter (is_owned words) some) (filter (is_fresh_row seen rows) rows)
-    (of_kind (is_owned words) (is_fresh_row seen rows) some rows (differ_by some once) (rising_differ rows rises) within same has)
+same_fresh some rows test seen once rises within same has =
+    of_kind test (is_fresh_row seen rows) some rows (differ_by some once) (rising_differ rows rises) within same has

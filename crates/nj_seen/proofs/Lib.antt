@@ -15,3 +15,6 @@ pub mod Oldest
 pub mod Counting
 pub mod Claims
 pub mod Newest
+pub mod Beside
+pub mod Owners
+pub mod Filled

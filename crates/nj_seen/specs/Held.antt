@@ -95,6 +95,10 @@ is_owner number (Some owner) = owner == number
 abbrev pub is_owned : List ℕ → Row → Bool
 is_owned words row = is_owner (first_claim + row.number) (owner_in words row.key)
 
+-- a row's key is owned by the claim of the row, and no generation of another table has it from a step on
+abbrev pub is_owned_unseen : List ℕ → List ℕ → ℕ → Row → Bool
+is_owned_unseen claims words from row = is_owned claims row && not (is_owner_since from (owner_in words row.key))
+
 -- claims are those of rows: each row has its claim among them, and each of them is a row's
 pub record AreClaims (rows : List Row) (claims : List (ℕ × ℕ)) : Type 0 where
   pub all : All (λ row. Contains claims (claim_of row)) rows

@@ -1,12 +1,13 @@
 -- What a step does with its rows: which are live, which is the winner, which are fresh and which are kept. Each
 -- word is that of the search's candidates, read off their rows.
-use Rattle.std.specs.Prelude.{ℕ, Bool, not, ◌&&◌, ◌==◌, ◌<◌, nat_lt, List, [], ◌∷◌, map, take, filter, Option, slice_get}
+use Rattle.std.specs.Prelude.{ℕ, Bool, not, ◌&&◌, ◌==◌, ◌<◌, nat_lt, List, [], ◌∷◌, map, filter, Option, slice_get}
 use Rattle.std.specs.List.{All, list_any}
 use Rattle.nj_search_defs.specs.Game.{Judged}
 use Rattle.nj_search_defs.specs.Order.{in_order}
 use Rattle.nj_search_defs.specs.Pruning.{Mark, Seen, is_seen, is_live_judged}
 use Rattle.nj_rows.specs.declared.Row.{Row}
-use Rattle.nj_rows.specs.Order.{is_win_row, is_row_before}
+use Rattle.nj_search_defs.specs.Quota.{limited}
+use Rattle.nj_rows.specs.Order.{is_win_row, is_row_before, is_alike_row}
 use Rattle.nj_seen.specs.Verdicts.{verdict_of}
 
 -- the judgement that a row tells
@@ -35,9 +36,9 @@ winner_row rows = slice_get (in_order is_row_before (filter is_win_row rows)) 0
 unfoldable pub fresh_rows : Seen → List Row → List Row
 fresh_rows seen rows = filter (is_fresh_row seen rows) rows
 
--- the first rows in their order, at most so many
-unfoldable pub kept_rows : ℕ → List Row → List Row
-kept_rows most rows = take most (in_order is_row_before rows)
+-- the first rows in their order, at most so many, and of each bucket no more than the quota
+unfoldable pub kept_rows : ℕ → ℕ → List Row → List Row
+kept_rows most quota rows = limited is_alike_row most quota (in_order is_row_before rows)
 
 -- the keys of rows, in rising order
 unfoldable pub generation_rows : List Row → List ℕ

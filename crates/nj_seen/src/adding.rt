@@ -39,7 +39,7 @@ fn is_first(met: &mut HashSet<u64>, key: u64, words: &[u64], from: u64) -> Resul
 }
 
 // Whether a generation from a step on has the key.
-fn has_since(words: &[u64], key: u64, from: u64) -> bool
+pub(crate) fn has_since(words: &[u64], key: u64, from: u64) -> bool
     requires { IsTable words.now }
     ensures { result ≡ is_owner_since from (owner_in words.now key) }
 {
@@ -50,7 +50,7 @@ fn has_since(words: &[u64], key: u64, from: u64) -> bool
 }
 
 // Adds the row, if told to.
-fn push_if(rows: &mut Vec<Row>, row: Row, is_told: bool) -> Result<(), AllocError>
+pub(crate) fn push_if(rows: &mut Vec<Row>, row: Row, is_told: bool) -> Result<(), AllocError>
     ensures { OnOk result (rows.new.items ≡ rows.old.items ++ (if is_told then row ∷ [] else [])) }
 {
     if is_told {
@@ -75,6 +75,7 @@ pub fn add_keys(words: &mut [u64], keys: &[u64], step: u64)
     requires room { length (entries_in words.old) + length keys.now ≤ slot_count words.old }
     ensures table { IsTable words.new }
     ensures size { length words.new ≡ length words.old }
+    ensures count { length (entries_in words.new) ≡ length (entries_in words.old) + length keys.now }
     ensures owners { (key : ℕ) → owner_in words.new key ≡ (if list_any (λ k. k == key) keys.now then Some step else owner_in words.old key) }
 {
     for key in keys {

@@ -1,15 +1,14 @@
 //! Laws on the seen keys in a claim table. The functions do nothing: their contracts are the laws.
-ghost use Rattle.std.specs.Prelude.{◌≡◌, ◌≢◌, ℕ, ◌+◌, ◌<◌, ◌≤◌, ◌==◌, List, [], ◌∷◌, ◌++◌, length, map, filter, true, Some, None, option_map, if◌then◌else◌};
+ghost use Rattle.std.specs.Prelude.{◌≡◌, ◌≢◌, ℕ, Bool, ◌+◌, ◌-◌, ◌<◌, ◌≤◌, ◌==◌, List, [], ◌∷◌, ◌++◌, length, map, filter, drop, true, Some, None, option_map, if◌then◌else◌};
 ghost use Rattle.std.specs.List.{All, AllPairs, Contains, list_any};
 ghost use Rattle.std.specs.List.Sorted.{IsPermutation};
 ghost use Rattle.nj_search_defs.specs.Pruning.{Seen, key_count};
-ghost use Rattle.nj_search_defs.specs.Order.{in_order};
 ghost use Rattle.nj_rows.specs.declared.Row.{Row};
-ghost use Rattle.nj_rows.specs.Order.{is_win_row, is_row_before};
+ghost use Rattle.nj_rows.specs.Order.{is_win_row};
 ghost use Rattle.nj_claims.specs.Tables.{IsTable, entries_in, owner_in, owner_after, slot_count};
 ghost use Rattle.nj_claims.specs.Passes.{HadNoRoom};
 ghost use Rattle.nj_seen.specs.Rows.{IsRising, winner_row, is_fresh_row, fresh_rows, generation_rows};
-ghost use Rattle.nj_seen.specs.Held.{HoldsSeen, AreClaims, claim_of, first_claim, is_owned, keys_in_rows, oldest_step, published, seen_in};
+ghost use Rattle.nj_seen.specs.Held.{HoldsSeen, AreClaims, claim_of, first_claim, is_owned, is_owned_unseen, keys_in_rows, oldest_step, published, seen_in};
 
 use nj_claims::{different_numbers_fit, entries_are_the_map};
 use nj_rows::any_order_is_one;
@@ -23,6 +22,11 @@ pub fn seen_keys_stand()
     entries_are_the_map();
     different_numbers_fit();
 }
+
+/// A table without a key holds the seen keys of a search that has seen none.
+pub fn no_key_is_seen()
+    ensures { (words : List ℕ) (step : ℕ) → ((key : ℕ) → owner_in words key ≡ None) → HoldsSeen words [] step }
+{}
 
 /// A table of one key, with the owner 0, holds the seen keys of a search before its first step.
 pub fn one_key_is_seen()
@@ -41,6 +45,17 @@ pub fn owned_is_fresh()
         → HoldsSeen opening seen step → step < first_claim → AreClaims rows claims
         → ((key : ℕ) → owner_in closed key ≡ owner_after key (owner_in opening key) claims)
         → All (λ row. is_owned closed row ≡ is_fresh_row seen rows row) rows }
+{}
+
+/// After the claims of all rows in a table beside the seen keys', which was opened with the newest generations alone or
+/// with no key, a row owns its key there, and no generation from a step on has it, where the row is fresh.
+pub fn owned_unseen_is_fresh()
+    ensures { (words opening closed : List ℕ) (seen : Seen) (step from older : ℕ) (rows : List Row) (claims : List (ℕ × ℕ))
+        → HoldsSeen words seen step
+        → HoldsSeen opening (drop older (drop (from - oldest_step step seen) seen)) step
+        → step < first_claim → AreClaims rows claims
+        → ((key : ℕ) → owner_in closed key ≡ owner_after key (owner_in opening key) claims)
+        → All (λ row. is_owned_unseen closed words from row ≡ is_fresh_row (drop (from - oldest_step step seen) seen) rows row) rows }
 {}
 
 /// Once the next step is published, the table holds the seen keys with the generation of the fresh rows.
@@ -86,14 +101,16 @@ pub fn added_keys_are_seen()
         → HoldsSeen after (seen ++ generation_rows (fresh_rows seen rows) ∷ []) (step + 1) }
 {}
 
-/// Some of the rows of a step, in any order, tell its winner where they have all that win; and those that own their keys are
-/// in order the fresh rows, where they have all of these.
+/// Some of the rows of a step, in any order, tell its winner where they have all that win; and those that pass a test by
+/// which rows are fresh are the fresh rows in some order, where they have all of these.
 pub fn rows_in_any_order()
     ensures winner { (some rows : List Row) → AllPairs (λ a b. a.number ≢ b.number) some → IsRising rows → All (Contains rows) some
         → All (λ row. is_win_row row ≡ true → Contains some row) rows → winner_row some ≡ winner_row rows }
-    ensures fresh { (some rows : List Row) (words : List ℕ) (seen : Seen) → AllPairs (λ a b. a.number ≢ b.number) some → IsRising rows → All (Contains rows) some
-        → All (λ row. is_owned words row ≡ is_fresh_row seen rows row) rows → All (λ row. is_fresh_row seen rows row ≡ true → Contains some row) rows
-        → in_order is_row_before (filter (is_owned words) some) ≡ in_order is_row_before (fresh_rows seen rows) }
+    ensures fresh { (some rows : List Row) (test : Row → Bool) (seen : Seen)
+        → AllPairs (λ a b. a.number ≢ b.number) some → IsRising rows → All (Contains rows) some
+        → All (λ row. test row ≡ is_fresh_row seen rows row) rows
+        → All (λ row. is_fresh_row seen rows row ≡ true → Contains some row) rows
+        → IsPermutation (filter test some) (fresh_rows seen rows) }
 {
     any_order_is_one();
 }

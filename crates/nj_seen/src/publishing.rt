@@ -1,11 +1,10 @@
-ghost use Rattle.std.specs.Prelude.{◌≡◌, ◌<◌, ℕ, map, filter, ◌++◌, ◌∷◌, [], option_map, IfOk, OnOk};
+ghost use Rattle.std.specs.Prelude.{◌≡◌, ◌<◌, ℕ, map, option_map};
 ghost use Rattle.nj_claims.specs.Tables.{IsTable, entries_in, owner_in};
 ghost use Rattle.nj_seen.specs.Held.{first_claim, is_owned, published, published_entry};
 
 use crate::forgetting::is_since;
 use nj_claims::owner_of;
 use nj_rows::Row;
-use std::alloc::{AllocError, Global};
 
 /// The least claim number: an owner below it is the step whose generation holds the key, and a
 /// candidate claims its key for this and its number.
@@ -20,29 +19,6 @@ pub fn fresh(words: &[u64], row: &Row) -> bool
         Some(owner) => owner >= FIRST_CLAIM && owner - FIRST_CLAIM == row.number,
         None => false,
     }
-}
-
-/// The rows that are fresh in the sense of [`fresh`], as they stand.
-pub fn owned(alloc: Global, rows: &[Row], words: &[u64]) -> Result<Vec<Row>, AllocError>
-    requires { IsTable words.now }
-    ensures { IfOk result (λ fresh. fresh.items ≡ filter (is_owned words.now) rows.now) }
-{
-    let mut kept = Vec::new(alloc);
-    for row in rows {
-        push_owned(&mut kept, row, words)?;
-    }
-    Ok(kept)
-}
-
-// Adds the row, if it owns its key.
-fn push_owned(kept: &mut Vec<Row>, row: &Row, words: &[u64]) -> Result<(), AllocError>
-    requires { IsTable words.now }
-    ensures { OnOk result (kept.new.items ≡ kept.old.items ++ filter (is_owned words.now) (row.now ∷ [])) }
-{
-    if fresh(words, row) {
-        kept.push(*row)?;
-    }
-    Ok(())
 }
 
 /// Makes the keys that were claimed in a step the generation of that step.

@@ -76,6 +76,7 @@ fn row(number: u64, key: u64) -> Row
         level: 0,
         verdict: Verdict3::Go,
         pad: 0,
+        bucket: [0; 4],
     }
 }
 

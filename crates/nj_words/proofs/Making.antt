@@ -5,7 +5,7 @@ use Rattle.std.specs.Prelude.{option_and_then}
 use Rattle.std.specs.Borrow.{Bor}
 use Rattle.std.specs.Str.{bytes_eq}
 use Rattle.nj_words.specs.Words.{Taken, Word, taken}
-use Rattle.nj_words.specs.Commands.{Row, asm_row, check_row, clean_row, command_of, play_row, reading, replay_row, search_row, trace_row, watch_row, workload_row}
+use Rattle.nj_words.specs.Commands.{Row, asm_row, check_row, clean_row, command_of, play_row, reading, replay_row, resume_row, search_row, trace_row, watch_row, workload_row}
 use Rattle.nj_words.specs.Parser.{form_of, words_of}
 use Rattle.nj_words.proofs.Lookups.{same_word}
 
@@ -40,6 +40,10 @@ pub search_read : (words : List Word) → reading (codes "search" ∷ words) ≡
 unfolding reading
 search_read words = refl
 
+pub resume_read : (words : List Word) → reading (codes "resume" ∷ words) ≡ command_of resume_row words
+unfolding reading
+resume_read words = refl
+
 pub replay_read : (words : List Word) → reading (codes "replay" ∷ words) ≡ command_of replay_row words
 unfolding reading
 replay_read words = refl
@@ -69,12 +73,13 @@ unfolding reading
 watch_read words = refl
 
 -- no command has this word
-pub other_read : (word : Word) (words : List Word) → (word ≡ codes "play" → ⊥) → (word ≡ codes "search" → ⊥) → (word ≡ codes "replay" → ⊥) → (word ≡ codes "check" → ⊥) → (word ≡ codes "workload" → ⊥)
+pub other_read : (word : Word) (words : List Word) → (word ≡ codes "play" → ⊥) → (word ≡ codes "search" → ⊥) → (word ≡ codes "resume" → ⊥) → (word ≡ codes "replay" → ⊥) → (word ≡ codes "check" → ⊥) → (word ≡ codes "workload" → ⊥)
     → (word ≡ codes "asm" → ⊥) → (word ≡ codes "clean" → ⊥) → (word ≡ codes "trace" → ⊥) → (word ≡ codes "watch" → ⊥) → reading (word ∷ words) ≡ None
 unfolding reading
-other_read word words not_play not_search not_replay not_check not_workload not_asm not_clean not_trace not_watch =
+other_read word words not_play not_search not_resume not_replay not_check not_workload not_asm not_clean not_trace not_watch =
     let play_differs = other_word word (codes "play") not_play in
     let search_differs = other_word word (codes "search") not_search in
+    let resume_differs = other_word word (codes "resume") not_resume in
     let replay_differs = other_word word (codes "replay") not_replay in
     let check_differs = other_word word (codes "check") not_check in
     let workload_differs = other_word word (codes "workload") not_workload in
@@ -82,4 +87,4 @@ other_read word words not_play not_search not_replay not_check not_workload not_
     let clean_differs = other_word word (codes "clean") not_clean in
     let trace_differs = other_word word (codes "trace") not_trace in
     let watch_differs = other_word word (codes "watch") not_watch in
-    rw (play_differs, search_differs, replay_differs, check_differs, workload_differs, asm_differs, clean_differs, trace_differs, watch_differs) refl
+    rw (play_differs, search_differs, resume_differs, replay_differs, check_differs, workload_differs, asm_differs, clean_differs, trace_differs, watch_differs) refl

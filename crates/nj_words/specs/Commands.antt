@@ -4,9 +4,9 @@ use Rattle.std.specs.Prelude.{Bool, false, nat_lt, option_map, slice_get, unwrap
 use Rattle.std.specs.Str.{bytes_eq}
 use Rattle.nj_outside.specs.Decimal.{decimal_of}
 use Rattle.nj_words.specs.Words.{Form, Taken, Word, taken}
-use Rattle.nj_words.specs.Options.{number_or, value_at}
+use Rattle.nj_words.specs.Options.{name_or_none, number_or, value_at}
 use Rattle.nj_words.specs.declared.Command.{Command}
-use Rattle.nj_words.specs.declared.Command.TheVariants.{Asm, Check, Clean, Play, Replay, Search, Trace, Watch, Workload}
+use Rattle.nj_words.specs.declared.Command.TheVariants.{Asm, Check, Clean, Play, Replay, Resume, Search, Trace, Watch, Workload}
 use Rattle.nj_words.specs.declared.SearchOptions.{SearchOptions}
 
 -- a command: its word, what it takes, and what it is with what it was given, where its values have
@@ -40,27 +40,53 @@ abbrev pub replay_of : Taken → Option Command
 replay_of taken =
     Some (Replay (name_at taken 0) (name_at taken 1) (name_at taken 2) (name_at taken 3))
 
--- `search CART SCRIPT START`, with its four options; our own
+-- the options of `search` and of `resume`; our own
+abbrev pub search_options : List Word
+search_options = codes "budget" ∷ codes "steps" ∷ codes "slots" ∷ codes "workers" ∷ codes "save" ∷ []
+
+-- `search CART SCRIPT START`, with its options; our own
 abbrev pub search_form : Form
 search_form = record {
   names = codes "CART" ∷ codes "SCRIPT" ∷ codes "START" ∷ [];
-  options = codes "budget" ∷ codes "steps" ∷ codes "slots" ∷ codes "workers" ∷ [];
+  options = search_options;
 }
 
--- the numbers of `search`: the budget in bytes from 1 to 2,147,483,648, else 67,108,864; the steps
--- from 1 to 16,777,215, else 1,000; the slots' exponent of two from 10 to 25, else 20; the workers
--- from 1 to 64, else 1; our own
-unfoldable pub search_options_of : Taken → Option SearchOptions
-search_options_of taken =
+-- the numbers of a search, with no name to save under: the budget in bytes from 1 to 2,147,483,648, else 67,108,864;
+-- the steps from 1 to 16,777,215, else 1,000; the slots' exponent of two from 10 to 25, else 20; the workers from 1 to
+-- 64, else 1; our own
+unfoldable pub search_numbers_of : Taken → Option SearchOptions
+search_numbers_of taken =
     option_and_then (λ budget. option_and_then (λ steps. option_and_then (λ exponent. option_and_then (λ workers.
-    Some (record { budget = budget; steps = steps; exponent = exponent; workers = workers }))
+    Some (record { budget = budget; steps = steps; exponent = exponent; workers = workers; save = None }))
     (number_or 1 64 1 (value_at taken 3))) (number_or 10 25 20 (value_at taken 2)))
     (number_or 1 16777215 1000 (value_at taken 1))) (number_or 1 2147483648 67108864 (value_at taken 0))
 
--- the names of `search`, by their places, and its numbers; our own
+-- the options with a name to save under, or none; our own
+abbrev pub saving_as : SearchOptions → Option Word → SearchOptions
+saving_as options name = record options { save = name }
+
+-- the numbers of a search, and the name of `--save`, which may not be empty; our own
+unfoldable pub search_options_of : Taken → Option SearchOptions
+search_options_of taken = option_and_then (λ options. option_map (saving_as options) (name_or_none (value_at taken 4)))
+    (search_numbers_of taken)
+
+-- the names of `search`, by their places, and its options; our own
 abbrev pub search_of : Taken → Option Command
 search_of taken = option_and_then (λ options.
     Some (Search (name_at taken 0) (name_at taken 1) (name_at taken 2) options)) (search_options_of taken)
+
+-- `resume CART SCRIPT START SAVED`, with the options of `search`; our own
+abbrev pub resume_form : Form
+resume_form = record {
+  names = codes "CART" ∷ codes "SCRIPT" ∷ codes "START" ∷ codes "SAVED" ∷ [];
+  options = search_options;
+}
+
+-- the names of `resume`, by their places, and its options; our own
+abbrev pub resume_of : Taken → Option Command
+resume_of taken = option_and_then (λ options.
+    Some (Resume (name_at taken 0) (name_at taken 1) (name_at taken 2) (name_at taken 3) options))
+    (search_options_of taken)
 
 -- `check CART SCRIPT`; our own
 abbrev pub check_form : Form
@@ -130,6 +156,10 @@ replay_row = record { word = codes "replay"; form = replay_form; made = replay_o
 abbrev pub search_row : Row
 search_row = record { word = codes "search"; form = search_form; made = search_of }
 
+-- the command `resume`; our own
+abbrev pub resume_row : Row
+resume_row = record { word = codes "resume"; form = resume_form; made = resume_of }
+
 -- the command `check`; our own
 abbrev pub check_row : Row
 check_row = record { word = codes "check"; form = check_form; made = check_of }
@@ -157,7 +187,8 @@ watch_row = record { word = codes "watch"; form = watch_form; made = watch_of }
 -- the commands that there are; our own
 abbrev pub table : List Row
 table =
-    play_row ∷ search_row ∷ replay_row ∷ check_row ∷ workload_row ∷ asm_row ∷ clean_row ∷ trace_row ∷ watch_row ∷ []
+    play_row ∷ search_row ∷ resume_row ∷ replay_row ∷ check_row ∷ workload_row ∷ asm_row ∷ clean_row ∷ trace_row
+    ∷ watch_row ∷ []
 
 -- the numbers of a search are in their ranges; our own
 pub record AreInRange (options : SearchOptions) : Type 0 where
@@ -173,6 +204,7 @@ pub record AreInRange (options : SearchOptions) : Type 0 where
 -- the numbers of a command are in their ranges; our own
 unfoldable pub IsInRange : Command → Type 0
 IsInRange (Search cart script start options) = AreInRange options
+IsInRange (Resume cart script start saved options) = AreInRange options
 IsInRange (Play cart movie) = Unit {0}
 IsInRange (Replay cart script start movie) = Unit {0}
 IsInRange (Check cart script) = Unit {0}
@@ -192,9 +224,10 @@ reading [] = None
 reading (word ∷ words) =
     option_and_then (λ row. command_of row words) (find (λ row. bytes_eq word row.word) table)
 
--- how many workers a command asks for: those of a search, and one for every other; our own
+-- how many workers a command asks for: those of a search, begun or gone on with, and one for every other; our own
 unfoldable pub workers_of : Command → ℕ
 workers_of (Search cart script start options) = options.workers
+workers_of (Resume cart script start saved options) = options.workers
 workers_of (Play cart movie) = 1
 workers_of (Replay cart script start movie) = 1
 workers_of (Check cart script) = 1

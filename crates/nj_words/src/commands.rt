@@ -1,7 +1,7 @@
 //! Each command, with its names and options.
 ghost use Rattle.std.specs.Prelude.{◌≡◌, ◌≤◌, length, Err, IfOk, IfSome, None, Some};
 ghost use Rattle.nj_words.specs.Commands.{AreInRange, IsInRange, asm_row, check_row, clean_row, command_of, play_row, replay_row};
-ghost use Rattle.nj_words.specs.Commands.{search_options_of, search_row, trace_row, watch_row, workload_row};
+ghost use Rattle.nj_words.specs.Commands.{resume_row, search_numbers_of, search_options_of, search_row, trace_row, watch_row, workload_row};
 ghost use Rattle.nj_words.specs.Parser.{taken_of, words_of};
 ghost use Rattle.nj_words.specs.declared.refused.WordsRefused.TheVariants.{Usage};
 
@@ -46,12 +46,15 @@ pub(crate) fn replay(alloc: Global, words: &[String]) -> Result<Command, WordsRe
 
 static SEARCH_NAMES: [&str; 3] = ["CART", "SCRIPT", "START"];
 
-static SEARCH_OPTIONS: [&str; 4] = ["budget", "steps", "slots", "workers"];
+static RESUME_NAMES: [&str; 4] = ["CART", "SCRIPT", "START", "SAVED"];
 
-#[tactic(auto, unfolding(crate::specs::Commands::search_options_of))]
-fn search_options(given: &Given<'_>) -> Option<SearchOptions>
-    requires { 4 ≤ length given.now.values.items }
-    ensures value { result ≡ search_options_of (taken_of given.now) }
+static SEARCH_OPTIONS: [&str; 5] = ["budget", "steps", "slots", "workers", "save"];
+
+// The numbers of a search, with no name to save under.
+#[tactic(auto, unfolding(crate::specs::Commands::search_numbers_of))]
+fn search_numbers(given: &Given<'_>) -> Option<SearchOptions>
+    requires { 5 ≤ length given.now.values.items }
+    ensures value { result ≡ search_numbers_of (taken_of given.now) }
     ensures in_range { IfSome result (λ options. AreInRange options) }
 {
     let budget = given.number(0, 1, 2_147_483_648, 67_108_864)?;
@@ -63,7 +66,23 @@ fn search_options(given: &Given<'_>) -> Option<SearchOptions>
         steps,
         exponent,
         workers,
+        save: None,
     })
+}
+
+// The numbers of a search, and the name to save under.
+#[tactic(auto, unfolding(crate::specs::Commands::search_options_of))]
+fn search_options(alloc: Global, given: &Given<'_>) -> Result<SearchOptions, WordsRefused>
+    requires { 5 ≤ length given.now.values.items }
+    ensures read { IfOk result (λ options. search_options_of (taken_of given.now) ≡ Some options) }
+    ensures usage { result ≡ Err Usage → search_options_of (taken_of given.now) ≡ None }
+    ensures in_range { IfOk result (λ options. AreInRange options) }
+{
+    let Some(mut options) = search_numbers(given) else {
+        return Err(WordsRefused::Usage);
+    };
+    options.save = given.text(alloc, 4)?;
+    Ok(options)
 }
 
 #[tactic(auto, unfolding(crate::specs::Commands::IsInRange))]
@@ -78,13 +97,33 @@ pub(crate) fn search(alloc: Global, words: &[String]) -> Result<Command, WordsRe
         SEARCH_OPTIONS.as_slice(),
         words,
     )?;
-    let Some(options) = search_options(&given) else {
-        return Err(WordsRefused::Usage);
-    };
+    let options = search_options(alloc, &given)?;
     Ok(Command::Search {
         cart: given.name(alloc, 0)?,
         script: given.name(alloc, 1)?,
         start: given.name(alloc, 2)?,
+        options,
+    })
+}
+
+#[tactic(auto, unfolding(crate::specs::Commands::IsInRange))]
+pub(crate) fn resume(alloc: Global, words: &[String]) -> Result<Command, WordsRefused>
+    ensures read { IfOk result (λ command. command_of resume_row (words_of words.now) ≡ Some command) }
+    ensures usage { result ≡ Err Usage → command_of resume_row (words_of words.now) ≡ None }
+    ensures in_range { IfOk result (λ command. IsInRange command) }
+{
+    let given = take(
+        alloc,
+        RESUME_NAMES.as_slice(),
+        SEARCH_OPTIONS.as_slice(),
+        words,
+    )?;
+    let options = search_options(alloc, &given)?;
+    Ok(Command::Resume {
+        cart: given.name(alloc, 0)?,
+        script: given.name(alloc, 1)?,
+        start: given.name(alloc, 2)?,
+        saved: given.name(alloc, 3)?,
         options,
     })
 }

@@ -14,13 +14,13 @@ mod commands;
 mod parser;
 mod refused;
 
-use commands::{asm, check, clean, play, replay, search, trace, watch, workload};
+use commands::{asm, check, clean, play, replay, resume, search, trace, watch, workload};
 pub use nj_seq::Text;
 pub use refused::WordsRefused;
 use std::alloc::{AllocError, Global};
 
 /// A command of the program, with the names and options that it was given.
-#[derive(Debug, Drop)]
+#[derive(Drop)]
 pub enum Command {
     /// Plays a movie on a cartridge.
     Play {
@@ -32,6 +32,14 @@ pub enum Command {
         cart: Text,
         script: Text,
         start: Text,
+        options: SearchOptions,
+    },
+    /// Goes on with a search that was saved.
+    Resume {
+        cart: Text,
+        script: Text,
+        start: Text,
+        saved: Text,
         options: SearchOptions,
     },
     /// Plays a movie and judges it by a script, as a search from the start movie would.
@@ -75,8 +83,8 @@ pub enum Command {
     },
 }
 
-/// The options of a search.
-#[derive(Clone, Copy, Debug)]
+/// The options of a search, begun or gone on with.
+#[derive(Drop)]
 pub struct SearchOptions {
     /// The most bytes that the held states may take, 1 to 2,147,483,648.
     pub budget: u64,
@@ -86,16 +94,19 @@ pub struct SearchOptions {
     pub exponent: u32,
     /// The workers, 1 to 64.
     pub workers: u32,
+    /// The file that a search at its limit is saved as.
+    pub save: Option<Text>,
 }
 
 impl Command {
-    /// How many workers the command asks for: those of a search, 1 to 64, and one for every other.
+    /// How many workers the command asks for: those of a search, begun or gone on with, 1 to 64, and one for every other.
     #[tactic(auto, unfolding(crate::specs::Commands::workers_of))]
     pub fn workers(&self) -> u32
         ensures { result ≡ workers_of self.now }
     {
         match self {
             Command::Search { options, .. } => options.workers,
+            Command::Resume { options, .. } => options.workers,
             _ => 1,
         }
     }
@@ -114,6 +125,7 @@ pub fn read_words(alloc: Global, words: &[String]) -> Result<Command, WordsRefus
     match command.as_str() {
         "play" => play(alloc, rest),
         "search" => search(alloc, rest),
+        "resume" => resume(alloc, rest),
         "replay" => replay(alloc, rest),
         "check" => check(alloc, rest),
         "workload" => workload(alloc, rest),
@@ -141,6 +153,3 @@ pub fn asks_workers(alloc: Global, words: &[String]) -> Result<bool, AllocError>
 pub fn pieces_are_said()
     ensures { PiecesAreSaid }
 {}
-
-#[cfg(test)]
-mod tests;

@@ -1,6 +1,6 @@
 use Rattle.std.proofs.Common.{◌≡◌, ◌∙◌, IfOk, Some, codes, refl, subst, sym}
 use Rattle.nj_words.specs.Parser.{words_of}
-use Rattle.nj_words.proofs.Making.{asm_read, check_read, clean_read, first_read, nothing_read, other_read, play_read, replay_read, search_read, trace_read, watch_read, workload_read}
+use Rattle.nj_words.proofs.Making.{asm_read, check_read, clean_read, first_read, nothing_read, other_read, play_read, replay_read, resume_read, search_read, trace_read, watch_read, workload_read}
 use Rattle.nj_words.proofs.read_words.Goals as goal
 
 pub returns-in_default-clause-usage : goal.returns-in_default-clause-usage
@@ -25,6 +25,16 @@ pub returns-in-search-clause-usage : goal.returns-in-search-clause-usage
 returns-in-search-clause-usage c = λ usage.
     first_read c.args.words.now c.in-Some.command.now c.in-Some.rest.now c.as_str.result.now (codes "search") c.in-Some.ensures.cases.0 c.as_str.ensures.value c.in-search.is
     ∙ search_read (words_of c.in-Some.rest.now) ∙ c.search.ensures.usage usage
+
+pub returns-in-resume-clause-read : goal.returns-in-resume-clause-read
+returns-in-resume-clause-read c =
+    let whole = first_read c.args.words.now c.in-Some.command.now c.in-Some.rest.now c.as_str.result.now (codes "resume") c.in-Some.ensures.cases.0 c.as_str.ensures.value c.in-resume.is in
+    subst (λ r. IfOk c.resume.result (λ command. r ≡ Some command)) (sym (whole ∙ resume_read (words_of c.in-Some.rest.now))) c.resume.ensures.read
+
+pub returns-in-resume-clause-usage : goal.returns-in-resume-clause-usage
+returns-in-resume-clause-usage c = λ usage.
+    first_read c.args.words.now c.in-Some.command.now c.in-Some.rest.now c.as_str.result.now (codes "resume") c.in-Some.ensures.cases.0 c.as_str.ensures.value c.in-resume.is
+    ∙ resume_read (words_of c.in-Some.rest.now) ∙ c.resume.ensures.usage usage
 
 pub returns-in-replay-clause-read : goal.returns-in-replay-clause-read
 returns-in-replay-clause-read c =
@@ -99,4 +109,4 @@ returns-in-watch-clause-usage c = λ usage.
 pub returns-in_default-as_str-clause-usage : goal.returns-in_default-as_str-clause-usage
 returns-in_default-as_str-clause-usage c = λ _.
     first_read c.args.words.now c.in-Some.command.now c.in-Some.rest.now c.as_str.result.now c.as_str.result.now c.in-Some.ensures.cases.0 c.as_str.ensures.value refl
-    ∙ other_read c.as_str.result.now (words_of c.in-Some.rest.now) c.in_default-as_str.not-play c.in_default-as_str.not-search c.in_default-as_str.not-replay c.in_default-as_str.not-check c.in_default-as_str.not-workload c.in_default-as_str.not-asm c.in_default-as_str.not-clean c.in_default-as_str.not-trace c.in_default-as_str.not-watch
+    ∙ other_read c.as_str.result.now (words_of c.in-Some.rest.now) c.in_default-as_str.not-play c.in_default-as_str.not-search c.in_default-as_str.not-resume c.in_default-as_str.not-replay c.in_default-as_str.not-check c.in_default-as_str.not-workload c.in_default-as_str.not-asm c.in_default-as_str.not-clean c.in_default-as_str.not-trace c.in_default-as_str.not-watch

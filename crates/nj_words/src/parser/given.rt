@@ -16,7 +16,7 @@ use std::alloc::{AllocError, Global};
 
 /// What a command was given: the words of its names, and the value of each of its options, in the
 /// order of its form.
-#[derive(Debug, Drop)]
+#[derive(Drop)]
 pub(crate) struct Given<'a> {
     pub(crate) names: Vec<&'a str>,
     pub(crate) values: Vec<Option<&'a str>>,

@@ -1,12 +1,14 @@
 -- Each test in turn.
-use Rattle.std.proofs.Common.{◌≡◌, ◌⊎◌, inl, inr, ℕ, List, ap, sym, ◌∙◌, subst}
+use Rattle.std.proofs.Common.{◌≡◌, ◌⊎◌, inl, inr, ℕ, List, ap, sym, ◌∙◌, subst, arith}
 use Rattle.std.specs.Prelude.{Some, None, Ok, Err}
+use Rattle.std.proofs.lemmas.List.{get_or_default}
 use Rattle.std.proofs.lemmas.Result.{err_from_is_err_and}
 use Rattle.nj_saved.specs.declared.refusal.SavedRefused.{SavedRefused}
 use Rattle.nj_saved.specs.declared.refusal.SavedRefused.TheVariants.{NoMemory}
-use Rattle.nj_saved.specs.Ranges.{IsInRange}
+use Rattle.nj_saved.specs.Ranges.{IsInRange, Fits}
 use Rattle.nj_saved.specs.Reading.{first_refusal, identity_tests, size_tests, generations_tests, saved_of}
 use Rattle.nj_saved.proofs.InRange.{contents_in_range}
+use Rattle.nj_saved.proofs.Said.{contents_fit}
 use Rattle.nj_saved.proofs.Whole.{identity_refused, sizes_refused, generations_refused, tail_refused, all_read}
 use Rattle.nj_saved.proofs.reading.read_saved.Goals as goal
 
@@ -46,3 +48,8 @@ returns-clause-value c =
 pub returns-clause-ranges : goal.returns-clause-ranges
 returns-clause-ranges c =
     subst IsInRange (sym c.in_ok-contents.ensures) (contents_in_range c.args.file.now _ _ c.in_ok-check_sizes.ensures.there c.in_ok-older.ensures)
+
+pub returns-clause-fits : goal.returns-clause-fits
+returns-clause-fits c =
+    subst Fits (sym c.in_ok-contents.ensures)
+    (contents_fit c.args.file.now (λ k d inside. omega (arith, c.type_inv.file k, get_or_default c.args.file.now k d 0 inside)))
