@@ -30,7 +30,8 @@ abbrev pub refused_or : Option ℕ → (ℕ → ReplayRefused) → Result Word R
 refused_or (Some frame) refused read = Err (refused frame)
 refused_or None refused read = read
 
--- the word that a movie plays behind the start, or the first frame where it leaves the start or does not hold a step's pad
+-- the word that a movie plays behind the start, or the first frame where it leaves the start or does not hold a step's
+-- pad
 unfoldable pub word_of : ℕ → List ℕ → List ℕ → Result Word ReplayRefused
 word_of hold start movie =
     let word = first_pads hold (drop (length start) movie) in
@@ -45,8 +46,8 @@ pub record LeavesStart (start movie : List ℕ) (frame : ℕ) : Type 0 where
   pub before : take frame movie ≡ take frame start
   pub differs : slice_get movie frame ≢ slice_get start frame
 
--- the movie is the start, whole steps, and one frame or more, but not all, of another step, up to this frame, where it has
--- another pad than that step's or no frame
+-- the movie is the start, whole steps, and one frame or more, but not all, of another step, up to this frame, where it
+-- has another pad than that step's or no frame
 pub record LeavesStep (hold : ℕ) (start movie : List ℕ) (frame : ℕ) : Type 0 where
   pub steps : Word
   pub pad : ℕ

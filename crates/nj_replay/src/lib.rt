@@ -1,4 +1,8 @@
 //! The replayer: what a movie comes to, run from power-on and judged at the end of each step.
+//!
+//! A movie is first read as a word: it has to be the start movie, followed by each pad of the word held for a step.
+//! Only then the machine runs, and what is told is what the game of specs/Words of nj_game says of that word. Read `word_of`
+//! (specs/Reading) and then `replay_of` (specs/Replay) first.
 #![tactic(auto)]
 
 ghost use Rattle.std.specs.Prelude.{◌≡◌, ◌≤◌, ◌+◌, ◌^◌, ◌⊎◌, length, MatchResult, Ok, Err};
@@ -9,8 +13,6 @@ ghost use Rattle.nj_replay.specs.declared.ReplayRefused.{ReplayRefused};
 mod laws;
 mod reading;
 mod running;
-#[cfg(test)]
-mod tests;
 
 pub use laws::{a_movie_is_read_as_its_word, a_replay_tells_of_its_word};
 pub use nj_machine::Cart;
@@ -58,8 +60,8 @@ impl From<AllocError> for ReplayRefused {
     }
 }
 
-/// What a movie comes to that begins as the start movie and holds each pad behind it for a step: the rules judge the state
-/// at the end of the start, and of each step. A movie that is refused runs no frame.
+/// What a movie comes to that begins as the start movie and holds each pad behind it for a step: the rules judge the
+/// state at the end of the start, and of each step. A movie that is refused runs no frame.
 pub fn replay<L: Ledger>(
     alloc: Global,
     cart: &Cart,
@@ -69,10 +71,14 @@ pub fn replay<L: Ledger>(
     steps: &mut Steps<L>,
 ) -> Result<Replayed, ReplayRefused>
     requires { length movie.now ≤ 2 ^ 20 }
-    ensures answer { MatchResult result (λ replayed. replay_of (plan_of cart.now script.now start.now) movie.now ≡ Ok replayed) (λ refused. (refused ≡ ReplayRefused.NoMemory) ⊎ (replay_of (plan_of cart.now script.now start.now) movie.now ≡ Err refused)) }
+    ensures answer { MatchResult result
+        (λ replayed. replay_of (plan_of cart.now script.now start.now) movie.now ≡ Ok replayed)
+        (λ refused. (refused ≡ ReplayRefused.NoMemory)
+        ⊎ (replay_of (plan_of cart.now script.now start.now) movie.now ≡ Err refused)) }
     ensures frames { steps.new ≤ steps.old + length movie.now }
     ensures never_falls { steps.old ≤ steps.new }
-    ensures refused { (refused : ReplayRefused) → replay_of (plan_of cart.now script.now start.now) movie.now ≡ Err refused → steps.new ≡ steps.old }
+    ensures refused { (refused : ReplayRefused)
+        → replay_of (plan_of cart.now script.now start.now) movie.now ≡ Err refused → steps.new ≡ steps.old }
 {
     let hold = script.hold();
     let behind = read_word(hold, start.pads(), movie.pads())?;

@@ -49,7 +49,8 @@ fn first_unheld(hold: u32, behind: &[Pad]) -> Option<usize>
 pub fn read_word<'a>(hold: u32, start: &[Pad], movie: &'a [Pad]) -> Result<&'a [Pad], ReplayRefused>
     requires hold { 1 ≤ hold }
     requires few { length movie.now ≤ 2 ^ 20 }
-    ensures word { MatchResult result (λ behind. word_of hold start.now movie.now ≡ Ok (first_pads hold behind.now)) (λ refused. word_of hold start.now movie.now ≡ Err refused) }
+    ensures word { MatchResult result (λ behind. word_of hold start.now movie.now ≡ Ok (first_pads hold behind.now))
+        (λ refused. word_of hold start.now movie.now ≡ Err refused) }
     ensures whole { IfOk result (λ behind. behind.now ≡ held_pads hold (first_pads hold behind.now)) }
     ensures len { IfOk result (λ behind. length movie.now ≡ length start.now + length behind.now) }
 {

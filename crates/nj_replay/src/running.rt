@@ -61,7 +61,9 @@ impl Run {
     // One more pad of the word.
     fn step<L: Ledger>(&mut self, rules: &Rules, hold: u32, pad: Pad, steps: &mut Steps<L>)
         requires { AreRulesInRange rules.now.rules }
-        ensures after { (plan : Plan) (word : Word) → plan.script.rules ≡ rules.now → plan.script.hold ≡ hold → IsAfter plan word self.old.machine self.old.judged → IsAfter plan (word ++ pad ∷ []) self.new.machine self.new.judged }
+        ensures after { (plan : Plan) (word : Word) → plan.script.rules ≡ rules.now → plan.script.hold ≡ hold
+            → IsAfter plan word self.old.machine self.old.judged
+            → IsAfter plan (word ++ pad ∷ []) self.new.machine self.new.judged }
         ensures frames { steps.new ≤ steps.old + hold }
         ensures never_falls { steps.old ≤ steps.new }
     {
@@ -88,7 +90,9 @@ impl Run {
         requires few { length behind.now ≤ 2 ^ 20 }
         requires whole { behind.now ≡ held_pads hold (first_pads hold behind.now) }
         ensures count { result ≡ length (first_pads hold behind.now) }
-        ensures after { (plan : Plan) → plan.script.rules ≡ rules.now → plan.script.hold ≡ hold → IsAfter plan [] self.old.machine self.old.judged → IsAfter plan (first_pads hold behind.now) self.new.machine self.new.judged }
+        ensures after { (plan : Plan) → plan.script.rules ≡ rules.now → plan.script.hold ≡ hold
+            → IsAfter plan [] self.old.machine self.old.judged
+            → IsAfter plan (first_pads hold behind.now) self.new.machine self.new.judged }
         ensures frames { steps.new ≤ steps.old + length behind.now }
         ensures never_falls { steps.old ≤ steps.new }
     {
@@ -106,7 +110,12 @@ impl Run {
 
     /// What the run tells at its end.
     pub fn replayed(self, step: u32, frames: u32) -> Replayed
-        ensures { result ≡ record { step = step; frames = frames; reward = self.judged.reward; verdict = self.judged.verdict } }
+        ensures { result ≡ record {
+          step = step;
+          frames = frames;
+          reward = self.judged.reward;
+          verdict = self.judged.verdict;
+        } }
     {
         Replayed {
             step,

@@ -1,5 +1,8 @@
-//! The tests of the reader of scripts. They stand apart, since a crate with tests of its own is proved twice.
+//! The tests of the reader of scripts. They stand apart, since a crate with tests of its own is proved twice, and their
+//! scripts are texts (`data`), which cost no proof however many they are.
 #![tactic(auto)]
 
+#[cfg(test)]
+mod data;
 #[cfg(test)]
 mod scripts;

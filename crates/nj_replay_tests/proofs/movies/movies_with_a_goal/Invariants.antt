@@ -1,5 +1,5 @@
 -- The ledger of each call is the one that its blank names.
-use Rattle.nj_replay.proofs.tests.movies_that_are_refused.Given as goal
+use Rattle.nj_replay_tests.proofs.movies.movies_with_a_goal.Given as goal
 
 abbrev pub ghosts-outcome : goal.ghosts-outcome
 ghosts-outcome g a = record { name = a.blank.name; parts = a.blank.parts }
