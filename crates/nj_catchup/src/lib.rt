@@ -21,7 +21,6 @@ mod ending;
 mod fixed;
 mod idle;
 mod line;
-
 mod lull;
 mod place;
 mod skip;

@@ -16,13 +16,13 @@ loop-sprite-preserved c =
     let n = c.loop-sprite.sprite in
     elim c.if-oam-sprite-lt240.branch [
       | then-oam-sprite-lt240 w ↦ record {
-          most = λ line tall below. omega (arith, w.count-is, c.loop-sprite.invariant.most line tall below, counted-step oam line tall n);
-          few = omega (arith, w.count-is, c.loop-sprite.invariant.few);
-        }
+        most = λ line tall below. omega (arith, w.count-is, c.loop-sprite.invariant.most line tall below, counted-step oam line tall n);
+        few = omega (arith, w.count-is, c.loop-sprite.invariant.few);
+      }
       | else-oam-sprite-lt240 w ↦ record {
-          most = λ line tall below. omega (arith, w.count-is, c.loop-sprite.invariant.most line tall below, counted-below oam line tall n (omega (arith, w.if-oam-sprite-lt240.false)) below);
-          few = omega (arith, w.count-is, c.loop-sprite.invariant.few);
-        }
+        most = λ line tall below. omega (arith, w.count-is, c.loop-sprite.invariant.most line tall below, counted-below oam line tall n (omega (arith, w.if-oam-sprite-lt240.false)) below);
+        few = omega (arith, w.count-is, c.loop-sprite.invariant.few);
+      }
     ]
 
 pub returns : goal.returns
