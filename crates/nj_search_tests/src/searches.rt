@@ -183,6 +183,9 @@ fn saved_fronts_that_are_too_long(rt: HostRuntime) -> Result<(), Fail> {
     let (saved, size) = saved_at::<Brand>(alloc, Blank::new(1), two)?;
     assert_eq!(rt; size, 110);
     let one = plan_on(alloc, COUNTS, saved, limits(8992, 1, 20))?;
-    assert_eq!(rt; one.err(), Some(PlanRefused::FrontTooLong { front: 3, bound: 1 }));
+    assert_eq!(rt;
+        one.err(),
+        Some(PlanRefused::FrontTooLong { front: 3, bound: 1 })
+    );
     Ok(())
 }
