@@ -10,7 +10,7 @@ use Rattle.nj_script.specs.Script.{Record}
 use Rattle.nj_expand.specs.declared.Bounds.{Bounds as Given}
 use Rattle.nj_expand.specs.Held.{Held, bounds_of}
 use Rattle.nj_search.specs.Plans.{Planned}
-use Rattle.nj_search.specs.Ends.{frames_most}
+use Rattle.nj_search.specs.Ends.{frames_before, frames_most}
 use Rattle.nj_search.specs.Rests.{frames_a_step}
 use Rattle.nj_search.specs.Starts.{IsGoing}
 use Rattle.nj_search.proofs.Going.{AreMade, start_within, all_frames, same_frames}
@@ -99,19 +99,19 @@ pub inputs_are : (given : Given) (script : Record) (bounds : Bounds) → bounds_
     → given.inputs ≡ bounds.inputs
 inputs_are given script bounds is = ap (λ (b : Bounds). b.inputs) is
 
--- the start's frames, on the first counter, are within those of the search
+-- the frames before the first step, on the first counter, are within those of the search
 pub start_counted : (planned : Planned) (workers : ℕ) (old new : List ℕ) → 1 ≤ workers
-    → AreCounted 1 old new (length planned.plan.start) → AreCounted workers old new (frames_most planned)
+    → AreCounted 1 old new (frames_before planned) → AreCounted workers old new (frames_most planned)
 start_counted planned workers old new some first =
-    let within = start_within planned 0 (length planned.plan.start) (omega arith) in
-    more_counted workers old new new (length planned.plan.start) 0 (frames_most planned)
-    (by_more workers old new (length planned.plan.start) some first) (none_counted workers new 0) (omega (arith, within))
+    let within = start_within planned 0 (frames_before planned) (omega arith) in
+    more_counted workers old new new (frames_before planned) 0 (frames_most planned)
+    (by_more workers old new (frames_before planned) some first) (none_counted workers new 0) (omega (arith, within))
 
--- so are the start's and those of all steps
+-- so are these and those of all steps
 pub all_counted : (planned : Planned) (held : Held) (limit workers : ℕ) (old mid new : List ℕ) → 1 ≤ workers
-    → IsGoing planned held → limit ≡ planned.limits.steps → AreCounted 1 old mid (length planned.plan.start)
+    → IsGoing planned held → limit ≡ planned.limits.steps → AreCounted 1 old mid (frames_before planned)
     → AreCounted workers mid new (frames_a_step held * limit) → AreCounted workers old new (frames_most planned)
 all_counted planned held limit workers old mid new some is limited first second =
     let steps : frames_a_step held * limit ≡ frames_a_step held * planned.limits.steps = ap (λ n. frames_a_step held * n) limited in
-    more_counted workers old mid new (length planned.plan.start) (frames_a_step held * limit) (frames_most planned)
-    (by_more workers old mid (length planned.plan.start) some first) second (omega (arith, all_frames planned held is, steps))
+    more_counted workers old mid new (frames_before planned) (frames_a_step held * limit) (frames_most planned)
+    (by_more workers old mid (frames_before planned) some first) second (omega (arith, all_frames planned held is, steps))

@@ -5,4 +5,6 @@ pub mod Longer
 pub mod StepEnds
 pub mod Going
 pub mod Budgets
+pub mod Sound
+pub mod Resumed
 pub mod Counters

@@ -1,5 +1,5 @@
 -- What a step answers, as the end of a search or its going on.
-use Rattle.std.proofs.Common.{◌≡◌, ℕ, suc, ◌+◌, ◌/◌, ◌<◌, ◌≤◌, false, List, [], ◌∷◌, ◌++◌, length, replicate, get_or, refl, ap, ap₂, sym, subst, ◌∙◌, arith, append_assoc, append-nil}
+use Rattle.std.proofs.Common.{◌≡◌, Bool, ℕ, suc, ◌+◌, ◌/◌, ◌<◌, ◌≤◌, false, List, [], ◌∷◌, ◌++◌, length, replicate, get_or, refl, ap, ap₂, sym, subst, ◌∙◌, arith, append_assoc, append-nil}
 use Rattle.std.specs.Prelude.{Option, Some, None, IfSome, IfNone, slice_get}
 use Rattle.std.proofs.lemmas.Grind.{flat_map-append}
 use Rattle.std.proofs.lemmas.Option.{slice_get_within, get_or_from_slice_get}
@@ -18,9 +18,9 @@ use Rattle.nj_expand.specs.declared.Stepped.TheVariants.{Won as WonRow, Exhauste
 use Rattle.nj_expand.specs.Rows.{row_of}
 use Rattle.nj_expand.specs.Held.{Held, next_in}
 use Rattle.nj_expand.specs.Step.{IsStepBy, IsStep}
-use Rattle.nj_search.specs.Ends.{told_of}
+use Rattle.nj_search.specs.Ends.{told_of, answer_of}
 use Rattle.nj_search.specs.Rests.{rest_of, IsFurther}
-use Rattle.nj_search.specs.Starts.{CanEnd, EndsIn, IsEnded}
+use Rattle.nj_search.specs.Starts.{unsaved, CanEnd, EndsIn, IsEnded}
 use Rattle.nj_search.specs.declared.searching.Outcome.{Outcome}
 use Rattle.nj_search.specs.declared.searching.Outcome.TheVariants.{Won, Exhausted}
 
@@ -101,25 +101,26 @@ reward_is : (held : Held) (row : Row) (c : Candidate) → IsWonBy held row c →
 unfolding row_of game_of
 reward_is held row c won = sym (ap (λ (r : Row). r.reward) won.row_is)
 
-told_won : (plan : Plan) (step : ℕ) (word : Word) → told_of plan (WonAt step word) ≡ Won step (let judged = judged_of plan word in judged.reward) (movie_of plan word)
-unfolding told_of
-told_won plan step word = refl
+told_won : (plan : Plan) (keep : Bool) (step : ℕ) (word : Word)
+    → answer_of plan keep (WonAt step word) ≡ unsaved (Won step (let judged = judged_of plan word in judged.reward) (movie_of plan word))
+unfolding answer_of told_of
+told_won plan keep step word = refl
 
 -- what is told of a step that is won, however many steps may follow
-pub won_told : (held : Held) (row : Row) (c : Candidate) (begun movie : List ℕ) (steps : ℕ)
+pub won_told : (held : Held) (row : Row) (c : Candidate) (begun movie : List ℕ) (steps : ℕ) (keep : Bool)
     → IsWonBy held row c → HasParent held row c
     → begun ≡ movie_of held.plan (get_or held.state.front (row.number / 256) [])
     → movie ≡ begun ++ replicate held.plan.script.hold row.pad
-    → told_of held.plan (rest_of held (steps + 1)) ≡ Won (held.state.step + 1) row.reward movie
-won_told held row c begun movie steps won parent is_begun is_movie =
+    → answer_of held.plan keep (rest_of held (steps + 1)) ≡ unsaved (Won (held.state.step + 1) row.reward movie)
+won_told held row c begun movie steps keep won parent is_begun is_movie =
     let whole : movie_of held.plan (word_of c) ≡ movie =
     movie_child held.plan c.parent c.pad
     ∙ ap₂ (λ (w : Word) (p : ℕ). movie_of held.plan w ++ replicate held.plan.script.hold p) (sym parent.parent) (sym parent.pad)
     ∙ ap (λ m. m ++ replicate held.plan.script.hold row.pad) (sym is_begun)
     ∙ sym is_movie in
-    ap (told_of held.plan) (rest_by held steps (NextWon c) won.next)
-    ∙ told_won held.plan (held.state.step + 1) (word_of c)
-    ∙ ap₂ (Won (held.state.step + 1)) (reward_is held row c won) whole
+    ap (answer_of held.plan keep) (rest_by held steps (NextWon c) won.next)
+    ∙ told_won held.plan keep (held.state.step + 1) (word_of c)
+    ∙ ap unsaved (ap₂ (Won (held.state.step + 1)) (reward_is held row c won) whole)
 
 -- a winner with its parent
 pub record IsWinner (held : Held) (row : Row) : Type 0 where
@@ -144,18 +145,16 @@ pub won_outcome : (held : Held) (row : Row) (script : Record) (hold step : ℕ) 
     → IsWinner held row → script ≡ held.plan.script → hold ≡ script.hold → step ≡ held.state.step
     → begun ≡ movie_of held.plan (get_or held.state.front (row.number / 256) []) → movie ≡ begun ++ replicate hold row.pad
     → outcome ≡ Won (step + 1) row.reward movie
-    → (steps : ℕ) → told_of held.plan (rest_of held (steps + 1)) ≡ outcome
-won_outcome held row script hold step begun movie outcome winner is_script is_hold is_step is_begun is_movie is steps =
+    → EndsIn held outcome
+won_outcome held row script hold step begun movie outcome winner is_script is_hold is_step is_begun is_movie is steps keep =
     let held_for : hold ≡ held.plan.script.hold = is_hold ∙ ap (λ (s : Record). s.hold) is_script in
-    won_told held row winner.candidate begun movie steps winner.won winner.parent is_begun
+    won_told held row winner.candidate begun movie steps keep winner.won winner.parent is_begun
     (is_movie ∙ ap (λ n. begun ++ replicate n row.pad) held_for)
-    ∙ ap (λ n. Won (n + 1) row.reward movie) (sym is_step)
-    ∙ sym is
+    ∙ ap unsaved (ap (λ n. Won (n + 1) row.reward movie) (sym is_step) ∙ sym is)
 
 -- what is told of the search as it was
-pub told_before : (old new : Held) (outcome : Outcome) → new ≡ old → ((steps : ℕ) → told_of new.plan (rest_of new (steps + 1)) ≡ outcome)
-    → (steps : ℕ) → told_of old.plan (rest_of old (steps + 1)) ≡ outcome
-told_before old new outcome same told = subst (λ (held : Held). (steps : ℕ) → told_of held.plan (rest_of held (steps + 1)) ≡ outcome) same told
+pub told_before : (old new : Held) (outcome : Outcome) → new ≡ old → EndsIn new outcome → EndsIn old outcome
+told_before old new outcome same told = subst (λ (held : Held). EndsIn held outcome) same told
 
 -- ---- nothing is kept
 
@@ -172,19 +171,19 @@ exhausted_in old new h = exhausted_by (next_in old) old new h
 pub exhausted_same : (old new : Held) → IsStep old NothingKept new → new ≡ old
 exhausted_same old new h = (exhausted_in old new h).0
 
-told_exhausted : (plan : Plan) (step : ℕ) → told_of plan (ExhaustedAt step) ≡ Exhausted step
-unfolding told_of
-told_exhausted plan step = refl
+told_exhausted : (plan : Plan) (keep : Bool) (step : ℕ) → answer_of plan keep (ExhaustedAt step) ≡ unsaved (Exhausted step)
+unfolding answer_of told_of
+told_exhausted plan keep step = refl
 
 -- what is told of it
 pub exhausted_told : (old new : Held) (step : ℕ) → IsStep old NothingKept new → step ≡ new.state.step
-    → (steps : ℕ) → told_of old.plan (rest_of old (steps + 1)) ≡ Exhausted (step + 1)
-exhausted_told old new step h is_step steps =
+    → EndsIn old (Exhausted (step + 1))
+exhausted_told old new step h is_step steps keep =
     let ended = exhausted_in old new h in
     let same : old.state.step ≡ step = ap (λ (held : Held). held.state.step) (sym ended.0) ∙ sym is_step in
-    ap (told_of old.plan) (rest_by old steps NextExhausted ended.1)
-    ∙ told_exhausted old.plan (old.state.step + 1)
-    ∙ ap (λ n. Exhausted (n + 1)) same
+    ap (answer_of old.plan keep) (rest_by old steps NextExhausted ended.1)
+    ∙ told_exhausted old.plan keep (old.state.step + 1)
+    ∙ ap (λ n. unsaved (Exhausted (n + 1))) same
 
 -- ---- the search goes on
 

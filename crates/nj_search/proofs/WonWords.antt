@@ -1,20 +1,26 @@
 -- The movie of a word that won is read and replayed.
 use Rattle.std.proofs.Common.{◌≡◌, ℕ, ◌+◌, ◌*◌, ◌^◌, ◌≤◌, List, [], ◌∷◌, ◌++◌, length, Ok, refl, ap, ◌∙◌, arith, length-append}
-use Rattle.std.specs.Prelude.{◌↔◌}
+use Rattle.std.specs.Prelude.{◌↔◌, Option, Some, None, IfSome}
 use Rattle.std.proofs.lemmas.List.{length-replicate}
 use Rattle.std.proofs.Math.Nat.{mul-le-mul_left}
 use Rattle.nj_search_defs.specs.Game.{Word, Win as Wins}
-use Rattle.nj_search_defs.specs.Laws.{WonWins, WonWordsAreAsLong}
+use Rattle.nj_search_defs.specs.Outcome.{WonAt}
+use Rattle.nj_search_defs.specs.Laws.{IsWonWithin, WonWins, WonWordsAreAsLong}
+use Rattle.nj_search_defs.specs.Going.{WonWordsAreAsLongFrom, WonWinsFrom}
 use Rattle.nj_rules.specs.declared.record.Verdict.{Verdict}
 use Rattle.nj_rules.specs.declared.record.Verdict.TheVariants.{Go, Win, Fail}
 use Rattle.nj_game.specs.Plan.{Plan, held_pads, movie_of}
 use Rattle.nj_game.specs.Words.{judged_of, search_verdict, game_of}
 use Rattle.nj_replay.specs.Reading.{word_of}
 use Rattle.nj_replay.specs.Replay.{replayed_of, replay_of}
-use Rattle.nj_search.specs.Plans.{bounds_in}
-use Rattle.nj_search.specs.Ends.{outcome_of, reward_in}
+use Rattle.nj_saved.specs.declared.saved.Saved.{Saved}
+use Rattle.nj_saved.specs.Ranges.{IsInRange}
+use Rattle.nj_expand.specs.Saving.{state_in, state_from}
+use Rattle.nj_search.specs.Plans.{Planned, total_steps, bounds_in}
+use Rattle.nj_search.specs.Ends.{outcome_from, outcome_of, reward_in}
 use Rattle.nj_search.specs.Laws.{AWonWordReplays}
 use Rattle.nj_search.proofs.Accepted.{accepted}
+use Rattle.nj_search.proofs.Sound.{front_even}
 
 -- a movie is read as its word
 abbrev pub MoviesAreRead : Type 0
@@ -50,17 +56,38 @@ unfolding replayed_of
 won_as plan word step long win =
     λ i. record { step = long i; frames = length (movie_of plan word); reward = reward_in plan word; verdict = win i }
 
-pub won_replays : WonWordsAreAsLong → WonWins → MoviesAreRead → ReplaysTell → AWonWordReplays
+-- a word that won: its length, its verdict and its step
+record IsWonBy (planned : Planned) (saved : Option Saved) (step : ℕ) (word : Word) : Type 0 where
+  within : IsWonWithin (total_steps planned.limits saved) step word
+  wins : ((game_of planned.plan).judged word).verdict ≡ Wins
+
+won_from : WonWordsAreAsLong → WonWins → WonWordsAreAsLongFrom → WonWinsFrom → (planned : Planned) (saved : Option Saved) (step : ℕ) (word : Word)
+    → IfSome saved IsInRange → outcome_from planned saved ≡ WonAt step word → IsWonBy planned saved step word
+unfolding state_from state_in
+won_from lengths wins lengths_from wins_from planned None step word ranges won =
+    let ends = lengths (game_of planned.plan) (bounds_in planned) planned.limits.steps step word won in record {
+      within = record { long = ends.long; within = omega (arith, ends.within) };
+      wins = wins (game_of planned.plan) (bounds_in planned) planned.limits.steps step word won;
+    }
+won_from lengths wins lengths_from wins_from planned (Some saved) step word ranges won =
+    let from = state_from (bounds_in planned) saved in
+    let ends = lengths_from (game_of planned.plan) (bounds_in planned) planned.limits.steps from step word
+    (front_even saved ranges (bounds_in planned)) won in record {
+      within = record { long = ends.long; within = omega (arith, ends.within) };
+      wins = wins_from (game_of planned.plan) (bounds_in planned) planned.limits.steps from step word won;
+    }
+
+pub won_replays : WonWordsAreAsLong → WonWins → WonWordsAreAsLongFrom → WonWinsFrom → MoviesAreRead → ReplaysTell → AWonWordReplays
 unfolding outcome_of movie_of
-won_replays lengths wins read tell planned step word hold none won =
-    let ends = lengths (game_of planned.plan) (bounds_in planned) planned.limits.steps step word won in
+won_replays lengths wins lengths_from wins_from read tell planned step word hold ranges none won =
+    let by = won_from lengths wins lengths_from wins_from planned planned.saved step word ranges won in
     let plan = planned.plan in
-    let within : length word ≤ planned.limits.steps = omega (arith, ends.long, ends.within) in
-    let fits : length planned.plan.start + planned.plan.script.hold * planned.limits.steps ≤ 2 ^ 20 = (accepted planned.plan planned.limits none).movie in
+    let within : length word ≤ total_steps planned.limits planned.saved = omega (arith, by.within.long, by.within.within) in
+    let fits : length planned.plan.start + planned.plan.script.hold * total_steps planned.limits planned.saved ≤ 2 ^ 20 =
+    (accepted planned.plan planned.limits planned.saved none).movie in
     record {
-      long = ends.long;
+      long = by.within.long;
       short_enough = omega (arith, length-movie plan word, fits, mul-le-mul_left plan.script.hold within);
       read = (read plan.script.hold plan.start (movie_of plan word) word hold).1 refl;
-      replayed = tell plan word hold
-          ∙ ap Ok (won_as plan word step ends.long (won_by plan word (wins (game_of plan) (bounds_in planned) planned.limits.steps step word won)));
+      replayed = tell plan word hold ∙ ap Ok (won_as plan word step by.within.long (won_by plan word by.wins));
     }

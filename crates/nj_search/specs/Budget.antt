@@ -12,7 +12,8 @@ bytes_of plan words = words * (size_in plan + 16)
 
 -- the states of a full front take at most half of the budget
 abbrev pub FullFrontsTakeHalf : Type 0
-FullFrontsTakeHalf = (planned : Planned) → 2 * bytes_of planned.plan (let b : Bounds = bounds_in planned in b.most) ≤ planned.limits.budget
+FullFrontsTakeHalf = (planned : Planned)
+    → 2 * bytes_of planned.plan (let b : Bounds = bounds_in planned in b.most) ≤ planned.limits.budget
 
 -- in a step, the states of the front and of the words that are kept, the next front, take together at most the budget
 abbrev pub BothFrontsFit : Type 0

@@ -1,29 +1,44 @@
 -- How a search is begun, and what a step ends it with. All of it is this project's own.
-use Rattle.std.specs.Prelude.{◌≡◌, ℕ, ◌+◌, false, Option, Some, None}
+use Rattle.std.specs.Prelude.{◌≡◌, ℕ, ◌+◌, Bool, false, Option, Some, None}
+use Rattle.nj_saved.specs.declared.saved.Saved.{Saved}
 use Rattle.nj_expand.specs.declared.Stepped.{Stepped}
 use Rattle.nj_expand.specs.declared.Stepped.TheVariants.{Won, Exhausted, Go}
-use Rattle.nj_expand.specs.Held.{Held}
+use Rattle.nj_expand.specs.Held.{Held, opened}
+use Rattle.nj_expand.specs.Saving.{resumed}
 use Rattle.nj_expand.specs.Step.{IsStep}
-use Rattle.nj_search.specs.Plans.{Planned, bounds_in}
-use Rattle.nj_search.specs.Ends.{outcome_of, told_of}
+use Rattle.nj_search.specs.Plans.{Planned, bounds_in, steps_before}
+use Rattle.nj_search.specs.Ends.{outcome_of, answer_of, ended_of}
 use Rattle.nj_search.specs.Rests.{rest_of}
 use Rattle.nj_search.specs.declared.searching.Outcome.{Outcome}
 use Rattle.nj_search.specs.declared.searching.Outcome.TheVariants.{Exhausted as ToldExhausted}
+use Rattle.nj_search.specs.declared.searching.Ended.{Ended}
 use Rattle.nj_search.specs.declared.searching.Begun.{Begun}
-use Rattle.nj_search.specs.declared.searching.Begun.TheVariants.{Ended, Going}
+use Rattle.nj_search.specs.declared.searching.Begun.TheVariants.{Over, Going}
 
--- a planned search that goes on from its start: what is told of it at its limit of steps is told of the whole
+-- the search before its next step: its first one, or that behind the steps of its saved search
+abbrev pub held_from : Planned → Option Saved → Held
+held_from planned None = opened planned.plan (bounds_in planned)
+held_from planned (Some saved) = resumed planned.plan (bounds_in planned) saved
+
+-- the planned search before its next step
+unfoldable pub held_in : Planned → Held
+held_in planned = held_from planned planned.saved
+
+-- a planned search that goes on: what is left of it is its outcome
 pub record IsGoing (planned : Planned) (held : Held) : Type 0 where
   pub plan : held.plan ≡ planned.plan
   pub bounds : held.bounds ≡ bounds_in planned
   pub unspent : held.spent ≡ false
-  pub step : held.state.step ≡ 0
-  pub told : (outcome : Outcome) → told_of held.plan (rest_of held planned.limits.steps) ≡ outcome
-      → told_of planned.plan (outcome_of planned) ≡ outcome
+  pub step : held.state.step ≡ steps_before planned.saved
+  pub whole : outcome_of planned ≡ rest_of held planned.limits.steps
 
--- a planned search that was begun: ended with its outcome, or going on
+-- an outcome of which nothing is saved
+abbrev pub unsaved : Outcome → Ended
+unsaved outcome = record { outcome = outcome; saved = None }
+
+-- a planned search that was begun: over with its outcome, or going on
 abbrev pub IsBegun : Planned → Begun → Type 0
-IsBegun planned (Ended outcome) = told_of planned.plan (outcome_of planned) ≡ outcome
+IsBegun planned (Over outcome) = (keep : Bool) → ended_of planned keep ≡ unsaved outcome
 IsBegun planned (Going held) = IsGoing planned held
 
 -- the row of a step that was won is that of the search's winner
@@ -32,9 +47,9 @@ CanEnd (Won row) held = IsStep held (Won row) held
 CanEnd Exhausted held = Unit {0}
 CanEnd Go held = Unit {0}
 
--- the next step ends the search with this outcome, however many steps may follow
+-- the next step ends the search with this outcome, however many steps may follow, and nothing is saved
 abbrev pub EndsIn : Held → Outcome → Type 0
-EndsIn held outcome = (steps : ℕ) → told_of held.plan (rest_of held (steps + 1)) ≡ outcome
+EndsIn held outcome = (steps : ℕ) (keep : Bool) → answer_of held.plan keep (rest_of held (steps + 1)) ≡ unsaved outcome
 
 -- what is told of a step: the outcome of a step that was won, that nothing was kept, or nothing
 abbrev pub IsEnded : Stepped → Held → Option Outcome → Type 0

@@ -1,13 +1,19 @@
 //! The plan of a search, the cost of a word, and the refusals.
 
-ghost use Rattle.std.specs.Prelude.{◌≡◌, ◌≤◌, ◌+◌, ◌^◌, length, IfOk, MatchResult, Some, None};
+ghost use Rattle.std.specs.Prelude.{◌≡◌, ◌≤◌, ◌+◌, ◌^◌, Bool, length, is_some, IfOk, IfSome, MatchResult, Some, None};
 ghost use Rattle.nj_game.specs.Plan.{plan_of};
-ghost use Rattle.nj_expand.specs.Held.{bounds_of, opened};
-ghost use Rattle.nj_search.specs.Plans.{AreInRange, cost_of, most_of, refusals, first_refusal, refusal_of, bounds_in};
+ghost use Rattle.nj_saved.specs.Ranges.{IsInRange, Fits};
+ghost use Rattle.nj_expand.specs.Held.{bounds_of};
+ghost use Rattle.nj_search.specs.Plans.{AreInRange, cost_of, most_of, steps_before, words_before, refusals, first_refusal, refusal_of, bounds_in};
+ghost use Rattle.nj_search.specs.Ends.{outcome_of, saved_in, frames_before};
+ghost use Rattle.nj_search.specs.Starts.{held_in};
 
-use crate::{Cart, Movie, Script, Steps};
+use crate::{Cart, Movie, Saved, Script, Steps};
 use nj_expand::{Bounds, Search};
 use nj_movie::MOST_FRAMES;
+use nj_rules::{allowed_pads_come_once, keys_tell_bytes_and_status, levels_are_few};
+use nj_saved::generations_come_once;
+use nj_search_defs::{limits_are_sound, limits_have_fronts, limits_have_fronts_from};
 use std::alloc::{AllocError, Global};
 use std::marker::Model;
 use std::sync::ledger::Ledger;
@@ -24,7 +30,7 @@ const MOST_WORDS: u64 = 1_048_576;
 pub struct Limits {
     /// The bytes that the states of the old and the new front may take together: 1 to 2,147,483,648.
     pub budget: u64,
-    /// The most steps: 1 to 16,777,215.
+    /// The most steps, behind those of a saved search: 1 to 16,777,215.
     pub steps: u32,
     /// The seen keys have 2 to this power of slots: 10 to 25.
     pub exponent: u32,
@@ -45,10 +51,13 @@ pub enum PlanRefused {
     /// A movie of the search may have more frames than the limit, 2^20.
     #[error("{frames} frames exceed the limit {limit}")]
     MovieTooLong { frames: u64, limit: u64 },
+    /// The front of the saved search has more words than the budget pays for.
+    #[error("{front} words of the saved front exceed the bound {bound}")]
+    FrontTooLong { front: u64, bound: u64 },
 }
 
-/// The bytes of the budget that a word of a front takes, in the old front and in the new one together: 8,992 with CHR ROM,
-/// 25,376 with CHR RAM.
+/// The bytes of the budget that a word of a front takes, in the old front and in the new one together: 8,992 with CHR
+/// ROM, 25,376 with CHR RAM.
 #[tactic(auto, unfolding(crate::specs::Plans::cost_of))]
 pub fn cost(cart: &Cart) -> u64
     ensures cost { result ≡ cost_of cart.now }
@@ -67,11 +76,41 @@ fn most(cart: &Cart, limits: Limits) -> u64
     (limits.budget / cost(cart)).min(MOST_WORDS)
 }
 
+// The steps that a saved search has made.
+fn made_before(saved: &Option<Saved>) -> u32
+    requires { IfSome saved.now IsInRange }
+    ensures steps { result ≡ steps_before saved.now }
+    ensures within { result ≤ 16777215 }
+{
+    match saved {
+        None => 0,
+        Some(saved) => saved.step,
+    }
+}
+
+// The words of a saved front.
+fn front_before(saved: &Option<Saved>) -> u64
+    requires { IfSome saved.now IsInRange }
+    ensures { result ≡ words_before saved.now }
+{
+    match saved {
+        None => 0,
+        Some(saved) => (saved.words.len() / saved.step as usize) as u64,
+    }
+}
+
 // The first refusal of a plan, if there is one.
 #[tactic(auto, unfolding(crate::specs::Plans::refusals, crate::specs::Plans::refusal_of))]
-fn refusal(cart: &Cart, script: &Script, start: &Movie, limits: Limits) -> Option<PlanRefused>
-    requires { AreInRange limits }
-    ensures { result ≡ refusal_of (plan_of cart.now script.now start.now) limits }
+fn refusal(
+    cart: &Cart,
+    script: &Script,
+    start: &Movie,
+    limits: Limits,
+    saved: &Option<Saved>,
+) -> Option<PlanRefused>
+    requires limits { AreInRange limits }
+    requires saved { IfSome saved.now IsInRange }
+    ensures { result ≡ refusal_of (plan_of cart.now script.now start.now) limits saved.now }
 {
     let budget = limits.budget;
     let cost = cost(cart);
@@ -84,7 +123,8 @@ fn refusal(cart: &Cart, script: &Script, start: &Movie, limits: Limits) -> Optio
     if need > slots {
         return Some(PlanRefused::SeenTooSmall { need, slots });
     }
-    let rows = most * u64::from(limits.steps);
+    let steps = u64::from(limits.steps) + u64::from(made_before(saved));
+    let rows = most * steps;
     if rows > MOST_ROWS {
         return Some(PlanRefused::TrailTooLong {
             rows,
@@ -92,46 +132,60 @@ fn refusal(cart: &Cart, script: &Script, start: &Movie, limits: Limits) -> Optio
         });
     }
     let limit = MOST_FRAMES as u64;
-    let frames = start.pads().len() as u64 + u64::from(script.hold()) * u64::from(limits.steps);
+    let frames = start.pads().len() as u64 + u64::from(script.hold()) * steps;
     if frames > limit {
         return Some(PlanRefused::MovieTooLong { frames, limit });
+    }
+    let front = front_before(saved);
+    if front > most {
+        return Some(PlanRefused::FrontTooLong { front, bound: most });
     }
     None
 }
 
-/// A search that may run: what it is played on and its limits, of which nothing is refused.
+/// A search that may run: what it is played on, its limits, and the saved search that it goes on from, if there is one.
+/// Of all these nothing is refused.
 #[derive(Drop)]
 pub struct Plan {
     cart: Cart,
     script: Script,
     start: Movie,
     limits: Limits,
+    saved: Option<Saved>,
 }
 
 impl Model for Plan {
-    ghost use Rattle.std.specs.Prelude.{◌≡◌, None};
+    ghost use Rattle.std.specs.Prelude.{◌≡◌, IfSome, None};
     ghost use Rattle.nj_game.specs.Plan.{plan_of};
+    ghost use Rattle.nj_saved.specs.Ranges.{IsInRange, Fits};
     ghost use Rattle.nj_search.specs.Plans.{Planned, AreInRange, refusal_of};
 
     ghost Value = { Planned };
 
-    ghost view = { λ p. record { plan = plan_of p.cart p.script p.start; limits = p.limits } };
+    ghost view = { λ p. record { plan = plan_of p.cart p.script p.start; limits = p.limits; saved = p.saved } };
 
-    ghost invariant = { λ p. AreInRange p.limits × (refusal_of (plan_of p.cart p.script p.start) p.limits ≡ None) };
+    ghost invariant = { λ p. AreInRange p.limits × IfSome p.saved IsInRange × IfSome p.saved Fits
+        × (refusal_of (plan_of p.cart p.script p.start) p.limits p.saved ≡ None) };
 }
 
 impl Plan {
-    /// The plan of these, or its first refusal.
+    /// The plan of these, or its first refusal. The numbers of the two files in a saved search are not looked at.
     pub fn new(
         cart: Cart,
         script: Script,
         start: Movie,
         limits: Limits,
+        saved: Option<Saved>,
     ) -> Result<Plan, PlanRefused>
-        requires { AreInRange limits }
-        ensures { MatchResult result (λ plan. (refusal_of (plan_of cart script start) limits ≡ None) × (plan ≡ record { plan = plan_of cart script start; limits = limits })) (λ refused. refusal_of (plan_of cart script start) limits ≡ Some refused) }
+        requires limits { AreInRange limits }
+        requires saved { IfSome saved IsInRange }
+        requires fits { IfSome saved Fits }
+        ensures { MatchResult result
+            (λ plan. (refusal_of (plan_of cart script start) limits saved ≡ None)
+            × (plan ≡ record { plan = plan_of cart script start; limits = limits; saved = saved }))
+            (λ refused. refusal_of (plan_of cart script start) limits saved ≡ Some refused) }
     {
-        if let Some(refused) = refusal(&cart, &script, &start, limits) {
+        if let Some(refused) = refusal(&cart, &script, &start, limits, &saved) {
             return Err(refused);
         }
         Ok(Plan {
@@ -139,33 +193,69 @@ impl Plan {
             script,
             start,
             limits,
+            saved,
         })
     }
 
     /// The most steps.
     pub(crate) fn steps(&self) -> u32
         ensures steps { result ≡ self.now.limits.steps }
-        ensures within { result ≤ 16777215 }
+        ensures within { steps_before self.now.saved + result ≤ 16777215 }
     {
+        let _hold = self.script.hold();
         self.limits.steps
     }
 
-    /// The search before its first step: the start movie is run.
+    /// Whether the search goes on from a saved one.
+    pub(crate) fn goes_on(&self) -> bool
+        ensures { result ≡ is_some self.now.saved }
+    {
+        self.saved.is_some()
+    }
+
+    // Law: what is saved of its search is in its ranges.
+    pub(crate) fn saves_in_range(&self)
+        ensures { (keep : Bool) → IfSome (saved_in keep (outcome_of self.now)) IsInRange }
+    {
+        allowed_pads_come_once();
+        keys_tell_bytes_and_status();
+        levels_are_few();
+        limits_are_sound();
+        limits_have_fronts();
+        limits_have_fronts_from();
+        generations_come_once();
+        let _hold = self.script.hold();
+        let _tolerance = self.script.tolerance();
+        let _inputs = self.script.input_count();
+        let _rules = self.script.rule_count();
+    }
+
+    /// The search before its next step: the start movie is run, and the words of a saved search.
     #[tactic(auto, unfolding(crate::specs::Plans::bounds_in, nj_expand::specs::Held::bounds_of))]
     pub(crate) fn open<L: Ledger>(
         self,
         alloc: Global,
         steps: &mut Steps<L>,
     ) -> Result<Search, AllocError>
-        ensures opened { IfOk result (λ search. search ≡ opened self.plan (bounds_in self)) }
-        ensures frames { steps.new ≤ steps.old + length self.plan.start }
+        ensures opened { IfOk result (λ search. search ≡ held_in self) }
+        ensures frames { steps.new ≤ steps.old + frames_before self }
         ensures never_falls { steps.old ≤ steps.new }
     {
+        let Plan {
+            cart,
+            script,
+            start,
+            limits,
+            saved,
+        } = self;
         let bounds = Bounds {
-            front: most(&self.cart, self.limits),
-            exponent: self.limits.exponent,
-            inputs: self.script.input_count(),
+            front: most(&cart, limits),
+            exponent: limits.exponent,
+            inputs: script.input_count(),
         };
-        Search::start(alloc, self.cart, self.script, self.start, bounds, steps)
+        match saved {
+            None => Search::start(alloc, cart, script, start, bounds, steps),
+            Some(saved) => { Search::from_saved(alloc, cart, script, start, bounds, &saved, steps) }
+        }
     }
 }

@@ -1,14 +1,16 @@
 //! The search of a plan, and its outcome.
 
-ghost use Rattle.std.specs.Prelude.{◌≡◌, ◌≤◌, ◌<◌, ◌+◌, ◌*◌, ◌++◌, ℕ, false, length, replicate, IfOk, IfSome, IfNone, OnOk};
+ghost use Rattle.std.specs.Prelude.{◌≡◌, ◌≤◌, ◌<◌, ◌+◌, ◌*◌, ◌++◌, ℕ, false, None, length, replicate, IfOk, IfSome, IfNone, OnOk};
 ghost use Rattle.nj_search_defs.specs.Outcome.{LimitAt};
+ghost use Rattle.nj_saved.specs.Ranges.{IsInRange};
 ghost use Rattle.nj_expand.specs.declared.Stepped.{Stepped};
 ghost use Rattle.nj_expand.specs.Step.{IsStep};
-ghost use Rattle.nj_search.specs.Ends.{outcome_of, told_of, frames_most};
+ghost use Rattle.nj_search.specs.Plans.{Planned};
+ghost use Rattle.nj_search.specs.Ends.{saved_in, answer_of, ended_of, frames_before, frames_most};
 ghost use Rattle.nj_search.specs.Rests.{rest_of, frames_a_step, IsFurther};
-ghost use Rattle.nj_search.specs.Starts.{CanEnd, EndsIn, IsBegun, IsEnded};
+ghost use Rattle.nj_search.specs.Starts.{unsaved, held_in, CanEnd, EndsIn, IsBegun, IsEnded};
 
-use crate::{Movie, Plan, Steps};
+use crate::{Movie, Plan, Saved, Steps};
 use nj_expand::{Judged, Row, Search, Stepped};
 use nj_pad::Pad;
 use nj_rules::{Verdict, allowed_pads_come_once};
@@ -73,6 +75,34 @@ impl Outcome {
     }
 }
 
+/// What a search answers.
+#[derive(Drop)]
+pub struct Ended {
+    /// How it ended.
+    pub outcome: Outcome,
+    /// Its state at the limit, where this was to be kept. The numbers of the two files are 0.
+    pub saved: Option<Saved>,
+}
+
+impl Ended {
+    // An end with what is saved of it.
+    fn with_saved(outcome: Outcome, saved: Option<Saved>) -> Ended
+        ensures { result ≡ record { outcome = outcome; saved = saved } }
+    {
+        Ended { outcome, saved }
+    }
+
+    // An end of which nothing is saved.
+    pub(crate) fn unsaved(outcome: Outcome) -> Ended
+        ensures { result ≡ unsaved outcome }
+    {
+        Ended {
+            outcome,
+            saved: None,
+        }
+    }
+}
+
 // One more pad, held for the frames of a step.
 fn hold_pad(movie: &mut Movie, hold: u32, pad: Pad) -> Result<(), AllocError>
     ensures { OnOk result (movie.new ≡ movie.old ++ replicate hold pad) }
@@ -99,19 +129,33 @@ fn won(alloc: Global, search: &Search, row: &Row) -> Result<Outcome, AllocError>
     Ok(Outcome::won_by(search.step() + 1, row, movie))
 }
 
-// The outcome of a search at its limit, by the front's first word.
-pub(crate) fn at_limit(alloc: Global, search: &Search) -> Result<Outcome, AllocError>
+// What is saved of a search at its limit, where it is to be kept.
+fn saved_at(alloc: Global, search: &Search, keep: bool) -> Result<Option<Saved>, AllocError>
     requires spent { search.now.spent ≡ false }
-    ensures { IfOk result (λ outcome. told_of search.now.plan (LimitAt search.now.state) ≡ outcome) }
+    ensures { IfOk result (λ saved. saved ≡ saved_in keep (LimitAt search.now.state)) }
+{
+    if keep {
+        Ok(Some(search.save(alloc)?))
+    } else {
+        Ok(None)
+    }
+}
+
+// What a search answers at its limit, by the front's first word.
+pub(crate) fn at_limit(alloc: Global, search: &Search, keep: bool) -> Result<Ended, AllocError>
+    requires spent { search.now.spent ≡ false }
+    ensures { IfOk result (λ ended. answer_of search.now.plan keep (LimitAt search.now.state) ≡ ended) }
 {
     let _words = search.front_len();
     let best = search.judged(0);
     let movie = search.movie(alloc, 0)?;
-    Ok(Outcome::limited(search.step(), best, movie))
+    let saved = saved_at(alloc, search, keep)?;
+    let outcome = Outcome::limited(search.step(), best, movie);
+    Ok(Ended::with_saved(outcome, saved))
 }
 
 // What a step ends the search with, if it ends it.
-pub(crate) fn ended(
+pub(crate) fn outcome_after(
     alloc: Global,
     search: &Search,
     stepped: Stepped,
@@ -145,7 +189,7 @@ fn step_on<L: Ledger>(
 {
     steps_are_counted();
     let stepped = next_single(search, alloc, steps)?;
-    ended(alloc, search, stepped)
+    outcome_after(alloc, search, stepped)
 }
 
 // So many steps at most.
@@ -153,65 +197,97 @@ fn search_on<L: Ledger>(
     alloc: Global,
     mut search: Search,
     limit: u32,
+    keep: bool,
     steps: &mut Steps<L>,
-) -> Result<Outcome, AllocError>
+) -> Result<Ended, AllocError>
     requires spent { search.spent ≡ false }
     requires limit { search.state.step + limit ≤ 16777215 }
-    ensures outcome { IfOk result (λ outcome. told_of search.plan (rest_of search limit) ≡ outcome) }
+    ensures ended { IfOk result (λ ended. answer_of search.plan keep (rest_of search limit) ≡ ended) }
     ensures frames { steps.new ≤ steps.old + frames_a_step search * limit }
     ensures never_falls { steps.old ≤ steps.new }
 {
     for _made in 0..limit {
         if let Some(outcome) = step_on(alloc, &mut search, steps)? {
-            return Ok(outcome);
+            return Ok(Ended::unsaved(outcome));
         }
     }
-    at_limit(alloc, &search)
+    at_limit(alloc, &search, keep)
 }
 
-// A search that was begun: it ended at its start, or goes on.
+// A search that was begun: it is over at its start, or goes on.
 #[derive(Drop)]
 pub(crate) enum Begun {
-    Ended(Outcome),
+    Over(Outcome),
     Going(Search),
 }
 
-// Begins the search: the start movie is run, and may win or fail.
-pub(crate) fn begin<L: Ledger>(
-    alloc: Global,
-    plan: Plan,
-    steps: &mut Steps<L>,
-) -> Result<Begun, AllocError>
-    ensures begun { IfOk result (λ begun. IsBegun plan begun) }
-    ensures frames { steps.new ≤ steps.old + length plan.plan.start }
-    ensures never_falls { steps.old ≤ steps.new }
+// Judges the start of a search that is before its first step: it may win or fail.
+fn judge_start(alloc: Global, search: Search) -> Result<Begun, AllocError>
+    requires { search.spent ≡ false }
+    ensures { IfOk result (λ begun. (planned : Planned) → planned.saved ≡ None → search ≡ held_in planned
+        → IsBegun planned begun) }
 {
-    let search = plan.open(alloc, steps)?;
     let _words = search.front_len();
     let first = search.judged(0);
     match first.verdict {
         Verdict::Go => Ok(Begun::Going(search)),
         Verdict::Win => {
             let movie = search.movie(alloc, 0)?;
-            Ok(Begun::Ended(Outcome::won_at_once(first, movie)))
+            Ok(Begun::Over(Outcome::won_at_once(first, movie)))
         }
-        Verdict::Fail => Ok(Begun::Ended(Outcome::Exhausted { step: 0 })),
+        Verdict::Fail => Ok(Begun::Over(Outcome::Exhausted { step: 0 })),
     }
 }
 
-/// Searches as planned, by one thread.
-pub fn search_plain<L: Ledger>(
+// Begins the search: from its start, which may win or fail, or from its saved search.
+pub(crate) fn begin<L: Ledger>(
     alloc: Global,
     plan: Plan,
     steps: &mut Steps<L>,
-) -> Result<Outcome, AllocError>
-    ensures outcome { IfOk result (λ outcome. told_of plan.plan (outcome_of plan) ≡ outcome) }
+) -> Result<Begun, AllocError>
+    ensures begun { IfOk result (λ begun. IsBegun plan begun) }
+    ensures frames { steps.new ≤ steps.old + frames_before plan }
+    ensures never_falls { steps.old ≤ steps.new }
+{
+    let goes_on = plan.goes_on();
+    let search = plan.open(alloc, steps)?;
+    if goes_on {
+        Ok(Begun::Going(search))
+    } else {
+        judge_start(alloc, search)
+    }
+}
+
+// Searches as planned.
+fn search_planned<L: Ledger>(
+    alloc: Global,
+    plan: Plan,
+    keep: bool,
+    steps: &mut Steps<L>,
+) -> Result<Ended, AllocError>
+    ensures ended { IfOk result (λ ended. ended ≡ ended_of plan keep) }
     ensures frames { steps.new ≤ steps.old + frames_most plan }
     ensures never_falls { steps.old ≤ steps.new }
 {
     let limit = plan.steps();
     match begin(alloc, plan, steps)? {
-        Begun::Ended(outcome) => Ok(outcome),
-        Begun::Going(search) => search_on(alloc, search, limit, steps),
+        Begun::Over(outcome) => Ok(Ended::unsaved(outcome)),
+        Begun::Going(search) => search_on(alloc, search, limit, keep, steps),
     }
+}
+
+/// Searches as planned, by one thread. At the limit the state is saved, where it is to be kept.
+pub fn search_plain<L: Ledger>(
+    alloc: Global,
+    plan: Plan,
+    keep: bool,
+    steps: &mut Steps<L>,
+) -> Result<Ended, AllocError>
+    ensures ended { IfOk result (λ ended. ended ≡ ended_of plan keep) }
+    ensures saved { IfOk result (λ ended. IfSome ended.saved IsInRange) }
+    ensures frames { steps.new ≤ steps.old + frames_most plan }
+    ensures never_falls { steps.old ≤ steps.new }
+{
+    plan.saves_in_range();
+    search_planned(alloc, plan, keep, steps)
 }

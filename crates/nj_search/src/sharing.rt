@@ -3,12 +3,13 @@
 ghost use Rattle.std.specs.Prelude.{◌≡◌, ◌≤◌, ◌<◌, ◌+◌, ◌*◌, ℕ, false, length, IfOk, IfSome, IfNone};
 ghost use Rattle.nj_expand.specs.Held.{candidates_in, kept_in};
 ghost use Rattle.nj_workers.specs.Counted.{AreCounted};
-ghost use Rattle.nj_search.specs.Ends.{outcome_of, told_of, frames_most};
+ghost use Rattle.nj_saved.specs.Ranges.{IsInRange};
+ghost use Rattle.nj_search.specs.Ends.{answer_of, ended_of, frames_before, frames_most};
 ghost use Rattle.nj_search.specs.Rests.{rest_of, frames_a_step, IsFurther};
 ghost use Rattle.nj_search.specs.Starts.{EndsIn, IsBegun};
 
-use crate::searching::{Begun, at_limit, begin, ended};
-use crate::{Gate, Outcome, Plan, Steps};
+use crate::searching::{Begun, at_limit, begin, outcome_after};
+use crate::{Ended, Gate, Outcome, Plan, Steps};
 use nj_expand::{Search, a_step_is_bounded};
 use nj_search_defs::steps_are_counted;
 use nj_workers::next_shared;
@@ -25,7 +26,7 @@ fn begin_first<L: Ledger>(
 ) -> Result<Begun, AllocError>
     requires { 0 < length steps.old.items }
     ensures begun { IfOk result (λ begun. IsBegun plan begun) }
-    ensures frames { AreCounted 1 steps.old.items steps.new.items (length plan.plan.start) }
+    ensures frames { AreCounted 1 steps.old.items steps.new.items (frames_before plan) }
 {
     begin(alloc, plan, &mut steps[0])
 }
@@ -60,7 +61,7 @@ fn step_shared<R: Threads + Wait + Sync, G: Gate, L: Ledger + Send>(
     steps_are_counted();
     frames_are_bounded(search);
     let stepped = next_shared(rt, search, alloc, workers, gate, steps)?;
-    ended(alloc, search, stepped)
+    outcome_after(alloc, search, stepped)
 }
 
 // So many steps at most.
@@ -69,43 +70,65 @@ fn share_on<R: Threads + Wait + Sync, G: Gate, L: Ledger + Send>(
     alloc: Global,
     mut search: Search,
     limit: u32,
+    keep: bool,
     workers: u32,
     gate: &G,
     steps: &mut Vec<Steps<L>>,
-) -> Result<Outcome, AllocError>
+) -> Result<Ended, AllocError>
     requires spent { search.spent ≡ false }
     requires limit { search.state.step + limit ≤ 16777215 }
     requires workers { (1 ≤ workers) × (workers ≤ 64) }
     requires counters { workers ≤ length steps.old.items }
-    ensures outcome { IfOk result (λ outcome. told_of search.plan (rest_of search limit) ≡ outcome) }
+    ensures ended { IfOk result (λ ended. answer_of search.plan keep (rest_of search limit) ≡ ended) }
     ensures frames { AreCounted workers steps.old.items steps.new.items (frames_a_step search * limit) }
 {
     for _made in 0..limit {
         if let Some(outcome) = step_shared(rt, alloc, &mut search, workers, gate, steps)? {
-            return Ok(outcome);
+            return Ok(Ended::unsaved(outcome));
         }
     }
-    at_limit(alloc, &search)
+    at_limit(alloc, &search, keep)
 }
 
-/// Searches as planned, by so many workers, from 1 to 64, each with the counter at its place. The outcome is that of
+// Searches as planned.
+fn share_planned<R: Threads + Wait + Sync, G: Gate, L: Ledger + Send>(
+    rt: &R,
+    alloc: Global,
+    plan: Plan,
+    keep: bool,
+    workers: u32,
+    gate: &G,
+    steps: &mut Vec<Steps<L>>,
+) -> Result<Ended, AllocError>
+    requires workers { (1 ≤ workers) × (workers ≤ 64) }
+    requires counters { workers ≤ length steps.old.items }
+    ensures ended { IfOk result (λ ended. ended ≡ ended_of plan keep) }
+    ensures frames { AreCounted workers steps.old.items steps.new.items (frames_most plan) }
+{
+    let limit = plan.steps();
+    match begin_first(alloc, plan, steps)? {
+        Begun::Over(outcome) => Ok(Ended::unsaved(outcome)),
+        Begun::Going(search) => share_on(rt, alloc, search, limit, keep, workers, gate, steps),
+    }
+}
+
+/// Searches as planned, by so many workers, from 1 to 64, each with the counter at its place. The answer is that of
 /// [`crate::search_plain`].
 pub fn search_shared<R: Threads + Wait + Sync, G: Gate, L: Ledger + Send>(
     rt: &R,
     alloc: Global,
     plan: Plan,
+    keep: bool,
     workers: u32,
     gate: &G,
     steps: &mut Vec<Steps<L>>,
-) -> Result<Outcome, AllocError>
+) -> Result<Ended, AllocError>
     requires workers { (1 ≤ workers) × (workers ≤ 64) }
     requires counters { workers ≤ length steps.old.items }
-    ensures outcome { IfOk result (λ outcome. told_of plan.plan (outcome_of plan) ≡ outcome) }
+    ensures ended { IfOk result (λ ended. ended ≡ ended_of plan keep) }
+    ensures saved { IfOk result (λ ended. IfSome ended.saved IsInRange) }
     ensures frames { AreCounted workers steps.old.items steps.new.items (frames_most plan) }
 {
-    let limit = plan.steps();
-    match begin_first(alloc, plan, steps)? {
-        Begun::Ended(outcome) => Ok(outcome),
-        Begun::Going(search) => share_on(rt, alloc, search, limit, workers, gate, steps),
-    }
+    plan.saves_in_range();
+    share_planned(rt, alloc, plan, keep, workers, gate, steps)
 }

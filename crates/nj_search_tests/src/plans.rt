@@ -10,7 +10,7 @@ use std::test::Fail;
 fn refused(cart: Cart, script: Script, start: Movie, limits: Limits) -> Option<PlanRefused>
     requires { AreInRange limits }
 {
-    Plan::new(cart, script, start, limits).err()
+    Plan::new(cart, script, start, limits, None).err()
 }
 
 // What is refused of a plan on the walking cartridge behind three frames.

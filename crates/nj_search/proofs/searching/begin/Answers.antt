@@ -1,23 +1,22 @@
-use Rattle.std.proofs.Common.{sym, ◌∙◌}
-use Rattle.nj_search.proofs.Going.{begun, going, start_wins, start_fails}
+use Rattle.std.proofs.Common.{◌≡◌, sym, ◌∙◌}
+use Rattle.std.specs.Prelude.{None}
+use Rattle.std.proofs.lemmas.Result.{IfOk-weaker}
+use Rattle.nj_search.specs.Plans.{Planned}
+use Rattle.nj_search.specs.Starts.{held_in, IsBegun}
+use Rattle.nj_search.proofs.Going.{goes_on, starts, unspent_in}
 use Rattle.nj_search.proofs.searching.begin.Goals as goal
 
-pub judged-first-requires-clause-spent : goal.judged-first-requires-clause-spent
-judged-first-requires-clause-spent g c = (begun c.args.plan _ c.in_ok-search.ensures.opened).unspent
+pub returns-then-goes_on-clause-begun : goal.returns-then-goes_on-clause-begun
+returns-then-goes_on-clause-begun g c =
+    goes_on c.args.plan c.in_ok-search.search (sym c.goes_on-goes_on.ensures ∙ c.if-goes_on.true) c.in_ok-search.ensures.opened
 
-pub movie-requires-clause-spent : goal.movie-requires-clause-spent
-movie-requires-clause-spent g c = (begun c.args.plan _ c.in_ok-search.ensures.opened).unspent
+pub judge_start-requires : goal.judge_start-requires
+judge_start-requires g c = unspent_in c.args.plan c.in_ok-search.search c.in_ok-search.ensures.opened
 
-pub returns-in-Go-clause-begun : goal.returns-in-Go-clause-begun
-returns-in-Go-clause-begun g c =
-    going c.args.plan c.in_ok-search.search c.judged-first.result c.in_ok-search.ensures.opened c.judged-first.ensures.judged c.in-Go.is
-
-pub returns-in_ok-movie-in-Win-clause-begun : goal.returns-in_ok-movie-in-Win-clause-begun
-returns-in_ok-movie-in-Win-clause-begun g c =
-    start_wins c.args.plan _ c.judged-first.result c.in_ok-movie-in-Win.movie (begun c.args.plan _ c.in_ok-search.ensures.opened)
-    c.judged-first.ensures.judged c.in-Win.is c.in_ok-movie-in-Win.ensures
-    ∙ sym c.won_at_once.ensures
-
-pub returns-in-Fail-clause-begun : goal.returns-in-Fail-clause-begun
-returns-in-Fail-clause-begun g c =
-    start_fails c.args.plan _ c.judged-first.result (begun c.args.plan _ c.in_ok-search.ensures.opened) c.judged-first.ensures.judged c.in-Fail.is
+pub returns-else-goes_on-clause-begun : goal.returns-else-goes_on-clause-begun
+returns-else-goes_on-clause-begun g c =
+    IfOk-weaker c.judge_start.result
+    (λ begun. (planned : Planned) → planned.saved ≡ None → c.in_ok-search.search ≡ held_in planned → IsBegun planned begun)
+    (λ begun. IsBegun c.args.plan begun)
+    (λ begun is. is c.args.plan (starts c.args.plan (sym c.goes_on-goes_on.ensures ∙ c.if-goes_on.false)) c.in_ok-search.ensures.opened)
+    c.judge_start.ensures
