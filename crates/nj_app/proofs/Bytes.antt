@@ -1,5 +1,5 @@
 -- The pads of a word that wins a search are bytes, where those of the start and of the script are.
-use Rattle.std.proofs.Common.{◌≡◌, ◌<◌, ◌+◌, ◌*◌, ℕ, zero, suc, Bool, true, false, cond, List, [], ◌∷◌, ◌++◌, replicate, Option, Some, None, refl, sym, subst}
+use Rattle.std.proofs.Common.{◌≡◌, ◌<◌, ◌+◌, ◌*◌, ℕ, zero, suc, Bool, true, false, cond, List, [], ◌∷◌, ◌++◌, replicate, Option, Some, None, refl, sym, ap, ◌∙◌, subst}
 use Rattle.std.specs.List.{All}
 use Rattle.std.proofs.lemmas.List.Elements.{All-append, All-cons, All-contains, All-filter, All-head, All-nil, All-replicate, All-tail, All-weaker}
 use Rattle.nj_game.specs.Plan.{Plan, held_pads, movie_of}
@@ -11,7 +11,7 @@ use Rattle.nj_search_defs.specs.Game.{Bounds, Fail, Game, Go, Verdict, Win, Word
 use Rattle.nj_search_defs.specs.Laws.{IsChild, ParentsStoodBefore, WinnerIsBest}
 use Rattle.nj_search_defs.specs.Outcome.{Exhausted, ExhaustedAt, Goes, LimitAt, Next, Outcome, State, Won, WonAt, exhausted_or, judged_first, kept_of, lives_of, next, opening, outcome, searched, state_after, then_go_on, won_or}
 use Rattle.nj_search_defs.specs.Pruning.{live, winner}
-use Rattle.nj_search.specs.Ends.{outcome_of}
+use Rattle.nj_search.specs.Ends.{outcome_from, outcome_of}
 use Rattle.nj_search.specs.Plans.{Planned, bounds_in}
 
 -- each number is a byte
@@ -165,13 +165,13 @@ held_bytes hold (pad ∷ word) all =
     (All-replicate (λ p. p < 256) hold pad (All-head (λ p. p < 256) pad word all))
     (held_bytes hold word (All-tail (λ p. p < 256) pad word all))
 
--- the movie of a word that wins a planned search is of bytes
+-- the movie of a word that wins a planned search from its start is of bytes
 pub won_movie_bytes : ParentsStoodBefore → WinnerIsBest → (planned : Planned) (step : ℕ) (word : Word) →
-    outcome_of planned ≡ WonAt step word →
+    planned.saved ≡ None → outcome_of planned ≡ WonAt step word →
     AreBytes planned.plan.start → SetsAreBytes planned.plan.script.inputs.sets → AreBytes (movie_of planned.plan word)
 unfolding outcome_of movie_of
-won_movie_bytes parents best planned step word won start sets =
+won_movie_bytes parents best planned step word none won start sets =
     All-append (λ p. p < 256) planned.plan.start (held_pads planned.plan.script.hold word) start
     (held_bytes planned.plan.script.hold word
     (won_bytes parents best (game_of planned.plan) (λ w. allowed_bytes planned.plan w sets) (bounds_in planned)
-    planned.limits.steps step word won))
+    planned.limits.steps step word (sym (ap (outcome_from planned) none) ∙ won)))

@@ -1,6 +1,5 @@
 pub mod Bytes
 pub mod Counters
-pub mod Digits
 pub mod Lines
 pub mod Readers
 pub mod Searching

@@ -4,7 +4,7 @@ use Rattle.std.proofs.lemmas.Bool.Decides.{nat_tests}
 use Rattle.nj_outside.specs.Fnv.{fnv_of}
 use Rattle.nj_outside.specs.Told.{Files}
 use Rattle.nj_app.specs.Formats.{FileFormat, loaded, made, names_of, reading_of}
-use Rattle.nj_app.specs.Refusals.{too_long}
+use Rattle.nj_texts.specs.Refusals.{too_long}
 use Rattle.nj_app.specs.Stops.{Ends, IsRefusal, Leads, Loads, Reads}
 use Rattle.nj_app.specs.Work.{Work, Reaches, given}
 use Rattle.nj_app.specs.declared.stops.Stop.{Stop}

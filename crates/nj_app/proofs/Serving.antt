@@ -1,15 +1,16 @@
 -- How one thing that was read leads on to the next, and to a reply.
-use Rattle.std.proofs.Common.{◌≡◌, ◌+◌, ◌≤◌, ◌++◌, ℕ, List, map, Contains, Some, Result, Ok, Err, ◌⊎◌, inl, inr, refl, sym, ◌∙◌, subst}
+use Rattle.std.proofs.Common.{◌≡◌, ◌+◌, ◌≤◌, ◌++◌, ℕ, List, map, Contains, Option, Some, Result, Ok, Err, ◌⊎◌, inl, inr, refl, sym, ◌∙◌, subst, arith}
 use Rattle.std.proofs.lemmas.List.{map-append}
 use Rattle.std.proofs.lemmas.List.Elements.{Contains-append_left, Contains-append_right}
 use Rattle.nj_outside.specs.Fnv.{fnv_of}
 use Rattle.nj_outside.specs.Told.{Files}
 use Rattle.nj_workers.specs.Counted.{AreCounted}
 use Rattle.nj_app.specs.Answer.{frames_of}
-use Rattle.nj_app.specs.Refusals.{refusal_line}
+use Rattle.nj_texts.specs.Refusals.{refusal_line}
+use Rattle.nj_texts.specs.declared.kinds.Kind.{Kind}
 use Rattle.nj_app.specs.Stops.{Ends, Leads, Loads, Reads, Replies, Serves}
-use Rattle.nj_app.specs.Work.{Work, Done, accepted, both, done, frames_for, given}
-use Rattle.nj_app.specs.declared.stops.Kind.{Kind}
+use Rattle.nj_app.specs.Work.{Work, Done, accepted, done, frames_for, given, refusal_told, value_told}
+use Rattle.nj_app.specs.declared.stops.Put.{Put}
 use Rattle.nj_app.specs.declared.stops.Reply.{Reply}
 use Rattle.nj_app.specs.declared.stops.Stop.{Stop}
 use Rattle.nj_app.specs.declared.stops.Stop.TheVariants as stops
@@ -42,29 +43,37 @@ ends_free files work failed stop e = subst (λ s. Ends files work failed s) (sym
 
 -- ---- what was loaded
 
-module _ {A B : Type 0} (files : Files) (first : (A → Work) → Work) (second : (B → Work) → Work) where
+module _ {A B : Type 0} (files : Files) (first : (A → Work) → Work) (second : A → (B → Work) → Work) where
   -- a stop of the first
-  pub both_ends : (failed : ℕ) (stop : Stop) (result : Result (A × B) Stop) → result ≡ Err stop →
-      Loads files first failed (Err stop) →
-      Loads files (both first second) failed result
+  pub first_stops : (failed : ℕ) (stop : Stop) (result : Result B Stop) → result ≡ Err stop →
+      Loads files first failed (Err stop) → Loads files (λ next. first (λ a. second a next)) failed result
   unfolding Loads
-  both_ends failed stop result e h = rw e (λ next. h (λ a. second (λ b. next (a, b))))
+  first_stops failed stop result e h = rw e (λ next. h (λ a. second a next))
 
-  -- a stop of the second
-  pub both_stops : (before failed : ℕ) (a : A) (stop : Stop) (result : Result (A × B) Stop) → result ≡ Err stop →
-      Loads files first before (Ok a) → Loads files second failed (Err stop) →
-      Loads files (both first second) failed result
+  -- behind what the first loaded the second loads its own
+  pub then_loads : (before failed : ℕ) (a : A) (result : Result B Stop) → Loads files first before (Ok a) →
+      Loads files (second a) failed result → Loads files (λ next. first (λ a. second a next)) failed result
   unfolding Loads
-  both_stops before failed a stop result e h k =
-      rw e (λ next. ends_then files _ _ failed stop (h (λ a. second (λ b. next (a, b)))) (k (λ b. next (a, b))))
+  then_loads before failed a (Ok value) h k = λ next. leads_then files _ _ _ (h (λ a. second a next)) (k next)
+  then_loads before failed a (Err stop) h k = λ next. ends_then files _ _ failed stop (h (λ a. second a next)) (k next)
 
-  -- the values of both
-  pub both_load : (before failed : ℕ) (a : A) (b : B) → Loads files first before (Ok a) →
-      Loads files second failed (Ok b) →
-      Loads files (both first second) failed (Ok (a, b))
-  unfolding Loads
-  both_load before failed a b h k =
-      λ next. leads_then files _ _ _ (h (λ a. second (λ b. next (a, b)))) (k (λ b. next (a, b)))
+-- what is loaded goes on as a part of what is made of it
+pub part_loads : {A B : Type 0} (files : Files) (load : (A → Work) → Work) (made : A → B) (failed : ℕ) (value : A) →
+    Loads files load failed (Ok value) → Loads files (λ next. load (λ a. next (made a))) failed (Ok (made value))
+unfolding Loads
+part_loads files load made failed value h = λ next. h (λ a. next (made a))
+
+-- and so does its stop
+pub part_stops : {A B : Type 0} (files : Files) (load : (A → Work) → Work) (made : A → B) (failed : ℕ) (stop : Stop)
+    (result : Result B Stop) → result ≡ Err stop → Loads files load failed (Err stop) →
+    Loads files (λ next. load (λ a. next (made a))) failed result
+unfolding Loads
+part_stops files load made failed stop result e h = rw e (λ next. h (λ a. next (made a)))
+
+-- nothing more is loaded
+pub same_loads : {A : Type 0} (files : Files) (failed : ℕ) (value : A) → Loads files (λ next. next value) failed (Ok value)
+unfolding Loads
+same_loads files failed value = λ next. record { same = refl; reaches = λ hash reached. reached }
 
 -- the hash of a name among those of two lists
 pub among_first : (xs ys : List (List ℕ)) (hash : ℕ) → Contains (map fnv_of xs) hash →
@@ -115,14 +124,14 @@ module _ {A : Type 0} (files : Files) (work : (A → Work) → Work) (next : A �
   unfolding Loads
   counted_loaded before value workers old new loads h = rw (loads next).same h
 
--- a reply with this text is the answer
-pub serves_reply : (files : Files) (failed status frames : ℕ) (text : List ℕ) (reply : Reply) → reply.status ≡ status →
-    reply.text ≡ text →
-    Serves files (Done (done status text frames)) failed (Ok reply)
+-- a reply with this text and file is the answer
+pub serves_reply : (files : Files) (failed status frames : ℕ) (text : List ℕ) (file : Option Put) (reply : Reply) →
+    reply.status ≡ status → reply.text ≡ text → reply.file ≡ file →
+    Serves files (Done (done status text file frames)) failed (Ok reply)
 unfolding Serves Replies
-serves_reply files failed status frames text reply is_status is_text = (
+serves_reply files failed status frames text file reply is_status is_text is_file = (
   frames,
-  λ i. Some (done (sym is_status i) (sym is_text i) frames),
+  λ i. Some (done (sym is_status i) (sym is_text i) (sym is_file i) frames),
 )
 
 -- want of memory ends any work
@@ -184,3 +193,41 @@ pub refused_reads : {A : Type 0} (kind : Kind) (reading : Result A (List ℕ)) (
     (stop ≡ stops.NoMemory) ⊎ (stop ≡ stops.Refused kind (refusal_line kind text)) → Reads kind reading (Err stop)
 refused_reads kind reading text stop e (inl h) = inl h
 refused_reads kind reading text stop e (inr h) = inr (text, e, h)
+
+-- want of memory is a reading of anything
+pub reads_no_memory : {A : Type 0} (kind : Kind) (reading : Result A (List ℕ)) (result : Result A Stop) (stop : Stop) →
+    result ≡ Err stop → stop ≡ stops.NoMemory → Reads kind reading result
+reads_no_memory kind reading result stop e h = rw (e, h) (inl refl)
+
+-- ---- what is made of a reading
+
+module _ {A B : Type 0} (kind : Kind) (told : A → B) where
+  -- its stop is the reading's
+  pub told_stops : (reading : Result A (List ℕ)) (result : Result B Stop) (stop : Stop) → result ≡ Err stop →
+      Reads kind reading (Err stop) → Reads kind (value_told told reading) result
+  told_stops reading result stop e (inl none) = rw (e, none) (inl refl)
+  told_stops reading result stop e (inr h) = rw (e, h.1, h.2) (inr (h.0, refl, refl))
+
+  -- its value is made of the reading's
+  pub told_reads : (reading : Result A (List ℕ)) (value : A) (made : B) → Reads kind reading (Ok value) →
+      made ≡ told value → Reads kind (value_told told reading) (Ok made)
+  told_reads reading value made reads is = rw (reads, is) refl
+
+  -- the frames are those of the reading
+  pub told_frames : (reading : Result A (List ℕ)) (frames new old : ℕ) → new ≤ old + frames_for reading frames →
+      new ≤ old + frames_for (value_told told reading) frames
+  told_frames (Ok value) frames new old h = h
+  told_frames (Err refusal) frames new old h = h
+
+  -- so are those of several workers
+  pub told_counted : (reading : Result A (List ℕ)) (workers frames : ℕ) (old new : List ℕ) →
+      AreCounted workers old new (frames_for reading frames) →
+      AreCounted workers old new (frames_for (value_told told reading) frames)
+  told_counted (Ok value) workers frames old new h = h
+  told_counted (Err refusal) workers frames old new h = h
+
+-- what is computed runs its frames, and none where it is refused
+pub frames_either : {A E : Type 0} (refusal : E → List ℕ) (r : Result A E) (frames new old : ℕ) →
+    ((e : E) → r ≡ Err e → new ≡ old) → new ≤ old + frames → new ≤ old + frames_for (refusal_told refusal r) frames
+frames_either refusal (Ok value) frames new old none some = some
+frames_either refusal (Err e) frames new old none some = omega (arith, none e refl)

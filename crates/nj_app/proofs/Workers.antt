@@ -1,20 +1,20 @@
 -- The number of workers changes nothing of the answer.
-use Rattle.std.proofs.Common.{◌≡◌, ℕ, Bool, true, false, cond, List, [], ◌∷◌, map, codes, Option, Some, None, option_and_then, refl, sym, ap, ◌∙◌, subst}
+use Rattle.std.proofs.Common.{◌≡◌, ℕ, Bool, true, false, cond, List, [], ◌∷◌, map, codes, Option, Some, None, option_and_then, option_map, refl, sym, ap, ◌∙◌, subst}
 use Rattle.std.specs.Prelude.{if◌then◌else◌, IfSome}
 use Rattle.std.specs.List.{All, find}
 use Rattle.std.specs.Str.{bytes_eq}
 use Rattle.std.proofs.lemmas.List.Elements.{All-cons, All-head, All-nil, All-tail}
 use Rattle.std.proofs.lemmas.Slice.Eq.{bytes_eq-Decides}
-use Rattle.nj_words.specs.Commands.{Row, asm_row, check_row, clean_row, command_of, name_at, play_row, reading, replay_row, search_form, search_of, search_options_of, search_row, table, trace_of, trace_row, watch_row, workload_row}
+use Rattle.nj_words.specs.Commands.{Row, asm_row, check_row, clean_row, command_of, name_at, play_row, reading, replay_row, resume_form, resume_of, resume_row, saving_as, search_form, search_numbers_of, search_of, search_options_of, search_row, table, trace_of, trace_row, watch_row, workload_row}
 use Rattle.nj_words.specs.Grammar.{PiecesAreSaid}
-use Rattle.nj_words.specs.Options.{number_or}
+use Rattle.nj_words.specs.Options.{name_or_none, number_or}
 use Rattle.nj_words.specs.Words.{Form, Piece, Taken, Word, fits, name, names_in, option, pieces, taken, taken_from, value_in}
 use Rattle.nj_words.specs.declared.Command.{Command}
-use Rattle.nj_words.specs.declared.Command.TheVariants.{Search}
+use Rattle.nj_words.specs.declared.Command.TheVariants.{Resume, Search}
 use Rattle.nj_words.specs.declared.SearchOptions.{SearchOptions}
 use Rattle.nj_outside.specs.Told.{Files}
 use Rattle.nj_app.specs.Answer.{answer, work_of}
-use Rattle.nj_app.specs.Search.{search_work}
+use Rattle.nj_app.specs.Search.{search_finding, search_work}
 use Rattle.nj_app.specs.Work.{given}
 use Rattle.nj_app.specs.Workers.{AreOneBesideWorkers, beside_workers}
 use Rattle.nj_app.proofs.Lines.{work_of_command}
@@ -86,29 +86,47 @@ one_command first second e c d p q = go c d (sym p ∙ e ∙ q) where
   go : (c d : Command) → Some c ≡ Some d → work_of c ≡ work_of d
   go c d h = cc
 
--- the numbers of a search, where each is there
-abbrev numbers : Option ℕ → Option ℕ → Option ℕ → Option ℕ → Option SearchOptions
-numbers budget steps exponent workers =
-    option_and_then (λ b. option_and_then (λ s. option_and_then (λ e. option_and_then (λ w.
-    Some (record { budget = b; steps = s; exponent = e; workers = w })) workers) exponent) steps) budget
+-- the options of a search, where each is there
+abbrev options_of : Option ℕ → Option ℕ → Option ℕ → Option ℕ → Option (Option Word) → Option SearchOptions
+options_of budget steps exponent workers save =
+    option_and_then (λ options. option_map (saving_as options) save)
+    (option_and_then (λ b. option_and_then (λ s. option_and_then (λ e. option_and_then (λ w.
+    Some (record { budget = b; steps = s; exponent = e; workers = w; save = None })) workers) exponent) steps) budget)
 
--- a search with such numbers
-abbrev searching : Word → Word → Word → Option SearchOptions → Option Command
-searching cart script start options = option_and_then (λ o. Some (Search cart script start o)) options
+-- a search with such options, or one that is gone on with
+abbrev searching : (SearchOptions → Command) → Option SearchOptions → Option Command
+searching command options = option_and_then (λ o. Some (command o)) options
 
-other_workers : (cart script start : Word) (budget steps exponent workers others : Option ℕ) → AreOneWork
-    (searching cart script start (numbers budget steps exponent workers))
-    (searching cart script start (numbers budget steps exponent others))
-unfolding work_of search_work
-other_workers cart script start (Some b) (Some s) (Some e) (Some w) (Some o) c d p q =
-    ap work_of (some_is c _ (sym p)) ∙ refl ∙ ap work_of (sym (some_is d _ (sym q))) where
-      some_is : (x y : Command) → Some x ≡ Some y → x ≡ y
-      some_is x y h = cc
-other_workers cart script start None steps exponent workers others c d p q = cc
-other_workers cart script start (Some b) None exponent workers others c d p q = cc
-other_workers cart script start (Some b) (Some s) None workers others c d p q = cc
-other_workers cart script start (Some b) (Some s) (Some e) None others c d p q = cc
-other_workers cart script start (Some b) (Some s) (Some e) (Some w) None c d p q = cc
+-- the work does not look at the number of workers
+abbrev IsBesideWorkers : (SearchOptions → Command) → Type 0
+IsBesideWorkers command = (options : SearchOptions) (workers : ℕ) →
+    work_of (command options) ≡ work_of (command (record options { workers = workers }))
+
+search_beside : (cart script start : Word) → IsBesideWorkers (Search cart script start)
+unfolding work_of search_work search_finding
+search_beside cart script start options workers = refl
+
+resume_beside : (cart script start saved : Word) → IsBesideWorkers (Resume cart script start saved)
+unfolding work_of search_work search_finding
+resume_beside cart script start saved options workers = refl
+
+some_is : (x y : Command) → Some x ≡ Some y → x ≡ y
+some_is x y h = cc
+
+other_workers : (command : SearchOptions → Command) → IsBesideWorkers command →
+    (budget steps exponent workers others : Option ℕ) (save : Option (Option Word)) → AreOneWork
+    (searching command (options_of budget steps exponent workers save))
+    (searching command (options_of budget steps exponent others save))
+other_workers command beside (Some b) (Some s) (Some e) (Some w) (Some o) (Some given) c d p q =
+    ap work_of (some_is c _ (sym p))
+    ∙ beside (record { budget = b; steps = s; exponent = e; workers = w; save = given }) o
+    ∙ ap work_of (sym (some_is d _ (sym q)))
+other_workers command beside None steps exponent workers others save c d p q = cc
+other_workers command beside (Some b) None exponent workers others save c d p q = cc
+other_workers command beside (Some b) (Some s) None workers others save c d p q = cc
+other_workers command beside (Some b) (Some s) (Some e) None others save c d p q = cc
+other_workers command beside (Some b) (Some s) (Some e) (Some w) None save c d p q = cc
+other_workers command beside (Some b) (Some s) (Some e) (Some w) (Some o) None c d p q = cc
 
 -- ---- a row of the table
 
@@ -127,24 +145,58 @@ module _ (said others : List Piece) (same : beside_workers said ≡ beside_worke
     taken_same : names_in said ≡ names_in others → taken_as row.form said ≡ taken_as row.form others
     taken_same e = λ i. record { names = e i; values = (no_values said ∙ sym (no_values others)) i }
 
-  -- a search takes the same names and the same numbers but one
-  searching_row : IsOneWork search_row
-  unfolding search_options_of
-  searching_row =
-      let names = same_names said others same in
-      let budget = same_value (codes "budget") refl said others same in
-      let steps = same_value (codes "steps") refl said others same in
-      let slots = same_value (codes "slots") refl said others same in
-      subst (λ second. AreOneWork (search_of (taken_as search_form said)) second)
-      (λ i. searching (name_at (with_names (names i)) 0) (name_at (with_names (names i)) 1) (name_at (with_names (names i)) 2)
-      (numbers (number_or 1 2147483648 67108864 (budget i)) (number_or 1 16777215 1000 (steps i))
-      (number_or 10 25 20 (slots i)) (number_or 1 64 1 (value_in others (codes "workers")))))
-      (other_workers (name_at (taken_as search_form said) 0) (name_at (taken_as search_form said) 1)
-      (name_at (taken_as search_form said) 2) (number_or 1 2147483648 67108864 (value_in said (codes "budget")))
+  -- the names of one of them, as a command takes them
+  abbrev with_names : List Word → Taken
+  with_names words = record { names = words; values = [] }
+
+  -- the options of one of them
+  abbrev options_in : List Piece → Option SearchOptions
+  options_in p = options_of (number_or 1 2147483648 67108864 (value_in p (codes "budget")))
+      (number_or 1 16777215 1000 (value_in p (codes "steps"))) (number_or 10 25 20 (value_in p (codes "slots")))
+      (number_or 1 64 1 (value_in p (codes "workers"))) (name_or_none (value_in p (codes "save")))
+
+  -- two searches take the same options but one
+  options_beside : (command : SearchOptions → Command) → IsBesideWorkers command →
+      AreOneWork (searching command (options_in said)) (searching command (options_in others))
+  options_beside command beside =
+      subst (λ second. AreOneWork (searching command (options_in said)) second)
+      (λ i. searching command (options_of
+      (number_or 1 2147483648 67108864 (same_value (codes "budget") refl said others same i))
+      (number_or 1 16777215 1000 (same_value (codes "steps") refl said others same i))
+      (number_or 10 25 20 (same_value (codes "slots") refl said others same i))
+      (number_or 1 64 1 (value_in others (codes "workers")))
+      (name_or_none (same_value (codes "save") refl said others same i))))
+      (other_workers command beside (number_or 1 2147483648 67108864 (value_in said (codes "budget")))
       (number_or 1 16777215 1000 (value_in said (codes "steps"))) (number_or 10 25 20 (value_in said (codes "slots")))
-      (number_or 1 64 1 (value_in said (codes "workers"))) (number_or 1 64 1 (value_in others (codes "workers")))) where
-        with_names : List Word → Taken
-        with_names words = record { names = words; values = [] }
+      (number_or 1 64 1 (value_in said (codes "workers"))) (number_or 1 64 1 (value_in others (codes "workers")))
+      (name_or_none (value_in said (codes "save"))))
+
+  -- a search takes the same names and the same options but one
+  searching_row : IsOneWork search_row
+  unfolding search_options_of search_numbers_of
+  searching_row =
+      subst (λ second. AreOneWork (search_of (taken_as search_form said)) second)
+      (λ i. searching (Search (name_at (with_names (same_names said others same i)) 0)
+      (name_at (with_names (same_names said others same i)) 1) (name_at (with_names (same_names said others same i)) 2))
+      (options_in others))
+      (options_beside (Search (name_at (taken_as search_form said) 0) (name_at (taken_as search_form said) 1)
+      (name_at (taken_as search_form said) 2))
+      (search_beside (name_at (taken_as search_form said) 0) (name_at (taken_as search_form said) 1)
+      (name_at (taken_as search_form said) 2)))
+
+  -- so does one that is gone on with
+  resuming_row : IsOneWork resume_row
+  unfolding search_options_of search_numbers_of
+  resuming_row =
+      subst (λ second. AreOneWork (resume_of (taken_as resume_form said)) second)
+      (λ i. searching (Resume (name_at (with_names (same_names said others same i)) 0)
+      (name_at (with_names (same_names said others same i)) 1) (name_at (with_names (same_names said others same i)) 2)
+      (name_at (with_names (same_names said others same i)) 3))
+      (options_in others))
+      (options_beside (Resume (name_at (taken_as resume_form said) 0) (name_at (taken_as resume_form said) 1)
+      (name_at (taken_as resume_form said) 2) (name_at (taken_as resume_form said) 3))
+      (resume_beside (name_at (taken_as resume_form said) 0) (name_at (taken_as resume_form said) 1)
+      (name_at (taken_as resume_form said) 2) (name_at (taken_as resume_form said) 3)))
 
   -- a trace takes the same names and the same frame
   tracing_row : IsOneWork trace_row
@@ -155,16 +207,16 @@ module _ (said others : List Piece) (same : beside_workers said ≡ beside_worke
 
   each_row : All IsOneWork table
   each_row =
-      All-cons IsOneWork play_row (search_row ∷ replay_row ∷ check_row ∷ workload_row ∷ asm_row ∷ clean_row ∷ trace_row ∷ watch_row ∷ [])
-      (plain_row play_row refl)
-      (All-cons IsOneWork search_row (replay_row ∷ check_row ∷ workload_row ∷ asm_row ∷ clean_row ∷ trace_row ∷ watch_row ∷ []) searching_row
+      All-cons IsOneWork play_row (search_row ∷ resume_row ∷ replay_row ∷ check_row ∷ workload_row ∷ asm_row ∷ clean_row ∷ trace_row ∷ watch_row ∷ []) (plain_row play_row refl)
+      (All-cons IsOneWork search_row (resume_row ∷ replay_row ∷ check_row ∷ workload_row ∷ asm_row ∷ clean_row ∷ trace_row ∷ watch_row ∷ []) searching_row
+      (All-cons IsOneWork resume_row (replay_row ∷ check_row ∷ workload_row ∷ asm_row ∷ clean_row ∷ trace_row ∷ watch_row ∷ []) resuming_row
       (All-cons IsOneWork replay_row (check_row ∷ workload_row ∷ asm_row ∷ clean_row ∷ trace_row ∷ watch_row ∷ []) (plain_row replay_row refl)
       (All-cons IsOneWork check_row (workload_row ∷ asm_row ∷ clean_row ∷ trace_row ∷ watch_row ∷ []) (plain_row check_row refl)
       (All-cons IsOneWork workload_row (asm_row ∷ clean_row ∷ trace_row ∷ watch_row ∷ []) (plain_row workload_row refl)
       (All-cons IsOneWork asm_row (clean_row ∷ trace_row ∷ watch_row ∷ []) (plain_row asm_row refl)
       (All-cons IsOneWork clean_row (trace_row ∷ watch_row ∷ []) (plain_row clean_row refl)
       (All-cons IsOneWork trace_row (watch_row ∷ []) tracing_row
-      (All-cons IsOneWork watch_row [] (plain_row watch_row refl) (All-nil IsOneWork)))))))))
+      (All-cons IsOneWork watch_row [] (plain_row watch_row refl) (All-nil IsOneWork))))))))))
 
 -- what holds of each row holds of the one that is found
 found_row : (P : Row → Type 0) (test : Row → Bool) (rows : List Row) → All P rows → IfSome (find test rows) P

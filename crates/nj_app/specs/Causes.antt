@@ -1,12 +1,14 @@
 -- Which statuses come, when, and what stands on `out` and `err` then. Our own.
-use Rattle.std.specs.Prelude.{◌≡◌, ◌≢◌, ◌⊎◌, ℕ, ◌≤◌, ◌==◌, List, [], ◌∷◌, length, take, map, Contains, Option, Some, None, IsSomeAnd, if◌then◌else◌}
+use Rattle.std.specs.Prelude.{◌≡◌, ◌≢◌, ◌⊎◌, ℕ, ◌≤◌, ◌==◌, List, [], ◌∷◌, length, take, map, Contains, Option, Some, None, option_and_then, IsSomeAnd, if◌then◌else◌}
 use Rattle.nj_outside.specs.Fnv.{fnv_of}
 use Rattle.std.specs.Option.{option_map_or}
-use Rattle.nj_outside.specs.Told.{appended}
+use Rattle.nj_outside.specs.Told.{Files, appended, put_file}
 use Rattle.nj_app.specs.Refusals.{usage_line, read_fault_line, write_fault_line, no_memory_line}
 use Rattle.nj_app.specs.Work.{Answer}
 use Rattle.nj_words.specs.declared.Command.{Command}
-use Rattle.nj_app.specs.Answer.{file_names}
+use Rattle.nj_app.specs.Answer.{file_names, save_name}
+use Rattle.nj_app.specs.declared.stops.Put.{Put}
+use Rattle.nj_app.specs.declared.stops.Reply.{Reply}
 
 -- a status that tells of no fault: not a failed read, a failed write or want of memory
 pub record IsPlain (status : ℕ) : Type 0 where
@@ -16,7 +18,7 @@ pub record IsPlain (status : ℕ) : Type 0 where
 
 -- the statuses that there are
 abbrev pub statuses : List ℕ
-statuses = 0 ∷ 1 ∷ 2 ∷ 3 ∷ 4 ∷ 5 ∷ 6 ∷ 7 ∷ 8 ∷ 9 ∷ 10 ∷ 12 ∷ []
+statuses = 0 ∷ 1 ∷ 2 ∷ 3 ∷ 4 ∷ 5 ∷ 6 ∷ 7 ∷ 8 ∷ 9 ∷ 10 ∷ 11 ∷ 12 ∷ []
 
 -- the statuses of a command that was carried out: it ended well, a movie that was replayed or to be cleaned
 -- does not win, or a search was exhausted or came to its limit
@@ -40,6 +42,47 @@ pub record IsCutShort (answer : Option Answer) (old new : Option (List ℕ)) : T
   pub within : count ≤ length whole.text
   pub written : new ≡ appended old (take count whole.text)
 
+-- the answer refuses nothing and has a file to put, whose name the last failed put had: its whole text was appended to what
+-- `out` held, and the file has a front part of its bytes, or is as before; every other file is as before
+pub record IsUnsaved (answer : Option Answer) (failed : ℕ) (old new : Option (List ℕ)) (before after : Option Files) : Type 0 where
+  pub whole : Answer
+  pub is_whole : answer ≡ Some whole
+  pub accepted : whole.line ≡ []
+  pub put : Put
+  pub is_put : whole.file ≡ Some put
+  pub named : failed ≡ fnv_of put.name
+  pub written : new ≡ appended old whole.text
+  pub files : (after ≡ before)
+      ⊎ ((count : ℕ) × (count ≤ length put.bytes) × (after ≡ put_file before put.name (take count put.bytes)))
+
+-- a front part of the text was written, and every file is as before
+pub record IsTextCut (reply : Reply) (old new : Option (List ℕ)) (before after : Option Files) : Type 0 where
+  pub count : ℕ
+  pub within : count ≤ length reply.text
+  pub written : new ≡ appended old (take count reply.text)
+  pub files : after ≡ before
+
+-- the file that was to be put has a front part of its bytes or what it had
+pub record IsPutCut (file : Option Put) (failed : ℕ) (before after : Option Files) : Type 0 where
+  pub put : Put
+  pub is_put : file ≡ Some put
+  pub named : failed ≡ fnv_of put.name
+  pub files : (after ≡ before)
+      ⊎ ((count : ℕ) × (count ≤ length put.bytes) × (after ≡ put_file before put.name (take count put.bytes)))
+
+-- the files where this one was put, if there is one
+abbrev pub with_put : Option Put → Option Files → Option Files
+with_put None files = files
+with_put (Some put) files = put_file files put.name put.bytes
+
+-- the files where the answer's file was put, if it has one
+abbrev pub put_by : Option Answer → Option Files → Option Files
+put_by answer files = option_map_or (λ x. with_put x.file files) answer files
+
+-- a reply has a file to put at the limit of a search alone, and under the name that it was given
+abbrev pub IsSavedAs : Option (List ℕ) → Reply → Type 0
+IsSavedAs name reply = (put : Put) → reply.file ≡ Some put → (reply.status ≡ 2) × (name ≡ Some put.name)
+
 -- the line that a status has whatever the files hold, if it is such a status
 abbrev pub fixed_line : ℕ → Option (List ℕ)
 fixed_line status =
@@ -60,3 +103,11 @@ line_for answer status = option_map_or (λ line. line) (fixed_line status) (opti
 -- the hash is that of a name among the command's files
 abbrev pub IsOfCommand : Option Command → ℕ → Type 0
 IsOfCommand command hash = IsSomeAnd command (λ c. Contains (map fnv_of (file_names c)) hash)
+
+-- the name that the command saves under, if it was given one
+abbrev pub saves_as : Option Command → Option (List ℕ)
+saves_as command = option_and_then save_name command
+
+-- the hash is that of the name that the command saves under
+abbrev pub IsOfSaving : Option Command → ℕ → Type 0
+IsOfSaving command hash = IsSomeAnd (saves_as command) (λ name. hash ≡ fnv_of name)

@@ -6,14 +6,16 @@ use Rattle.nj_asm.specs.declared.assembling.Assembled.{Assembled}
 use Rattle.nj_ines.specs.Cartridge.{Cartridge}
 use Rattle.nj_ines.specs.Reading.{cartridge_of}
 use Rattle.nj_movie.specs.Text.{movie_of}
+use Rattle.nj_outside.specs.Fnv.{fnv_of}
 use Rattle.nj_script.specs.Script.{Record, script_of}
-use Rattle.nj_app.specs.Refusals.{asm_refusal, cart_refusal, movie_refusal, script_refusal, too_long}
-use Rattle.nj_app.specs.Work.{Work, Read, accepted, refusal_told}
+use Rattle.nj_saved.specs.Reading.{saved_of}
+use Rattle.nj_saved.specs.declared.saved.Saved.{Saved}
+use Rattle.nj_texts.specs.Refusals.{asm_refusal, cart_refusal, movie_refusal, saved_refusal, script_refusal, too_long}
+use Rattle.nj_app.specs.Work.{Work, Read, accepted, refusal_told, value_told}
 use Rattle.nj_app.specs.declared.files.Bounds.{Bounds}
-use Rattle.nj_app.specs.declared.formats.TheConstants.{CART, MOVIE, SCRIPT, SOURCE}
+use Rattle.nj_app.specs.declared.formats.TheConstants.{CART, MOVIE, SAVED, SCRIPT, SOURCE}
 
--- a kind of file: its bounds, what its bytes say or the text of their refusal, and the value that a name stands for
--- which
+-- a kind of file: its bounds, what its bytes say or the text of their refusal, and the value that a name stands for which
 -- is no file's
 pub record FileFormat (A : Type 0) : Type 0 where
   pub bounds : Bounds
@@ -67,5 +69,21 @@ unfoldable pub source_format : FileFormat Assembled
 source_format = record {
   bounds = SOURCE;
   says = λ bytes. refusal_told asm_refusal (assembly_of bytes);
+  without = λ _. None;
+}
+
+-- a saved search of the files of these hashes: of the cartridge, and of the script with the start
+unfoldable pub saved_format : ℕ → ℕ → FileFormat Saved
+saved_format cart script = record {
+  bounds = SAVED;
+  says = λ bytes. refusal_told saved_refusal (saved_of bytes cart script);
+  without = λ _. None;
+}
+
+-- a file of this kind, with the hash of its bytes
+unfoldable pub hashed : {A : Type 0} → FileFormat A → FileFormat (A × ℕ)
+hashed format = record {
+  bounds = format.bounds;
+  says = λ bytes. value_told (λ value. (value, fnv_of bytes)) (format.says bytes);
   without = λ _. None;
 }

@@ -4,7 +4,6 @@ pub mod Causes
 pub mod Check
 pub mod Clean
 pub mod Formats
-pub mod Kinds
 pub mod Laws
 pub mod Outcomes
 pub mod Play

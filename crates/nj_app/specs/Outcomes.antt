@@ -1,19 +1,9 @@
 -- The text of a search's outcome. Our own.
-use Rattle.std.specs.Prelude.{ℕ, ℤ, List, [], ◌∷◌, ◌++◌, length, codes}
-use Rattle.std.specs.Fmt.{decimal, signed_decimal}
+use Rattle.std.specs.Prelude.{ℕ, List, [], ◌++◌, length, codes}
 use Rattle.nj_movie.specs.Text.{movie_text}
 use Rattle.nj_search.specs.declared.searching.Outcome.{Outcome}
 use Rattle.nj_search.specs.declared.searching.Outcome.TheVariants.{Won, Exhausted, Limit}
-
--- the first line of an outcome, by its word: its steps, its frames and its reward
-unfoldable pub outcome_line : List ℕ → ℕ → ℕ → ℤ → List ℕ
-outcome_line word step frames reward =
-    codes "# " ++ (word ++ (codes " step=" ++ (decimal step ++ (codes " frames=" ++ (decimal frames
-    ++ (codes " reward=" ++ (signed_decimal reward ++ 10 ∷ [])))))))
-
--- the line of a search that was exhausted at a step
-unfoldable pub exhausted_line : ℕ → List ℕ
-exhausted_line step = codes "# exhausted step=" ++ (decimal step ++ 10 ∷ [])
+use Rattle.nj_texts.specs.Lines.{exhausted_line, outcome_line}
 
 -- the first line of the text
 abbrev pub outcome_head : Outcome → List ℕ

@@ -1,10 +1,11 @@
 -- What stops a command before its text, and what a stop or a reply says of the command's work. Our own.
 use Rattle.std.specs.Prelude.{◌≡◌, ◌⊎◌, ℕ, List, Some, Result, Ok, Err, MatchResult}
 use Rattle.nj_outside.specs.Told.{Files}
-use Rattle.nj_app.specs.Kinds.{kind_status}
-use Rattle.nj_app.specs.Refusals.{refusal_line, usage_line, read_fault_line, no_memory_line}
+use Rattle.nj_texts.specs.Kinds.{kind_status}
+use Rattle.nj_texts.specs.Refusals.{refusal_line}
+use Rattle.nj_texts.specs.declared.kinds.Kind.{Kind}
+use Rattle.nj_app.specs.Refusals.{usage_line, read_fault_line, no_memory_line}
 use Rattle.nj_app.specs.Work.{Work, given, Reaches, refused, done}
-use Rattle.nj_app.specs.declared.stops.Kind.{Kind}
 use Rattle.nj_app.specs.declared.stops.Reply.{Reply}
 use Rattle.nj_app.specs.declared.stops.Stop.{Stop}
 use Rattle.nj_app.specs.declared.stops.Stop.TheVariants.{Usage, Refused, ReadFault, NoMemory}
@@ -34,8 +35,7 @@ Reads kind reading result =
     (λ stop. (stop ≡ NoMemory) ⊎ ((refusal : List ℕ) × (reading ≡ Err refusal)
     × (stop ≡ Refused kind (refusal_line kind refusal))))
 
--- the stop is the work's end over these files: a refusal is its answer, and at a failed read the work comes to a file
--- whose
+-- the stop is the work's end over these files: a refusal is its answer, and at a failed read the work comes to a file whose
 -- name has the hash of the last failed read
 unfoldable pub Ends : Files → Work → ℕ → Stop → Type 0
 Ends files work failed Usage = given files work ≡ Some (refused 3 usage_line)
@@ -45,7 +45,7 @@ Ends files work failed NoMemory = Unit {0}
 
 -- the reply is the work's answer over these files
 unfoldable pub Replies : Files → Work → Reply → Type 0
-Replies files work reply = (frames : ℕ) × (given files work ≡ Some (done reply.status reply.text frames))
+Replies files work reply = (frames : ℕ) × (given files work ≡ Some (done reply.status reply.text reply.file frames))
 
 -- the rest is what the whole goes on with over these files: the same answer, and each file that it comes to
 pub record Leads (files : Files) (whole rest : Work) : Type 0 where

@@ -9,10 +9,10 @@ ghost use Rattle.nj_app.specs.Formats.{FileFormat, loaded, made, names_of, readi
 ghost use Rattle.nj_app.specs.Stops.{Loads, Reads};
 ghost use Rattle.nj_app.specs.Work.{Work, both};
 
-use crate::refusals::too_long;
-use crate::stops::{Kind, Stop};
+use crate::stops::{Stop, too_long};
 use nj_outside::{ReadRefused, Shelf, read_all};
 use nj_seq::Text;
+use nj_texts::Kind;
 use std::alloc::Global;
 
 /// What is fixed of a kind of file.
@@ -30,21 +30,21 @@ pub trait Format: Copy {
     /// What a file is read as.
     type Value: Drop;
 
-    ghost format: { FileFormat Self.Value };
+    ghost format: { Self → FileFormat Self.Value };
 
     /// What holds of each value that is read.
     ghost holds: { Self.Value → Type 0 };
 
     fn bounds(self) -> Bounds
-        ensures { result ≡ format.bounds };
+        ensures { result ≡ (format self).bounds };
 
     /// The value that the name stands for, where it is no file's.
     fn without(self, alloc: Global, name: &str) -> Option<Self::Value>
-        ensures value { result ≡ format.without name.now }
+        ensures value { result ≡ (format self).without name.now }
         ensures holds { (value : Self.Value) → result ≡ Some value → holds value };
 
     fn read(self, alloc: Global, bytes: &[u8]) -> Result<Self::Value, Stop>
-        ensures reads { Reads format.bounds.kind (format.says bytes.now) result }
+        ensures reads { Reads (format self).bounds.kind ((format self).says bytes.now) result }
         ensures holds { IfOk result holds };
 }
 
@@ -70,7 +70,8 @@ pub trait Source {
         ensures fault { IsErrOf result Stop.ReadFault → Rose (S.read_faults shelf.old) (S.read_faults shelf.new) }
         ensures fault_name { IsErrOf result Stop.ReadFault →
             Contains (map fnv_of (names self.now)) (S.failed_read shelf.new) }
-        ensures no_fault { ¬ IsErrOf result Stop.ReadFault → S.read_faults shelf.new ≡ S.read_faults shelf.old };
+        ensures no_fault { ¬ IsErrOf result Stop.ReadFault → S.read_faults shelf.new ≡ S.read_faults shelf.old }
+        ensures put_faults { S.put_faults shelf.new ≡ S.put_faults shelf.old };
 }
 
 /// The file of a name.
@@ -82,7 +83,8 @@ pub struct File<'a, F: Format> {
 
 /// The file of this name and kind.
 pub fn named<F: Format>(format: F, name: &Text) -> File<'_, F>
-    ensures { result.name.now ≡ name.now }
+    ensures format { result.format ≡ format }
+    ensures name { result.name.now ≡ name.now }
 {
     File { format, name }
 }
@@ -90,9 +92,9 @@ pub fn named<F: Format>(format: F, name: &Text) -> File<'_, F>
 impl<F: Format> Source for File<'_, F> {
     type Value = F::Value;
 
-    ghost work = { λ file next. loaded F.format file.name.now next };
+    ghost work = { λ file next. loaded (F.format file.format) file.name.now next };
 
-    ghost names = { λ file. names_of F.format file.name.now };
+    ghost names = { λ file. names_of (F.format file.format) file.name.now };
 
     ghost holds = { F.holds };
 
@@ -109,14 +111,15 @@ fn read_file<F: Format, S: Shelf>(
     name: &str,
 ) -> Result<F::Value, Stop>
     ensures loads { (files : Files) → S.content shelf.old ≡ Some files →
-        Loads files (loaded F.format name.now) (S.failed_read shelf.new) result }
+        Loads files (loaded (F.format format) name.now) (S.failed_read shelf.new) result }
     ensures holds { IfOk result F.holds }
     ensures content { S.content shelf.new ≡ S.content shelf.old }
     ensures not_words { result ≢ Err Stop.Usage }
     ensures fault { IsErrOf result Stop.ReadFault → Rose (S.read_faults shelf.old) (S.read_faults shelf.new) }
     ensures fault_name { IsErrOf result Stop.ReadFault →
-        Contains (map fnv_of (names_of F.format name.now)) (S.failed_read shelf.new) }
+        Contains (map fnv_of (names_of (F.format format) name.now)) (S.failed_read shelf.new) }
     ensures no_fault { ¬ IsErrOf result Stop.ReadFault → S.read_faults shelf.new ≡ S.read_faults shelf.old }
+    ensures put_faults { S.put_faults shelf.new ≡ S.put_faults shelf.old }
 {
     let bounds = format.bounds();
     match format.without(alloc, name) {
@@ -140,7 +143,7 @@ pub struct Made<'a, F: Format> {
 impl<F: Format> Source for Made<'_, F> {
     type Value = F::Value;
 
-    ghost work = { λ file next. made F.format file.bytes.now next };
+    ghost work = { λ file next. made (F.format file.format) file.bytes.now next };
 
     ghost names = { λ _. [] };
 

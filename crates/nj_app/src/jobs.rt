@@ -1,37 +1,53 @@
 //! What a command does once its files were read, and the one way in which each is carried out.
 
-ghost use Rattle.std.specs.Prelude.{◌≡◌, ◌≢◌, ◌+◌, ◌≤◌, ℕ, IfOk, Some, Err, map, Contains, IsErrOf};
+ghost use Rattle.std.specs.Prelude.{◌≡◌, ◌≢◌, ◌+◌, ◌≤◌, List, ℕ, IfOk, Option, Some, Err, map, Contains, IsErrOf};
 ghost use Rattle.nj_outside.specs.Fnv.{fnv_of};
 ghost use Rattle.nj_outside.specs.Rise.{Rose};
 ghost use Rattle.nj_outside.specs.Told.{Files};
 ghost use Rattle.nj_app.specs.Answer.{frames_of};
-ghost use Rattle.nj_app.specs.Causes.{IsCarriedOut};
-ghost use Rattle.nj_app.specs.Stops.{Serves};
-ghost use Rattle.nj_app.specs.Work.{Work, given};
+ghost use Rattle.nj_app.specs.Causes.{IsCarriedOut, IsSavedAs};
+ghost use Rattle.nj_app.specs.Stops.{Reads, Serves};
+ghost use Rattle.nj_app.specs.Work.{Finding, found_in, frames_for, given};
 
 use crate::files::Source;
 use crate::stops::{Reply, Stop};
 use nj_outside::Shelf;
 use nj_steps::Steps;
-use std::alloc::Global;
+use std::alloc::{AllocError, Global};
 use std::sync::ledger::Ledger;
 
-/// What a command does with what it read, a `V`.
+/// What a command does with what it read, a `V`: it finds something in it, and tells of what it found.
 pub trait Job<V> {
-    /// The work that is left.
-    ghost rest: { Self → V → Work };
+    type Found: Drop;
+
+    ghost finding: { Self → Finding V Self.Found };
 
     /// What the job has to know of itself and of what was read.
     ghost needs: { Self → V → Type 0 };
 
-    fn answer<L: Ledger>(&self, alloc: Global, said: V, steps: &mut Steps<L>) -> Result<Reply, Stop>
+    /// The name that it saves under, if it was given one.
+    ghost saves: { Self → Option (List ℕ) };
+
+    fn find<L: Ledger>(
+        &self,
+        alloc: Global,
+        said: V,
+        steps: &mut Steps<L>,
+    ) -> Result<Self::Found, Stop>
         requires needs { needs self.now said }
-        ensures serves { (files : Files) (failed : ℕ) → Serves files (rest self.now said) failed result }
-        ensures done { IfOk result (λ reply. IsCarriedOut reply.status) }
+        ensures reads { Reads (finding self.now).kind ((finding self.now).reading said) result }
         ensures not_words { result ≢ Err Stop.Usage }
         ensures not_unread { result ≢ Err Stop.ReadFault }
-        ensures frames { (files : Files) → steps.new ≤ steps.old + frames_of (given files (rest self.now said)) }
+        ensures frames { steps.new ≤ steps.old
+            + frames_for ((finding self.now).reading said) ((finding self.now).frames said) }
         ensures never_falls { steps.old ≤ steps.new };
+
+    fn reply(&self, alloc: Global, found: Self::Found) -> Result<Reply, AllocError>
+        ensures status { IfOk result (λ reply. reply.status ≡ (finding self.now).status found) }
+        ensures text { IfOk result (λ reply. reply.text ≡ (finding self.now).text found) }
+        ensures file { IfOk result (λ reply. reply.file ≡ (finding self.now).file found) }
+        ensures done { IfOk result (λ reply. IsCarriedOut reply.status) }
+        ensures saved { IfOk result (IsSavedAs (saves self.now)) };
 }
 
 /// The reply to a command that reads this and does this job.
@@ -44,18 +60,21 @@ pub fn serve<A: Source, J: Job<A::Value>, S: Shelf, L: Ledger>(
 ) -> Result<Reply, Stop>
     requires { (said : A.Value) → A.holds said → J.needs job.now said }
     ensures serves { (files : Files) → S.content shelf.old ≡ Some files →
-        Serves files (A.work source.now (J.rest job.now)) (S.failed_read shelf.new) result }
+        Serves files (A.work source.now (found_in (J.finding job.now))) (S.failed_read shelf.new) result }
     ensures done { IfOk result (λ reply. IsCarriedOut reply.status) }
+    ensures saved { IfOk result (IsSavedAs (J.saves job.now)) }
     ensures not_words { result ≢ Err Stop.Usage }
     ensures fault { IsErrOf result Stop.ReadFault → Rose (S.read_faults shelf.old) (S.read_faults shelf.new) }
     ensures no_fault { ¬ IsErrOf result Stop.ReadFault → S.read_faults shelf.new ≡ S.read_faults shelf.old }
     ensures fault_name { IsErrOf result Stop.ReadFault →
         Contains (map fnv_of (A.names source.now)) (S.failed_read shelf.new) }
     ensures frames { (files : Files) → S.content shelf.old ≡ Some files →
-        steps.new ≤ steps.old + frames_of (given files (A.work source.now (J.rest job.now))) }
+        steps.new ≤ steps.old + frames_of (given files (A.work source.now (found_in (J.finding job.now)))) }
     ensures never_falls { steps.old ≤ steps.new }
     ensures content { S.content shelf.new ≡ S.content shelf.old }
+    ensures put_faults { S.put_faults shelf.new ≡ S.put_faults shelf.old }
 {
     let said = source.load(alloc, shelf)?;
-    job.answer(alloc, said, steps)
+    let found = job.find(alloc, said, steps)?;
+    Ok(job.reply(alloc, found)?)
 }

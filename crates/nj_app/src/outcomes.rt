@@ -2,35 +2,14 @@
 
 ghost use Rattle.std.specs.Prelude.{◌≡◌, ◌++◌, IfOk};
 ghost use Rattle.nj_app.specs.Causes.{IsCarriedOut};
-ghost use Rattle.nj_app.specs.Outcomes.{exhausted_line, outcome_head, outcome_line, outcome_lines, outcome_status, outcome_text};
+ghost use Rattle.nj_app.specs.Outcomes.{outcome_head, outcome_lines, outcome_status, outcome_text};
 
+use crate::stops::bytes_of;
 use nj_movie::write_movie;
 use nj_search::Outcome;
 use nj_seq::{Seq, Text};
+use nj_texts::{exhausted_line, outcome_line};
 use std::alloc::{AllocError, Global};
-
-/// The first line of an outcome that has a movie, by its word.
-#[tactic(auto, unfolding(crate::specs::Outcomes::outcome_line))]
-pub fn outcome_line(
-    alloc: Global,
-    word: &str,
-    step: u32,
-    frames: u64,
-    reward: i64,
-) -> Result<Text, AllocError>
-    ensures { IfOk result (λ text. text ≡ outcome_line word.now step frames reward) }
-{
-    let line = format!(in alloc; "# {word} step={step} frames={frames} reward={reward}\n")?;
-    Ok(Text::from_string(line))
-}
-
-#[tactic(auto, unfolding(crate::specs::Outcomes::exhausted_line))]
-fn exhausted_line(alloc: Global, step: u32) -> Result<Text, AllocError>
-    ensures { IfOk result (λ text. text ≡ exhausted_line step) }
-{
-    let line = format!(in alloc; "# exhausted step={step}\n")?;
-    Ok(Text::from_string(line))
-}
 
 /// The first line of the text.
 pub fn outcome_head(alloc: Global, outcome: &Outcome) -> Result<Text, AllocError>
@@ -76,7 +55,7 @@ pub fn outcome_text(alloc: Global, outcome: &Outcome) -> Result<Seq<u8>, AllocEr
     ensures { IfOk result (λ text. text ≡ outcome_text outcome.now) }
 {
     let head = outcome_head(alloc, outcome)?;
-    let mut text = Seq::from_vec(head.into_string().into_bytes());
+    let mut text = bytes_of(head);
     let lines = outcome_lines(alloc, outcome)?;
     text.extend_from_slice(lines.as_slice())?;
     Ok(text)

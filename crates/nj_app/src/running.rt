@@ -1,9 +1,10 @@
-ghost use Rattle.std.specs.Prelude.{◌≡◌, ◌≢◌, ◌⊎◌, ◌≤◌, ◌+◌, ◌∷◌, ◌++◌, List, ℕ, Some, None, Err, map, string_bytes, Contains, IfOk, IsErrOf};
+ghost use Rattle.std.specs.Prelude.{◌≡◌, ◌≢◌, ◌⊎◌, ◌≤◌, ◌+◌, List, ℕ, Some, None, Err, map, string_bytes, Contains, IfOk, IsErrOf};
 ghost use Rattle.nj_outside.specs.Fnv.{fnv_of};
 ghost use Rattle.nj_outside.specs.Rise.{Rose};
 ghost use Rattle.nj_outside.specs.Told.{Files, appended};
-ghost use Rattle.nj_app.specs.Answer.{answer, frames_of, file_names, work_of, work_for};
-ghost use Rattle.nj_app.specs.Causes.{statuses, IsAnswered, Settles, IsCutShort, IsCarriedOut, IsOfCommand, fixed_line, line_for};
+ghost use Rattle.nj_app.specs.Answer.{answer, frames_of, file_names, save_name, work_of, work_for};
+ghost use Rattle.nj_app.specs.Causes.{statuses, IsAnswered, IsPlain, Settles, IsCutShort, IsUnsaved, IsCarriedOut, IsOfCommand};
+ghost use Rattle.nj_app.specs.Causes.{IsOfSaving, IsSavedAs, fixed_line, line_for, put_by, saves_as};
 ghost use Rattle.nj_app.specs.Stops.{Serves};
 ghost use Rattle.nj_app.specs.Work.{given, Reaches};
 ghost use Rattle.nj_words.specs.Commands.{reading, IsInRange};
@@ -13,7 +14,7 @@ use crate::commands::check::Check;
 use crate::commands::clean::Clean;
 use crate::commands::play::Play;
 use crate::commands::replay::Replay;
-use crate::commands::search::Search;
+use crate::commands::search::{Search, SearchFiles};
 use crate::commands::trace::Trace;
 use crate::commands::watch::Watch;
 use crate::commands::workload::workload;
@@ -41,8 +42,10 @@ pub fn run_plain<S: Shelf, O: Sink, E: Sink, L: Ledger>(
 ) -> u8
     ensures known { Contains statuses result }
 
-    // no file changes
-    ensures content { S.content shelf.new ≡ S.content shelf.old }
+    // no file changes, but for one that is saved
+    ensures content { result ≢ 2 → result ≢ 8 → S.content shelf.new ≡ S.content shelf.old }
+    ensures saved { (files : Files) → S.content shelf.old ≡ Some files → IsPlain result →
+        S.content shelf.new ≡ put_by (answer (map string_bytes words.now) files) (S.content shelf.old) }
 
     // a status that tells of no fault is the answer's, with the answer's text on `out`
     ensures settled { (files : Files) → S.content shelf.old ≡ Some files →
@@ -51,7 +54,7 @@ pub fn run_plain<S: Shelf, O: Sink, E: Sink, L: Ledger>(
     // where no count of faults rose there is the answer, or memory ran out
     ensures complete { (files : Files) → S.content shelf.old ≡ Some files →
         ¬ Rose (S.read_faults shelf.old) (S.read_faults shelf.new) → ¬ Rose (O.faults out.old) (O.faults out.new) →
-        result ≢ 9 → IsAnswered (answer (map string_bytes words.now) files) result (O.written out.old)
+        ¬ Rose (S.put_faults shelf.old) (S.put_faults shelf.new) → result ≢ 9 → IsAnswered (answer (map string_bytes words.now) files) result (O.written out.old)
         (O.written out.new) }
 
     // status 3 tells that the words have no reading, and such words have it unless memory ran out
@@ -68,13 +71,20 @@ pub fn run_plain<S: Shelf, O: Sink, E: Sink, L: Ledger>(
     // no failed read is passed over
     ensures no_read_fault { result ≢ 7 → S.read_faults shelf.new ≡ S.read_faults shelf.old }
 
-    // a failed write: of the text of a command that nothing refuses
-    ensures write_fault { result ≡ 8 → Rose (O.faults out.old) (O.faults out.new) }
+    // a failed write of the text of a command that nothing refuses, or a failed put of the file that it saves
+    ensures write_fault { result ≡ 8 → Rose (O.faults out.old) (O.faults out.new)
+        ⊎ (Rose (S.put_faults shelf.old) (S.put_faults shelf.new)
+        × IsOfSaving (reading (map string_bytes words.now)) (S.failed_put shelf.new)) }
     ensures cut_short { (files : Files) → S.content shelf.old ≡ Some files → result ≡ 8 →
-        IsCutShort (answer (map string_bytes words.now) files) (O.written out.old) (O.written out.new) }
+        (Rose (O.faults out.old) (O.faults out.new) × (S.content shelf.new ≡ S.content shelf.old)
+        × IsCutShort (answer (map string_bytes words.now) files) (O.written out.old) (O.written out.new))
+        ⊎ (Rose (S.put_faults shelf.old) (S.put_faults shelf.new)
+        × IsUnsaved (answer (map string_bytes words.now) files) (S.failed_put shelf.new)
+        (O.written out.old) (O.written out.new) (S.content shelf.old) (S.content shelf.new)) }
 
-    // no failed write of it is passed over
+    // no failed write or put is passed over
     ensures no_write_fault { result ≢ 8 → O.faults out.new ≡ O.faults out.old }
+    ensures no_put_fault { result ≢ 8 → S.put_faults shelf.new ≡ S.put_faults shelf.old }
 
     // no other status but 0, 1, 2, 10 and 8 writes to `out`
     ensures silent { result ≢ 0 → result ≢ 1 → result ≢ 2 → result ≢ 10 → result ≢ 8 →
@@ -94,7 +104,7 @@ pub fn run_plain<S: Shelf, O: Sink, E: Sink, L: Ledger>(
     ensures never_falls { steps.old ≤ steps.new }
 {
     let reply = reply_to(alloc, words, shelf, steps);
-    tell(reply, out, err)
+    tell(reply, shelf, out, err)
 }
 
 /// The reply to a command line, before anything is written.
@@ -107,6 +117,7 @@ fn reply_to<S: Shelf, L: Ledger>(
     ensures serves { (files : Files) → S.content shelf.old ≡ Some files →
         Serves files (work_for (map string_bytes words.now)) (S.failed_read shelf.new) result }
     ensures done { IfOk result (λ reply. IsCarriedOut reply.status) }
+    ensures saved { IfOk result (IsSavedAs (saves_as (reading (map string_bytes words.now)))) }
     ensures usage { IsErrOf result Stop.Usage → reading (map string_bytes words.now) ≡ None }
     ensures unread { reading (map string_bytes words.now) ≡ None →
         (result ≡ Err Stop.Usage) ⊎ (result ≡ Err Stop.NoMemory) }
@@ -119,6 +130,7 @@ fn reply_to<S: Shelf, L: Ledger>(
     ensures no_frames { reading (map string_bytes words.now) ≡ None → steps.new ≡ steps.old }
     ensures never_falls { steps.old ≤ steps.new }
     ensures content { S.content shelf.new ≡ S.content shelf.old }
+    ensures put_faults { S.put_faults shelf.new ≡ S.put_faults shelf.old }
 {
     match read_words(alloc, words) {
         Ok(command) => carry_out(alloc, &command, shelf, steps),
@@ -139,6 +151,7 @@ pub fn carry_out<S: Shelf, L: Ledger>(
     ensures serves { (files : Files) → S.content shelf.old ≡ Some files →
         Serves files (work_of command.now) (S.failed_read shelf.new) result }
     ensures done { IfOk result (λ reply. IsCarriedOut reply.status) }
+    ensures saved { IfOk result (IsSavedAs (save_name command.now)) }
     ensures not_words { result ≢ Err Stop.Usage }
     ensures fault { IsErrOf result Stop.ReadFault → Rose (S.read_faults shelf.old) (S.read_faults shelf.new) }
     ensures no_fault { ¬ IsErrOf result Stop.ReadFault → S.read_faults shelf.new ≡ S.read_faults shelf.old }
@@ -148,6 +161,7 @@ pub fn carry_out<S: Shelf, L: Ledger>(
         steps.new ≤ steps.old + frames_of (given files (work_of command.now)) }
     ensures never_falls { steps.old ≤ steps.new }
     ensures content { S.content shelf.new ≡ S.content shelf.old }
+    ensures put_faults { S.put_faults shelf.new ≡ S.put_faults shelf.old }
 {
     match command {
         Command::Play { cart, movie } => {
@@ -170,15 +184,28 @@ pub fn carry_out<S: Shelf, L: Ledger>(
             start,
             options,
         } => {
-            let game = (named(CartFormat, cart), named(ScriptFormat, script));
-            let job = Search { options: *options };
-            serve(
-                alloc,
-                &(game, named(MovieFormat, start)),
-                &job,
-                shelf,
-                steps,
-            )
+            let files = SearchFiles {
+                cart,
+                script,
+                start,
+                saved: None,
+            };
+            serve(alloc, &files, &Search { options }, shelf, steps)
+        }
+        Command::Resume {
+            cart,
+            script,
+            start,
+            saved,
+            options,
+        } => {
+            let files = SearchFiles {
+                cart,
+                script,
+                start,
+                saved: Some(saved),
+            };
+            serve(alloc, &files, &Search { options }, shelf, steps)
         }
         Command::Check { cart, script } => {
             let files = (named(CartFormat, cart), named(ScriptFormat, script));

@@ -5,16 +5,15 @@ ghost use Rattle.std.specs.List.{AllZip};
 ghost use Rattle.nj_outside.specs.Fnv.{fnv_of};
 ghost use Rattle.nj_outside.specs.Rise.{Rose};
 ghost use Rattle.nj_outside.specs.Told.{Files, appended};
-ghost use Rattle.nj_app.specs.Answer.{answer, frames_of, file_names, work_of, work_for};
-ghost use Rattle.nj_app.specs.Causes.{statuses, IsAnswered, Settles, IsCutShort, IsCarriedOut, IsOfCommand, fixed_line, line_for};
+ghost use Rattle.nj_app.specs.Answer.{answer, frames_of, file_names, save_name, work_of, work_for};
+ghost use Rattle.nj_app.specs.Causes.{statuses, IsAnswered, IsPlain, Settles, IsCutShort, IsUnsaved, IsCarriedOut, IsOfCommand};
+ghost use Rattle.nj_app.specs.Causes.{IsOfSaving, IsSavedAs, fixed_line, line_for, put_by, saves_as};
 ghost use Rattle.nj_app.specs.Stops.{Serves};
 ghost use Rattle.nj_app.specs.Work.{given, Reaches};
 ghost use Rattle.nj_words.specs.Commands.{reading, IsInRange};
 ghost use Rattle.nj_workers.specs.Counted.{AreCounted};
 
-use crate::commands::search::answer_by_workers;
-use crate::files::{Source, named};
-use crate::formats::{CartFormat, MovieFormat, ScriptFormat};
+use crate::commands::search::{SearchFiles, share};
 use crate::running::carry_out;
 use crate::stops::{Reply, Stop};
 use crate::telling::tell;
@@ -45,8 +44,10 @@ pub fn run<R: Threads + Wait + Sync, S: Shelf, O: Sink, E: Sink, G: Gate, L: Led
     requires { COUNTERS ≤ length steps.old.items }
     ensures known { Contains statuses result }
 
-    // no file changes
-    ensures content { S.content shelf.new ≡ S.content shelf.old }
+    // no file changes, but for one that is saved
+    ensures content { result ≢ 2 → result ≢ 8 → S.content shelf.new ≡ S.content shelf.old }
+    ensures saved { (files : Files) → S.content shelf.old ≡ Some files → IsPlain result →
+        S.content shelf.new ≡ put_by (answer (map string_bytes words.now) files) (S.content shelf.old) }
 
     // a status that tells of no fault is the answer's, with the answer's text on `out`
     ensures settled { (files : Files) → S.content shelf.old ≡ Some files →
@@ -55,7 +56,7 @@ pub fn run<R: Threads + Wait + Sync, S: Shelf, O: Sink, E: Sink, G: Gate, L: Led
     // where no count of faults rose there is the answer, or memory ran out
     ensures complete { (files : Files) → S.content shelf.old ≡ Some files →
         ¬ Rose (S.read_faults shelf.old) (S.read_faults shelf.new) → ¬ Rose (O.faults out.old) (O.faults out.new) →
-        result ≢ 9 → IsAnswered (answer (map string_bytes words.now) files) result (O.written out.old)
+        ¬ Rose (S.put_faults shelf.old) (S.put_faults shelf.new) → result ≢ 9 → IsAnswered (answer (map string_bytes words.now) files) result (O.written out.old)
         (O.written out.new) }
 
     // status 3 tells that the words have no reading, and such words have it unless memory ran out
@@ -72,13 +73,20 @@ pub fn run<R: Threads + Wait + Sync, S: Shelf, O: Sink, E: Sink, G: Gate, L: Led
     // no failed read is passed over
     ensures no_read_fault { result ≢ 7 → S.read_faults shelf.new ≡ S.read_faults shelf.old }
 
-    // a failed write: of the text of a command that nothing refuses
-    ensures write_fault { result ≡ 8 → Rose (O.faults out.old) (O.faults out.new) }
+    // a failed write of the text of a command that nothing refuses, or a failed put of the file that it saves
+    ensures write_fault { result ≡ 8 → Rose (O.faults out.old) (O.faults out.new)
+        ⊎ (Rose (S.put_faults shelf.old) (S.put_faults shelf.new)
+        × IsOfSaving (reading (map string_bytes words.now)) (S.failed_put shelf.new)) }
     ensures cut_short { (files : Files) → S.content shelf.old ≡ Some files → result ≡ 8 →
-        IsCutShort (answer (map string_bytes words.now) files) (O.written out.old) (O.written out.new) }
+        (Rose (O.faults out.old) (O.faults out.new) × (S.content shelf.new ≡ S.content shelf.old)
+        × IsCutShort (answer (map string_bytes words.now) files) (O.written out.old) (O.written out.new))
+        ⊎ (Rose (S.put_faults shelf.old) (S.put_faults shelf.new)
+        × IsUnsaved (answer (map string_bytes words.now) files) (S.failed_put shelf.new)
+        (O.written out.old) (O.written out.new) (S.content shelf.old) (S.content shelf.new)) }
 
-    // no failed write of it is passed over
+    // no failed write or put is passed over
     ensures no_write_fault { result ≢ 8 → O.faults out.new ≡ O.faults out.old }
+    ensures no_put_fault { result ≢ 8 → S.put_faults shelf.new ≡ S.put_faults shelf.old }
 
     // no other status but 0, 1, 2, 10 and 8 writes to `out`
     ensures silent { result ≢ 0 → result ≢ 1 → result ≢ 2 → result ≢ 10 → result ≢ 8 →
@@ -98,7 +106,7 @@ pub fn run<R: Threads + Wait + Sync, S: Shelf, O: Sink, E: Sink, G: Gate, L: Led
     ensures never_falls { AllZip (λ before after. before ≤ after) steps.old.items steps.new.items }
 {
     let reply = reply_by_workers(rt, alloc, words, shelf, gate, steps);
-    tell(reply, out, err)
+    tell(reply, shelf, out, err)
 }
 
 /// The reply to a command line, before anything is written.
@@ -114,6 +122,7 @@ fn reply_by_workers<R: Threads + Wait + Sync, S: Shelf, G: Gate, L: Ledger + Sen
     ensures serves { (files : Files) → S.content shelf.old ≡ Some files →
         Serves files (work_for (map string_bytes words.now)) (S.failed_read shelf.new) result }
     ensures done { IfOk result (λ reply. IsCarriedOut reply.status) }
+    ensures saved { IfOk result (IsSavedAs (saves_as (reading (map string_bytes words.now)))) }
     ensures usage { IsErrOf result Stop.Usage → reading (map string_bytes words.now) ≡ None }
     ensures unread { reading (map string_bytes words.now) ≡ None →
         (result ≡ Err Stop.Usage) ⊎ (result ≡ Err Stop.NoMemory) }
@@ -126,6 +135,7 @@ fn reply_by_workers<R: Threads + Wait + Sync, S: Shelf, G: Gate, L: Ledger + Sen
     ensures no_frames { reading (map string_bytes words.now) ≡ None → steps.new.items ≡ steps.old.items }
     ensures never_falls { AllZip (λ before after. before ≤ after) steps.old.items steps.new.items }
     ensures content { S.content shelf.new ≡ S.content shelf.old }
+    ensures put_faults { S.put_faults shelf.new ≡ S.put_faults shelf.old }
 {
     match read_words(alloc, words) {
         Ok(command) => carry_out_by_workers(rt, alloc, &command, shelf, gate, steps),
@@ -134,7 +144,7 @@ fn reply_by_workers<R: Threads + Wait + Sync, S: Shelf, G: Gate, L: Ledger + Sen
     }
 }
 
-/// The reply to a command. Every command but a search by several workers is carried out on the first counter.
+/// The reply to a command. Every command but a search by several workers, begun or gone on with, is carried out on the first counter.
 #[tactic(auto, unfolding(crate::specs::Answer::work_of, crate::specs::Search::search_work, nj_words::specs::Commands::IsInRange))]
 fn carry_out_by_workers<R: Threads + Wait + Sync, S: Shelf, G: Gate, L: Ledger + Send>(
     rt: &R,
@@ -149,6 +159,7 @@ fn carry_out_by_workers<R: Threads + Wait + Sync, S: Shelf, G: Gate, L: Ledger +
     ensures serves { (files : Files) → S.content shelf.old ≡ Some files →
         Serves files (work_of command.now) (S.failed_read shelf.new) result }
     ensures done { IfOk result (λ reply. IsCarriedOut reply.status) }
+    ensures saved { IfOk result (IsSavedAs (save_name command.now)) }
     ensures not_words { result ≢ Err Stop.Usage }
     ensures fault { IsErrOf result Stop.ReadFault → Rose (S.read_faults shelf.old) (S.read_faults shelf.new) }
     ensures no_fault { ¬ IsErrOf result Stop.ReadFault → S.read_faults shelf.new ≡ S.read_faults shelf.old }
@@ -158,6 +169,7 @@ fn carry_out_by_workers<R: Threads + Wait + Sync, S: Shelf, G: Gate, L: Ledger +
         AreCounted COUNTERS steps.old.items steps.new.items (frames_of (given files (work_of command.now))) }
     ensures never_falls { AllZip (λ before after. before ≤ after) steps.old.items steps.new.items }
     ensures content { S.content shelf.new ≡ S.content shelf.old }
+    ensures put_faults { S.put_faults shelf.new ≡ S.put_faults shelf.old }
 {
     match command {
         Command::Search {
@@ -166,9 +178,28 @@ fn carry_out_by_workers<R: Threads + Wait + Sync, S: Shelf, G: Gate, L: Ledger +
             start,
             options,
         } if options.workers > 1 => {
-            let game = (named(CartFormat, cart), named(ScriptFormat, script));
-            let said = (game, named(MovieFormat, start)).load(alloc, shelf)?;
-            answer_by_workers(rt, alloc, said, *options, gate, steps)
+            let files = SearchFiles {
+                cart,
+                script,
+                start,
+                saved: None,
+            };
+            share(rt, alloc, &files, options, shelf, gate, steps)
+        }
+        Command::Resume {
+            cart,
+            script,
+            start,
+            saved,
+            options,
+        } if options.workers > 1 => {
+            let files = SearchFiles {
+                cart,
+                script,
+                start,
+                saved: Some(saved),
+            };
+            share(rt, alloc, &files, options, shelf, gate, steps)
         }
         _ => carry_out(alloc, command, shelf, &mut steps[0]),
     }

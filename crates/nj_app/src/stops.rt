@@ -1,48 +1,13 @@
 //! What a command comes to: a reply, or what stops it.
 
-ghost use Rattle.std.specs.Prelude.{◌≡◌};
-ghost use Rattle.nj_app.specs.Kinds.{kind_name, kind_status};
-ghost use Rattle.nj_app.specs.Stops.{status_of, line_of};
+ghost use Rattle.std.specs.Prelude.{◌≡◌, None};
+ghost use Rattle.nj_texts.specs.Refusals.{too_long};
+ghost use Rattle.nj_app.specs.Stops.{IsRefusal, status_of, line_of};
 
+use crate::files::Bounds;
 use nj_seq::{Seq, Text};
-use std::alloc::AllocError;
-
-/// What a refusal is of: a kind of file, or a plan.
-#[derive(Clone, Copy)]
-pub enum Kind {
-    Cartridge,
-    Script,
-    Plan,
-    Movie,
-    Source,
-}
-
-impl Kind {
-    /// Its name in a line of refusal.
-    pub fn name(self) -> &'static str
-        ensures { result.now ≡ kind_name self }
-    {
-        match self {
-            Kind::Cartridge => "cartridge",
-            Kind::Script => "script",
-            Kind::Plan => "plan",
-            Kind::Movie => "movie",
-            Kind::Source => "asm",
-        }
-    }
-
-    /// The exit status of a command that ends with such a refusal.
-    pub fn status(self) -> u8
-        ensures { result ≡ kind_status self }
-    {
-        match self {
-            Kind::Cartridge => 4,
-            Kind::Script | Kind::Plan => 5,
-            Kind::Movie => 6,
-            Kind::Source => 12,
-        }
-    }
-}
+use nj_texts::{Kind, Refusal, refusal_line};
+use std::alloc::{AllocError, Global};
 
 /// Why a command ends before its text. A refusal has its whole line.
 #[derive(Drop)]
@@ -89,19 +54,66 @@ impl From<AllocError> for Stop {
     }
 }
 
-/// A command that was carried out: its exit status and its text.
+/// The stop of a refusal of this kind.
+pub fn refused<R: Refusal>(alloc: Global, kind: Kind, refusal: &R) -> Stop
+    ensures { IsRefusal kind (R.text refusal.now) result }
+{
+    match refusal.text(alloc) {
+        Ok(text) => told(alloc, kind, text.as_str()),
+        Err(_) => Stop::NoMemory,
+    }
+}
+
+/// The stop of a file that is longer than its limit.
+pub fn too_long(alloc: Global, bounds: Bounds) -> Stop
+    ensures { IsRefusal bounds.kind (too_long bounds.too_long bounds.limit) result }
+{
+    match nj_texts::too_long(alloc, bounds.too_long, bounds.limit) {
+        Ok(text) => told(alloc, bounds.kind, text.as_str()),
+        Err(_) => Stop::NoMemory,
+    }
+}
+
+fn told(alloc: Global, kind: Kind, refusal: &str) -> Stop
+    ensures { IsRefusal kind refusal.now result }
+{
+    match refusal_line(alloc, kind, refusal) {
+        Ok(line) => Stop::Refused { kind, line },
+        Err(_) => Stop::NoMemory,
+    }
+}
+
+/// A file to put: its name and its bytes.
+#[derive(Drop)]
+pub struct Put {
+    pub name: Text,
+    pub bytes: Seq<u8>,
+}
+
+/// A command that was carried out: its exit status, its text, and the file that is put behind it, if there is one.
 #[derive(Drop)]
 pub struct Reply {
     pub status: u8,
     pub text: Seq<u8>,
+    pub file: Option<Put>,
 }
 
 impl Reply {
-    /// The reply with this text, whose bytes move.
-    pub fn of(status: u8, text: Text) -> Reply
-        ensures { result ≡ record { status = status; text = text } }
+    /// The reply with this text and no file.
+    pub fn of(status: u8, text: Seq<u8>) -> Reply
+        ensures { result ≡ record { status = status; text = text; file = None } }
     {
-        let text = Seq::from_vec(text.into_string().into_bytes());
-        Reply { status, text }
+        Reply {
+            status,
+            text,
+            file: None,
+        }
     }
+}
+
+/// The bytes of a text, which move.
+pub fn bytes_of(text: Text) -> Seq<u8>
+    ensures { result ≡ text }
+{
+    Seq::from_vec(text.into_string().into_bytes())
 }

@@ -2,11 +2,14 @@
 
 ghost use Rattle.std.specs.Prelude.{◌≡◌};
 
-use crate::cases::{CHECKS, CLEANS, LISTS, PLANS, PLAYS, REPLAYS, SEARCHES, SOURCES, TRACES, WINS};
-use crate::files::{made_shelf, shelf_with};
+use crate::cases::{
+    CHECKS, CLEANS, FAULTS, LISTS, PLANS, PLAYS, QUOTAS, REPLAYS, SAVES, SEARCHES, SOURCES, TRACES,
+    WINS,
+};
+use crate::files::{GOAL, made_shelf, shelf_with};
 use crate::meeting::Meeting;
 use nj_app::{COUNTERS, Gate, OpenGate, run, run_plain};
-use nj_outside::{MemShelf, MemSink};
+use nj_outside::{MemShelf, MemSink, fnv, fnv_on, read_decimal};
 use nj_steps::Steps;
 use std::alloc::{AllocError, Global};
 use std::marker::Brand;
@@ -16,8 +19,10 @@ use std::sync::ledger::{Blank, Ledger};
 use std::test::Fail;
 use std::thread::Threads;
 
-/// No call of `out` or `err` fails.
-const NONE: (&[u64], &[u64]) = (&[], &[]);
+/// The numbers of the calls of the shelf, of `out` and of `err` that fail, 0 for none.
+type Failing = (u64, u64, u64);
+
+const NONE: Failing = (0, 0, 0);
 
 fn words_of(alloc: Global, line: &str) -> Result<Vec<String>, AllocError> {
     let mut words = Vec::new(alloc);
@@ -45,16 +50,16 @@ fn run_alone<L: Ledger>(
 fn by_one(
     alloc: Global,
     line: &str,
-    mut shelf: MemShelf,
-    failing: (&[u64], &[u64]),
+    shelf: &mut MemShelf,
+    failing: Failing,
 ) -> Result<(u8, MemSink, MemSink), AllocError> {
     let words = words_of(alloc, line)?;
-    let mut out = MemSink::new(alloc, Vec::from_slice(alloc, failing.0)?, 10);
-    let mut err = MemSink::new(alloc, Vec::from_slice(alloc, failing.1)?, 10);
+    let mut out = MemSink::new(alloc, Vec::from_slice(alloc, &[failing.1])?, 10);
+    let mut err = MemSink::new(alloc, Vec::from_slice(alloc, &[failing.2])?, 10);
     let status = run_alone::<Brand>(
         alloc,
         words.as_slice(),
-        &mut shelf,
+        shelf,
         &mut out,
         &mut err,
         Blank::new(1),
@@ -67,7 +72,8 @@ fn by_workers<R: Threads + Wait + Sync, G: Gate, L: Ledger + Send>(
     rt: &R,
     alloc: Global,
     line: &str,
-    mut shelf: MemShelf,
+    shelf: &mut MemShelf,
+    failing: Failing,
     gate: &G,
     steps: &mut Vec<Steps<L>>,
 ) -> Result<(u8, MemSink, MemSink), AllocError> {
@@ -75,12 +81,10 @@ fn by_workers<R: Threads + Wait + Sync, G: Gate, L: Ledger + Send>(
         return Err(AllocError);
     }
     let words = words_of(alloc, line)?;
-    let mut out = MemSink::new(alloc, Vec::new(alloc), 10);
-    let mut err = MemSink::new(alloc, Vec::new(alloc), 10);
+    let mut out = MemSink::new(alloc, Vec::from_slice(alloc, &[failing.1])?, 10);
+    let mut err = MemSink::new(alloc, Vec::from_slice(alloc, &[failing.2])?, 10);
     let words = words.as_slice();
-    let status = run(
-        rt, alloc, words, &mut shelf, &mut out, &mut err, gate, steps,
-    );
+    let status = run(rt, alloc, words, shelf, &mut out, &mut err, gate, steps);
     Ok((status, out, err))
 }
 
@@ -98,32 +102,69 @@ fn marked(alloc: Global, case: &str, mark: char) -> Result<String, AllocError> {
     Ok(text)
 }
 
+// The lines with one mark, and those with the other without the last one's end.
+fn wanted(alloc: Global, case: &str, whole: char, part: char) -> Result<String, AllocError> {
+    let mut text = marked(alloc, case, whole)?;
+    text.push_str(marked(alloc, case, part)?.trim_end())?;
+    Ok(text)
+}
+
+// The calls of a case that fail.
+fn failing_of(alloc: Global, case: &str) -> Result<Failing, AllocError> {
+    let text = marked(alloc, case, '%')?;
+    let mut numbers = [0u64; 3];
+    for (number, part) in numbers.iter_mut().zip(text.split_whitespace()) {
+        *number = read_decimal(part).unwrap_or(0);
+    }
+    Ok((numbers[0], numbers[1], numbers[2]))
+}
+
+// The files that a case begins with.
+fn shelf_of(alloc: Global, case: &str) -> Result<MemShelf, AllocError> {
+    let movie = marked(alloc, case, '<')?;
+    let failing = failing_of(alloc, case)?;
+    shelf_with(alloc, movie.as_bytes(), &[failing.0])
+}
+
+// What a call came to, as a case writes it.
+fn told(
+    alloc: Global,
+    case: &str,
+    status: u8,
+    shelf: &MemShelf,
+) -> Result<(String, String), AllocError> {
+    let size = shelf.file("K").map_or(0, |file| file.len());
+    let has_size = !marked(alloc, case, '&')?.is_empty();
+    let size = if has_size {
+        format!(in alloc; "{size}\n")?
+    } else {
+        String::new(alloc)
+    };
+    Ok((format!(in alloc; "{status}\n")?, size))
+}
+
 // Whether the outcome is the case's.
-fn expect(
-    rt: &impl Abort,
+fn is_as_told(
     alloc: Global,
     case: &str,
     outcome: (u8, MemSink, MemSink),
-) -> Result<(), AllocError> {
+    shelf: &MemShelf,
+) -> Result<bool, AllocError> {
     let (status, out, err) = outcome;
-    let status = format!(in alloc; "{status}\n")?;
-    assert_eq!(rt;
-        status.as_str(),
-        marked(alloc, case, '=')?.as_str(),
-        "{case}"
-    );
-    assert_eq!(rt; out.bytes(), marked(alloc, case, '>')?.as_bytes(), "{case}");
-    assert_eq!(rt; err.bytes(), marked(alloc, case, '!')?.as_bytes(), "{case}");
-    Ok(())
+    let (status, size) = told(alloc, case, status, shelf)?;
+    let is_status = status.as_str() == marked(alloc, case, '=')?.as_str();
+    let is_size = size.as_str() == marked(alloc, case, '&')?.as_str();
+    let is_text = out.bytes() == wanted(alloc, case, '>', '~')?.as_bytes();
+    let is_line = err.bytes() == wanted(alloc, case, '!', '?')?.as_bytes();
+    Ok(is_status && is_size && is_text && is_line)
 }
 
 // Cases with a longer text, of which the lines are the first.
 fn begin_cases(rt: &impl Abort, alloc: Global, cases: &str) -> Result<(), AllocError> {
     for case in cases.split("\n\n") {
         let line = marked(alloc, case, '$')?;
-        let movie = marked(alloc, case, '<')?;
-        let shelf = shelf_with(alloc, movie.as_bytes(), &[])?;
-        let (status, out, err) = by_one(alloc, line.as_str(), shelf, NONE)?;
+        let mut shelf = shelf_of(alloc, case)?;
+        let (status, out, err) = by_one(alloc, line.as_str(), &mut shelf, NONE)?;
         let head = marked(alloc, case, '>')?;
         assert_eq!(rt; status, 0, "{case}");
         assert!(rt; out.bytes().starts_with(head.as_bytes()), "{case}");
@@ -133,27 +174,17 @@ fn begin_cases(rt: &impl Abort, alloc: Global, cases: &str) -> Result<(), AllocE
 }
 
 fn run_cases(rt: &impl Abort, alloc: Global, cases: &str) -> Result<(), AllocError> {
+    let mut shelf = shelf_with(alloc, b"", &[])?;
     for case in cases.split("\n\n") {
+        if !case.starts_with('+') {
+            shelf = shelf_of(alloc, case)?;
+        }
         let line = marked(alloc, case, '$')?;
-        let movie = marked(alloc, case, '<')?;
-        let shelf = shelf_with(alloc, movie.as_bytes(), &[])?;
-        expect(rt, alloc, case, by_one(alloc, line.as_str(), shelf, NONE)?)?;
+        let failing = failing_of(alloc, case)?;
+        let outcome = by_one(alloc, line.as_str(), &mut shelf, failing)?;
+        assert!(rt; is_as_told(alloc, case, outcome, &shelf)?, "{case}");
     }
     Ok(())
-}
-
-// Whether the outcome is the case's.
-fn is_as_told(
-    alloc: Global,
-    case: &str,
-    outcome: (u8, MemSink, MemSink),
-) -> Result<bool, AllocError> {
-    let (status, out, err) = outcome;
-    let status = format!(in alloc; "{status}\n")?;
-    let is_status = status.as_str() == marked(alloc, case, '=')?.as_str();
-    let is_text = out.bytes() == marked(alloc, case, '>')?.as_bytes();
-    let is_line = err.bytes() == marked(alloc, case, '!')?.as_bytes();
-    Ok(is_status && is_text && is_line)
 }
 
 // Whether all cases end so by `run`, with more words behind each line.
@@ -165,13 +196,17 @@ fn share_cases<R: Threads + Wait + Sync, L: Ledger + Send>(
     steps: &mut Vec<Steps<L>>,
 ) -> Result<bool, AllocError> {
     let mut are_told = true;
+    let mut shelf = shelf_with(alloc, b"", &[])?;
     for case in cases.split("\n\n") {
+        if !case.starts_with('+') {
+            shelf = shelf_of(alloc, case)?;
+        }
         let mut line = marked(alloc, case, '$')?;
         line.push_str(more)?;
-        let movie = marked(alloc, case, '<')?;
-        let shelf = shelf_with(alloc, movie.as_bytes(), &[])?;
-        let outcome = by_workers(rt, alloc, line.as_str(), shelf, &OpenGate, steps)?;
-        are_told &= is_as_told(alloc, case, outcome)?;
+        let failing = failing_of(alloc, case)?;
+        let line = line.as_str();
+        let outcome = by_workers(rt, alloc, line, &mut shelf, failing, &OpenGate, steps)?;
+        are_told &= is_as_told(alloc, case, outcome, &shelf)?;
     }
     Ok(are_told)
 }
@@ -200,7 +235,10 @@ fn two_search<R: Threads + Wait + Sync, L: Ledger + Send>(
     requires { blank.name ≡ L.name }
 {
     let mut steps = Steps::<L>::open_many(alloc, blank, COUNTERS)?;
-    share_cases(rt, alloc, SEARCHES, " --workers 2", &mut steps)
+    let are_found = share_cases(rt, alloc, SEARCHES, " --workers 2", &mut steps)?;
+    let are_saved = share_cases(rt, alloc, SAVES, " --workers 2", &mut steps)?;
+    let are_few = share_cases(rt, alloc, QUOTAS, "", &mut steps)?;
+    Ok(are_found && are_saved && are_few)
 }
 
 // Whether `run` does what one thread does where no workers are asked for.
@@ -214,7 +252,8 @@ fn one_does<R: Threads + Wait + Sync, L: Ledger + Send>(
     let mut steps = Steps::<L>::open_many(alloc, blank, COUNTERS)?;
     let are_won = share_cases(rt, alloc, WINS, "", &mut steps)?;
     let are_played = share_cases(rt, alloc, PLAYS, "", &mut steps)?;
-    Ok(are_won && are_played)
+    let have_failed = share_cases(rt, alloc, FAULTS, "", &mut steps)?;
+    Ok(are_won && are_played && have_failed)
 }
 
 #[test]
@@ -273,6 +312,136 @@ fn searches(rt: HostRuntime) -> Result<(), Fail> {
 }
 
 #[test]
+fn searches_are_saved_and_go_on(rt: HostRuntime) -> Result<(), Fail> {
+    run_cases(&rt, rt.alloc(), SAVES)?;
+    Ok(())
+}
+
+#[test]
+fn quotas_bound_the_kept(rt: HostRuntime) -> Result<(), Fail> {
+    run_cases(&rt, rt.alloc(), QUOTAS)?;
+    Ok(())
+}
+
+#[test]
+fn calls_fail(rt: HostRuntime) -> Result<(), Fail> {
+    run_cases(&rt, rt.alloc(), FAULTS)?;
+    Ok(())
+}
+
+// The saved search of two steps.
+fn saved_bytes(alloc: Global) -> Result<Vec<u8>, AllocError> {
+    let mut shelf = shelf_with(alloc, b"", &[])?;
+    let line = "search walk goal start --steps 2 --save K";
+    by_one(alloc, line, &mut shelf, NONE)?;
+    match shelf.file("K") {
+        Some(file) => Vec::from_slice(alloc, file),
+        None => Ok(Vec::new(alloc)),
+    }
+}
+
+// What `resume` of this saved file and start comes to.
+fn resume_of(
+    alloc: Global,
+    saved: &[u8],
+    start: &str,
+) -> Result<(u8, MemSink, MemSink), AllocError> {
+    let mut shelf = shelf_with(alloc, saved, &[])?;
+    let line = format!(in alloc; "resume walk goal {start} movie --steps 3")?;
+    by_one(alloc, line.as_str(), &mut shelf, NONE)
+}
+
+// A saved file that was changed, and the line that refuses it.
+fn expect_saved(
+    rt: &impl Abort,
+    alloc: Global,
+    saved: &[u8],
+    start: &str,
+    line: &str,
+) -> Result<(), AllocError> {
+    let (status, out, err) = resume_of(alloc, saved, start)?;
+    assert_eq!(rt; status, 11, "{line}");
+    assert_eq!(rt; out.bytes(), b"".as_slice(), "{line}");
+    assert_eq!(rt; err.bytes(), line.as_bytes());
+    Ok(())
+}
+
+#[test]
+fn saved_files_are_refused(rt: HostRuntime) -> Result<(), Fail> {
+    let alloc = rt.alloc();
+    let saved = saved_bytes(alloc)?;
+    assert_eq!(&rt; saved.len(), 90);
+    let mut cut = saved.clone()?;
+    cut.truncate(89);
+    expect_saved(
+        &rt,
+        alloc,
+        cut.as_slice(),
+        "start",
+        "nj: saved 5 Short at=89\n",
+    )?;
+    let mut long = saved.clone()?;
+    long.push(0)?;
+    expect_saved(
+        &rt,
+        alloc,
+        long.as_slice(),
+        "start",
+        "nj: saved 7 Trailing at=90\n",
+    )?;
+    let mut first = saved.clone()?;
+    first[24] = 0;
+    expect_saved(
+        &rt,
+        alloc,
+        first.as_slice(),
+        "start",
+        "nj: saved 6 Range at=24\n",
+    )?;
+    let mut other = saved.clone()?;
+    other[4] = 9;
+    expect_saved(
+        &rt,
+        alloc,
+        other.as_slice(),
+        "start",
+        "nj: saved 2 Version n=9\n",
+    )?;
+    Ok(())
+}
+
+// The two files that a saved search of version 1 and one of another start are.
+#[test]
+fn saved_files_have_hashes(rt: HostRuntime) -> Result<(), Fail> {
+    let alloc = rt.alloc();
+    let saved = saved_bytes(alloc)?;
+    let mut changed = saved.clone()?;
+    changed[44] = 1;
+    let (fields, check) = changed.as_slice().split_at(82);
+    let kept = check
+        .iter()
+        .rev()
+        .fold(0u64, |sum, byte| (sum << 8) | u64::from(*byte));
+    let now = fnv(fields);
+    let line = format!(in alloc; "nj: saved 9 Damaged kept={kept} now={now}\n")?;
+    expect_saved(&rt, alloc, changed.as_slice(), "start", line.as_str())?;
+    let now = fnv(GOAL.as_bytes());
+    let kept = fnv_on(now, &[0, 0, 0]);
+    let line = format!(in alloc; "nj: saved 4 OtherScript kept={kept} now={now}\n")?;
+    expect_saved(&rt, alloc, saved.as_slice(), "-", line.as_str())?;
+    let mut first = saved.clone()?;
+    first.truncate(82);
+    first[4] = 1;
+    let (status, out, _err) = resume_of(alloc, first.as_slice(), "start")?;
+    assert_eq!(rt; status, 0);
+    assert!(rt;
+        out.bytes()
+            .starts_with(b"# won step=5 frames=8 reward=105\n")
+    );
+    Ok(())
+}
+
+#[test]
 fn any_number_of_workers_writes_the_text_of_one(rt: HostRuntime) -> Result<(), Fail> {
     let wins = many_win::<HostRuntime, Brand>(&rt, rt.alloc(), Blank::new(1))?;
     assert!(rt; wins);
@@ -312,8 +481,8 @@ fn met<R: Threads + Wait + Sync, L: Ledger + Send>(
     let mut steps = Steps::<L>::open_many(alloc, blank, COUNTERS)?;
     let line = "search walk movie start --steps 20 --workers 2";
     let gate = Meeting::new();
-    let shelf = shelf_with(alloc, COUNTS.as_bytes(), &[])?;
-    let (status, out, err) = by_workers(rt, alloc, line, shelf, &gate, &mut steps)?;
+    let mut shelf = shelf_with(alloc, COUNTS.as_bytes(), &[])?;
+    let (status, out, err) = by_workers(rt, alloc, line, &mut shelf, NONE, &gate, &mut steps)?;
     let mut text = String::from_str(alloc, "# limit step=20 frames=23 reward=0\n")?;
     for _frame in 0..23 {
         text.push_str("|..|........|\n")?;
@@ -344,9 +513,10 @@ fn eight_as_one<R: Threads + Wait + Sync, L: Ledger + Send>(
 {
     let mut steps = Steps::<L>::open_many(alloc, blank, COUNTERS)?;
     let line = "search cart script start --budget 575488 --steps 20 --slots 16";
-    let one = by_workers(rt, alloc, line, made_shelf(alloc)?, &OpenGate, &mut steps)?;
+    let mut shelf = made_shelf(alloc)?;
+    let one = by_workers(rt, alloc, line, &mut shelf, NONE, &OpenGate, &mut steps)?;
     let line = "search cart script start --budget 575488 --steps 20 --slots 16 --workers 8";
-    let eight = by_workers(rt, alloc, line, made_shelf(alloc)?, &OpenGate, &mut steps)?;
+    let eight = by_workers(rt, alloc, line, &mut shelf, NONE, &OpenGate, &mut steps)?;
     let is_won = one
         .1
         .bytes()
@@ -361,17 +531,27 @@ fn eight_workers_search_a_workload_as_one(rt: HostRuntime) -> Result<(), Fail> {
     Ok(())
 }
 
-// One frame.
-const FRAME: &str = "|..|........|\n";
+const WIN: &str = "search walk goal start --steps 5";
 
-// Six calls read the two files.
+const WON: &str = "# won step=5 frames=8 reward=105
+|..|........|
+|..|........|
+|..|........|
+|..|...R....|
+|..|...R....|
+|..|...R....|
+|..|...R....|
+|..|...R....|
+";
+
+// Eight calls read the three files.
 #[test]
 fn reads_fail(rt: HostRuntime) -> Result<(), Fail> {
-    for call in 1..=7u64 {
-        let shelf = shelf_with(rt.alloc(), FRAME.as_bytes(), &[call])?;
-        let (status, out, err) = by_one(rt.alloc(), "play count movie", shelf, NONE)?;
+    for call in 1..=9u64 {
+        let mut shelf = shelf_with(rt.alloc(), b"", &[call])?;
+        let (status, out, err) = by_one(rt.alloc(), WIN, &mut shelf, NONE)?;
         let (wanted, text, line) = match call {
-            7 => (0, "# play frames=1 state=run\n0010 61\n", ""),
+            9 => (0, WON, ""),
             _ => (7, "", "nj: read fault\n"),
         };
         assert_eq!(rt; status, wanted);
@@ -381,27 +561,20 @@ fn reads_fail(rt: HostRuntime) -> Result<(), Fail> {
     Ok(())
 }
 
-// Four calls write the text.
+// Fifteen calls write the text of 145 bytes, ten each.
 #[test]
 fn writes_fail(rt: HostRuntime) -> Result<(), Fail> {
-    for (call, written) in [
-        (1, ""),
-        (2, "# play fra"),
-        (3, "# play frames=1 stat"),
-        (4, "# play frames=1 state=run\n0010"),
-    ] {
-        let shelf = shelf_with(rt.alloc(), FRAME.as_bytes(), &[])?;
-        let (status, out, err) = by_one(rt.alloc(), "play count movie", shelf, (&[call], &[]))?;
-        assert_eq!(rt; status, 8);
-        assert_eq!(rt; out.bytes(), written.as_bytes());
-        assert_eq!(rt; err.bytes(), b"nj: write fault\n".as_slice());
-    }
-    for (call, told) in [(1, ""), (2, "nj: read f")] {
-        let shelf = shelf_with(rt.alloc(), b"", &[])?;
-        let (status, out, err) = by_one(rt.alloc(), "play none -", shelf, (&[], &[call]))?;
-        assert_eq!(rt; status, 7);
-        assert_eq!(rt; out.bytes(), b"".as_slice());
-        assert_eq!(rt; err.bytes(), told.as_bytes());
+    for call in 1..=16u64 {
+        let mut shelf = shelf_with(rt.alloc(), b"", &[])?;
+        let (status, out, err) = by_one(rt.alloc(), WIN, &mut shelf, (0, call, 0))?;
+        let written = WON.as_bytes().iter().take((call as usize - 1) * 10);
+        let (wanted, line) = match call {
+            16 => (0, ""),
+            _ => (8, "nj: write fault\n"),
+        };
+        assert_eq!(rt; status, wanted);
+        assert!(rt; out.bytes().iter().eq(written));
+        assert_eq!(rt; err.bytes(), line.as_bytes());
     }
     Ok(())
 }
@@ -413,7 +586,8 @@ fn expect_workload(
     line: &str,
     head: &str,
 ) -> Result<(), AllocError> {
-    let (status, wrote, told) = by_one(alloc, line, shelf_with(alloc, b"", &[])?, NONE)?;
+    let mut shelf = shelf_with(alloc, b"", &[])?;
+    let (status, wrote, told) = by_one(alloc, line, &mut shelf, NONE)?;
     assert_eq!(rt; status, 0, "{line}");
     assert!(rt; wrote.bytes().starts_with(head.as_bytes()), "{line}");
     assert_eq!(rt; told.bytes(), b"".as_slice(), "{line}");

@@ -1,13 +1,14 @@
 //! `asm SOURCE`: the listing of an assembled source.
 
-ghost use Rattle.nj_app.specs.Asm.{listed_work};
+ghost use Rattle.std.specs.Prelude.{None};
+ghost use Rattle.nj_app.specs.Asm.{asm_finding};
 
 use crate::jobs::Job;
 use crate::stops::{Reply, Stop};
 use nj_asm::{Assembled, list};
 use nj_seq::Seq;
 use nj_steps::Steps;
-use std::alloc::Global;
+use std::alloc::{AllocError, Global};
 use std::sync::ledger::Ledger;
 
 /// What `asm` does.
@@ -15,20 +16,27 @@ use std::sync::ledger::Ledger;
 pub struct Asm;
 
 impl Job<Assembled> for Asm {
-    ghost rest = { λ _ assembled. listed_work assembled };
+    type Found = Seq<u8>;
+
+    ghost finding = { λ _. asm_finding };
 
     ghost needs = { λ _ _. Unit {0} };
 
-    fn answer<L: Ledger>(
+    ghost saves = { λ _. None };
+
+    #[tactic(auto, unfolding(crate::specs::Asm::asm_finding))]
+    fn find<L: Ledger>(
         &self,
         alloc: Global,
         said: Assembled,
         _steps: &mut Steps<L>,
-    ) -> Result<Reply, Stop> {
+    ) -> Result<Seq<u8>, Stop> {
         let text = list(alloc, said.bytes.as_slice(), said.origin)?;
-        Ok(Reply {
-            status: 0,
-            text: Seq::from_vec(text),
-        })
+        Ok(Seq::from_vec(text))
+    }
+
+    #[tactic(auto, unfolding(crate::specs::Asm::asm_finding))]
+    fn reply(&self, _alloc: Global, found: Seq<u8>) -> Result<Reply, AllocError> {
+        Ok(Reply::of(0, found))
     }
 }

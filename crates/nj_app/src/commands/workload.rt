@@ -1,29 +1,30 @@
 //! `workload NUMBER`: the search of the files that are made from a number.
 
-ghost use Rattle.std.specs.Prelude.{◌≡◌, ◌≢◌, ◌≤◌, ◌+◌, ◌++◌, length, IfOk, Some, Err};
-ghost use Rattle.nj_game.specs.Plan.{plan_of};
+ghost use Rattle.std.specs.Prelude.{◌≡◌, ◌≢◌, ◌≤◌, ◌+◌, ◌++◌, length, IfOk, Some, None, Err};
 ghost use Rattle.nj_outside.specs.Told.{Files};
+ghost use Rattle.nj_texts.specs.Lines.{workload_line};
 ghost use Rattle.nj_workload.specs.Game.{game_file};
 ghost use Rattle.nj_app.specs.Answer.{frames_of};
-ghost use Rattle.nj_app.specs.Causes.{IsCarriedOut};
+ghost use Rattle.nj_app.specs.Causes.{IsCarriedOut, IsSavedAs};
 ghost use Rattle.nj_app.specs.Outcomes.{outcome_head};
 ghost use Rattle.nj_app.specs.Stops.{Serves};
 ghost use Rattle.nj_app.specs.Work.{given};
-ghost use Rattle.nj_app.specs.Workload.{reported_work, workload_line, workload_work};
+ghost use Rattle.nj_app.specs.Workload.{workload_finding, workload_work};
 
-use crate::commands::search::searched;
 use crate::files::Made;
 use crate::formats::{CartFormat, MovieFormat, ScriptFormat};
 use crate::jobs::{Job, serve};
 use crate::outcomes::outcome_head;
-use crate::stops::{Reply, Stop};
+use crate::planning::{Setting, searched};
+use crate::stops::{Reply, Stop, bytes_of};
 use nj_ines::Cart;
 use nj_movie::Movie;
 use nj_outside::Shelf;
 use nj_script::Script;
 use nj_search::{Limits, Outcome};
-use nj_seq::Text;
+use nj_seq::{Seq, Text};
 use nj_steps::Steps;
+use nj_texts::workload_line;
 use nj_workload::make_workload;
 use std::alloc::{AllocError, Global};
 use std::sync::ledger::Ledger;
@@ -43,19 +44,36 @@ struct Report {
 }
 
 impl Job<((Cart, Script), Movie)> for Report {
-    ghost rest = { λ job said. reported_work job.number (plan_of said.0.0 said.0.1 said.1) };
+    type Found = Seq<u8>;
+
+    ghost finding = { λ job. workload_finding job.number };
 
     ghost needs = { λ job _. job.size ≡ length (game_file job.number) };
 
-    fn answer<L: Ledger>(
+    ghost saves = { λ _. None };
+
+    #[tactic(auto, unfolding(crate::specs::Workload::workload_finding))]
+    fn find<L: Ledger>(
         &self,
         alloc: Global,
         said: ((Cart, Script), Movie),
         steps: &mut Steps<L>,
-    ) -> Result<Reply, Stop> {
-        let outcome = searched(alloc, said, LIMITS, steps)?;
-        let text = report_text(alloc, self.number, self.size, &outcome)?;
-        Ok(Reply::of(0, text))
+    ) -> Result<Seq<u8>, Stop> {
+        let ((cart, script), start) = said;
+        let setting = Setting {
+            cart,
+            script,
+            start,
+            saved: None,
+        };
+        let ended = searched(alloc, setting, LIMITS, false, steps)?;
+        let text = report_text(alloc, self.number, self.size, &ended.outcome)?;
+        Ok(bytes_of(text))
+    }
+
+    #[tactic(auto, unfolding(crate::specs::Workload::workload_finding))]
+    fn reply(&self, _alloc: Global, found: Seq<u8>) -> Result<Reply, AllocError> {
+        Ok(Reply::of(0, found))
     }
 }
 
@@ -69,6 +87,7 @@ pub fn workload<S: Shelf, L: Ledger>(
     ensures serves { (files : Files) → S.content shelf.old ≡ Some files →
         Serves files (workload_work number) (S.failed_read shelf.new) result }
     ensures done { IfOk result (λ reply. IsCarriedOut reply.status) }
+    ensures saved { IfOk result (IsSavedAs None) }
     ensures not_words { result ≢ Err Stop.Usage }
     ensures not_unread { result ≢ Err Stop.ReadFault }
     ensures frames { (files : Files) → S.content shelf.old ≡ Some files →
@@ -76,6 +95,7 @@ pub fn workload<S: Shelf, L: Ledger>(
     ensures never_falls { steps.old ≤ steps.new }
     ensures content { S.content shelf.new ≡ S.content shelf.old }
     ensures no_fault { S.read_faults shelf.new ≡ S.read_faults shelf.old }
+    ensures put_faults { S.put_faults shelf.new ≡ S.put_faults shelf.old }
 {
     let made = make_workload(alloc, number)?;
     let cart = Made {
@@ -103,16 +123,8 @@ pub fn workload<S: Shelf, L: Ledger>(
 fn report_text(alloc: Global, number: u64, size: u64, outcome: &Outcome) -> Result<Text, AllocError>
     ensures { IfOk result (λ text. text ≡ workload_line number size ++ outcome_head outcome.now) }
 {
-    let mut text = write_line(alloc, number, size)?;
+    let mut text = workload_line(alloc, number, size)?;
     let head = outcome_head(alloc, outcome)?;
     text.push_str(head.as_str())?;
     Ok(text)
-}
-
-#[tactic(auto, unfolding(crate::specs::Workload::workload_line))]
-fn write_line(alloc: Global, number: u64, size: u64) -> Result<Text, AllocError>
-    ensures { IfOk result (λ text. text ≡ workload_line number size) }
-{
-    let line = format!(in alloc; "# workload number={number} size={size}\n")?;
-    Ok(Text::from_string(line))
 }

@@ -1,14 +1,13 @@
 -- The files that are made are those of the number.
 use Rattle.std.proofs.Common.{◌≡◌, ◌≤◌, ◌+◌, ◌∙◌, ℕ, List, ap, subst}
 use Rattle.std.proofs.lemmas.Result.{err_from_is_err_and}
-use Rattle.nj_game.specs.Plan.{plan_of}
 use Rattle.nj_workload.specs.Game.{game_file}
 use Rattle.nj_workload.specs.Script.{script_text, start_text}
 use Rattle.nj_app.specs.Answer.{frames_of}
 use Rattle.nj_app.specs.Formats.{cart_format, made, movie_format, script_format}
 use Rattle.nj_app.specs.Stops.{Serves}
-use Rattle.nj_app.specs.Work.{Work, both, given}
-use Rattle.nj_app.specs.Workload.{reported_work, workload_work}
+use Rattle.nj_app.specs.Work.{Work, both, found_in, given}
+use Rattle.nj_app.specs.Workload.{workload_finding, workload_work}
 use Rattle.nj_app.proofs.Serving.{serves_no_memory}
 use Rattle.nj_app.proofs.commands.workload.workload.Goals as goal
 
@@ -16,7 +15,7 @@ use Rattle.nj_app.proofs.commands.workload.workload.Goals as goal
 abbrev work_over : ℕ → List ℕ → List ℕ → List ℕ → Work
 work_over number cart script start =
     both (both (made cart_format cart) (made script_format script)) (made movie_format start)
-    (λ said. reported_work number (plan_of said.0.0 said.0.1 said.1))
+    (found_in (workload_finding number))
 
 work_is : (number : ℕ) (cart script start : List ℕ) → cart ≡ game_file number → script ≡ script_text number →
     start ≡ start_text →
