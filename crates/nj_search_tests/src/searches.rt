@@ -166,7 +166,7 @@ fn a_saved_search_goes_on(rt: HostRuntime) -> Result<(), Fail> {
     let alloc = rt.alloc();
     let two = plan(alloc, FIVE, &[0, 0, 0], limits(BUDGET, 2, 20))?;
     let (saved, size) = saved_at::<Brand>(alloc, Blank::new(1), two)?;
-    assert_eq!(rt; size, 82);
+    assert_eq!(rt; size, 90);
     assert_eq!(rt; saved.words.as_slice(), [R, R].as_slice());
     let three = plan_on(alloc, FIVE, saved, limits(BUDGET, 3, 20))?;
     assert_eq!(rt;
@@ -181,7 +181,7 @@ fn saved_fronts_that_are_too_long(rt: HostRuntime) -> Result<(), Fail> {
     let alloc = rt.alloc();
     let two = plan(alloc, COUNTS, &[0, 0, 0], limits(4 * 8992, 2, 20))?;
     let (saved, size) = saved_at::<Brand>(alloc, Blank::new(1), two)?;
-    assert_eq!(rt; size, 110);
+    assert_eq!(rt; size, 118);
     let one = plan_on(alloc, COUNTS, saved, limits(8992, 1, 20))?;
     assert_eq!(rt;
         one.err(),
