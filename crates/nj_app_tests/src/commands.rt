@@ -6,10 +6,10 @@ use crate::cases::{
     CHECKS, CLEANS, FAULTS, LISTS, PLANS, PLAYS, QUOTAS, REPLAYS, SAVES, SEARCHES, SOURCES, TRACES,
     WINS,
 };
-use crate::files::{GOAL, made_shelf, shelf_with};
+use crate::files::{made_shelf, shelf_with};
 use crate::meeting::Meeting;
 use nj_app::{COUNTERS, Gate, OpenGate, run, run_plain};
-use nj_outside::{MemShelf, MemSink, fnv, fnv_on, read_decimal};
+use nj_outside::{MemShelf, MemSink, read_decimal};
 use nj_steps::Steps;
 use std::alloc::{AllocError, Global};
 use std::marker::Brand;
@@ -407,37 +407,6 @@ fn saved_files_are_refused(rt: HostRuntime) -> Result<(), Fail> {
         "start",
         "nj: saved 2 Version n=9\n",
     )?;
-    Ok(())
-}
-
-// The two files that a saved search of version 1 and one of another start are.
-#[test]
-fn saved_files_have_hashes(rt: HostRuntime) -> Result<(), Fail> {
-    let alloc = rt.alloc();
-    let saved = saved_bytes(alloc)?;
-    let mut changed = saved.clone()?;
-    changed[44] = 1;
-    let (fields, check) = changed.as_slice().split_at(82);
-    let kept = check
-        .iter()
-        .rev()
-        .fold(0u64, |sum, byte| (sum << 8) | u64::from(*byte));
-    let now = fnv(fields);
-    let line = format!(in alloc; "nj: saved 9 Damaged kept={kept} now={now}\n")?;
-    expect_saved(&rt, alloc, changed.as_slice(), "start", line.as_str())?;
-    let now = fnv(GOAL.as_bytes());
-    let kept = fnv_on(now, &[0, 0, 0]);
-    let line = format!(in alloc; "nj: saved 4 OtherScript kept={kept} now={now}\n")?;
-    expect_saved(&rt, alloc, saved.as_slice(), "-", line.as_str())?;
-    let mut first = saved.clone()?;
-    first.truncate(82);
-    first[4] = 1;
-    let (status, out, _err) = resume_of(alloc, first.as_slice(), "start")?;
-    assert_eq!(rt; status, 0);
-    assert!(rt;
-        out.bytes()
-            .starts_with(b"# won step=5 frames=8 reward=105\n")
-    );
     Ok(())
 }
 

@@ -105,35 +105,6 @@ fn accepted(alloc: Global, text: &str) -> Result<Script, Fail> {
     Ok(Script::read(alloc, text.as_bytes()).map_err(|_| "refused")?)
 }
 
-#[test]
-fn what_a_script_says(rt: HostRuntime) -> Result<(), Fail> {
-    let first = accepted(rt.alloc(), judged())?;
-    assert_eq!(rt;
-        (first.hold(), first.tolerance(), first.quota()),
-        (1, 5, 1_048_576)
-    );
-    assert_eq!(rt;
-        (
-            first.property_count(),
-            first.rule_count(),
-            first.input_count()
-        ),
-        (2, 7, 3)
-    );
-    assert_eq!(rt; first.bucket().len(), 0);
-    let second = accepted(rt.alloc(), whole())?;
-    assert_eq!(rt;
-        (second.hold(), second.tolerance(), second.quota()),
-        (2, 7, 9)
-    );
-    let bucket = second.bucket();
-    assert_eq!(rt; bucket.len(), 2);
-    for (property, at) in bucket.iter().zip([2046, 16]) {
-        assert_eq!(rt; property.at, at);
-    }
-    Ok(())
-}
-
 // Working memory with these bytes at 16 and 17.
 fn memory(x: u8, t: u8) -> [u8; 2048] {
     let mut ram = [0; 2048];
