@@ -6,10 +6,10 @@ use crate::cases::{
     CHECKS, CLEANS, FAULTS, LISTS, PLANS, PLAYS, QUOTAS, REPLAYS, SAVES, SEARCHES, SOURCES, TRACES,
     WINS,
 };
-use crate::files::{made_shelf, shelf_with};
+use crate::files::{GOAL, made_shelf, shelf_with};
 use crate::meeting::Meeting;
 use nj_app::{COUNTERS, Gate, OpenGate, run, run_plain};
-use nj_outside::{MemShelf, MemSink, read_decimal};
+use nj_outside::{MemShelf, MemSink, fnv, fnv_on, read_decimal};
 use nj_steps::Steps;
 use std::alloc::{AllocError, Global};
 use std::marker::Brand;
@@ -366,6 +366,15 @@ fn expect_saved(
     Ok(())
 }
 
+// The bytes with another one at a place.
+fn with_byte(alloc: Global, bytes: &[u8], place: usize, byte: u8) -> Result<Vec<u8>, AllocError> {
+    let mut changed = Vec::new(alloc);
+    for (at, old) in bytes.iter().enumerate() {
+        changed.push(if at == place { byte } else { *old })?;
+    }
+    Ok(changed)
+}
+
 #[test]
 fn saved_files_are_refused(rt: HostRuntime) -> Result<(), Fail> {
     let alloc = rt.alloc();
@@ -389,8 +398,7 @@ fn saved_files_are_refused(rt: HostRuntime) -> Result<(), Fail> {
         "start",
         "nj: saved 7 Trailing at=90\n",
     )?;
-    let mut first = saved.clone()?;
-    first[24] = 0;
+    let first = with_byte(alloc, saved.as_slice(), 24, 0)?;
     expect_saved(
         &rt,
         alloc,
@@ -398,8 +406,7 @@ fn saved_files_are_refused(rt: HostRuntime) -> Result<(), Fail> {
         "start",
         "nj: saved 6 Range at=24\n",
     )?;
-    let mut other = saved.clone()?;
-    other[4] = 9;
+    let other = with_byte(alloc, saved.as_slice(), 4, 9)?;
     expect_saved(
         &rt,
         alloc,
@@ -407,6 +414,45 @@ fn saved_files_are_refused(rt: HostRuntime) -> Result<(), Fail> {
         "start",
         "nj: saved 2 Version n=9\n",
     )?;
+    Ok(())
+}
+
+// The hash of a saved file's bytes before the hash in it.
+fn hash_of(alloc: Global, saved: &[u8]) -> Result<u64, AllocError> {
+    let mut fields = Vec::from_slice(alloc, saved)?;
+    fields.truncate(82);
+    Ok(fnv(fields.as_slice()))
+}
+
+#[test]
+fn saved_files_have_hashes(rt: HostRuntime) -> Result<(), Fail> {
+    let alloc = rt.alloc();
+    let saved = saved_bytes(alloc)?;
+    let changed = with_byte(alloc, saved.as_slice(), 44, 1)?;
+    let kept = hash_of(alloc, saved.as_slice())?;
+    let now = hash_of(alloc, changed.as_slice())?;
+    let line = format!(in alloc; "nj: saved 9 Damaged kept={kept} now={now}\n")?;
+    expect_saved(&rt, alloc, changed.as_slice(), "start", line.as_str())?;
+    let now = fnv(GOAL.as_bytes());
+    let kept = fnv_on(now, &[0, 0, 0]);
+    let line = format!(in alloc; "nj: saved 4 OtherScript kept={kept} now={now}\n")?;
+    expect_saved(&rt, alloc, saved.as_slice(), "-", line.as_str())?;
+    Ok(())
+}
+
+// A saved file of version 1 has no hash.
+#[test]
+fn first_version_goes_on(rt: HostRuntime) -> Result<(), Fail> {
+    let alloc = rt.alloc();
+    let saved = saved_bytes(alloc)?;
+    let mut first = with_byte(alloc, saved.as_slice(), 4, 1)?;
+    first.truncate(82);
+    let (status, out, _err) = resume_of(alloc, first.as_slice(), "start")?;
+    assert_eq!(rt; status, 0);
+    assert!(rt;
+        out.bytes()
+            .starts_with(b"# won step=5 frames=8 reward=105\n")
+    );
     Ok(())
 }
 
@@ -533,12 +579,16 @@ fn reads_fail(rt: HostRuntime) -> Result<(), Fail> {
 // Fifteen calls write the text of 145 bytes, ten each.
 #[test]
 fn writes_fail(rt: HostRuntime) -> Result<(), Fail> {
-    for call in 1..=16u64 {
+    for whole in 0..16u64 {
         let mut shelf = shelf_with(rt.alloc(), b"", &[])?;
-        let (status, out, err) = by_one(rt.alloc(), WIN, &mut shelf, (0, call, 0))?;
-        let written = WON.as_bytes().iter().take((call as usize - 1) * 10);
-        let (wanted, line) = match call {
-            16 => (0, ""),
+        let failing = (0, whole.saturating_add(1), 0);
+        let (status, out, err) = by_one(rt.alloc(), WIN, &mut shelf, failing)?;
+        let written = WON
+            .as_bytes()
+            .iter()
+            .take((whole as usize).saturating_mul(10));
+        let (wanted, line) = match whole {
+            15 => (0, ""),
             _ => (8, "nj: write fault\n"),
         };
         assert_eq!(rt; status, wanted);

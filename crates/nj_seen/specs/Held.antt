@@ -41,7 +41,8 @@ pub record HoldsSeen (words : List ℕ) (seen : Seen) (step : ℕ) : Type 0 wher
 
 -- the keys of a table whose owner is this step, in rising order
 abbrev pub generation_at : List ℕ → ℕ → List ℕ
-generation_at words step = in_order nat_lt (map (λ entry. entry.0) (filter (λ entry. entry.1 == step) (entries_in words)))
+generation_at words step =
+    in_order nat_lt (map (λ entry. entry.0) (filter (λ entry. entry.1 == step) (entries_in words)))
 
 -- the generations of so many consecutive steps, the first of step `first`
 abbrev pub generations_from : List ℕ → ℕ → ℕ → Seen
@@ -74,8 +75,8 @@ abbrev pub owner_since : ℕ → Option ℕ → Option ℕ
 owner_since from None = None
 owner_since from (Some owner) = if nat_le from owner then Some owner else None
 
--- the step of the oldest generation that is kept: with this room its keys and all later ones fit in the slots, and those
--- since any earlier step do not
+-- the step of the oldest generation that is kept: with this room its keys and all later ones fit in the slots, and
+-- those since any earlier step do not
 pub record IsOldestKept (words : List ℕ) (room from : ℕ) : Type 0 where
   pub fits : length (entries_since from words) + room ≤ slot_count words
   pub over : (earlier : ℕ) → earlier < from → slot_count words < length (entries_since earlier words) + room

@@ -21,7 +21,8 @@ is_live_row mark step row = is_live_judged mark step (row_judged row)
 -- whether a row is fresh among rows: its key is not seen, and no row of smaller number has it
 abbrev pub is_fresh_row : Seen → List Row → Row → Bool
 is_fresh_row seen rows row =
-    not (is_seen seen row.key) && not (list_any (λ other. nat_lt other.number row.number && (other.key == row.key)) rows)
+    not (is_seen seen row.key)
+    && not (list_any (λ other. nat_lt other.number row.number && (other.key == row.key)) rows)
 
 -- numbers rise from each row to every later one
 abbrev pub IsRising : List Row → Type 0

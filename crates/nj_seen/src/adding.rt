@@ -17,7 +17,8 @@ use std::collections::HashSet;
 pub fn unseen(alloc: Global, rows: &[Row], words: &[u64], from: u64) -> Result<Vec<Row>, AllocError>
     requires rising { IsRising rows.now }
     requires table { IsTable words.now }
-    ensures { IfOk result (λ fresh. (seen : Seen) (step : ℕ) → HoldsSeen words.now seen step → fresh.items ≡ fresh_rows (drop (from - oldest_step step seen) seen) rows.now) }
+    ensures { IfOk result (λ fresh. (seen : Seen) (step : ℕ) → HoldsSeen words.now seen step
+        → fresh.items ≡ fresh_rows (drop (from - oldest_step step seen) seen) rows.now) }
 {
     let mut met = HashSet::new(alloc);
     let mut fresh = Vec::new(alloc);
@@ -31,8 +32,10 @@ pub fn unseen(alloc: Global, rows: &[Row], words: &[u64], from: u64) -> Result<V
 // Whether neither the keys met so far nor a generation from a step on has the key, which is met now.
 fn is_first(met: &mut HashSet<u64>, key: u64, words: &[u64], from: u64) -> Result<bool, AllocError>
     requires { IsTable words.now }
-    ensures first { IfOk result (λ first. first ≡ (not (contains nat_eq met.old key) && not (is_owner_since from (owner_in words.now key)))) }
-    ensures met { OnOk result ((other : ℕ) → contains nat_eq met.new other ≡ (contains nat_eq met.old other || (key == other))) }
+    ensures first { IfOk result (λ first. first
+        ≡ (not (contains nat_eq met.old key) && not (is_owner_since from (owner_in words.now key)))) }
+    ensures met { OnOk result ((other : ℕ)
+        → contains nat_eq met.new other ≡ (contains nat_eq met.old other || (key == other))) }
 {
     let added = met.insert(key)?;
     Ok(added && !has_since(words, key, from))
@@ -76,7 +79,8 @@ pub fn add_keys(words: &mut [u64], keys: &[u64], step: u64)
     ensures table { IsTable words.new }
     ensures size { length words.new ≡ length words.old }
     ensures count { length (entries_in words.new) ≡ length (entries_in words.old) + length keys.now }
-    ensures owners { (key : ℕ) → owner_in words.new key ≡ (if list_any (λ k. k == key) keys.now then Some step else owner_in words.old key) }
+    ensures owners { (key : ℕ) → owner_in words.new key
+        ≡ (if list_any (λ k. k == key) keys.now then Some step else owner_in words.old key) }
 {
     for key in keys {
         insert(words, *key, step);

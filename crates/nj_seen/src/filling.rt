@@ -31,7 +31,8 @@ pub fn table_of(
     ensures table { IfOk result (λ told. IsTable told.0.items) }
     ensures slots { IfOk result (λ told. slot_count told.0.items ≡ 2 ^ exponent) }
     ensures seen { IfOk result (λ told. HoldsSeen told.0.items (forgotten (2 ^ exponent) room generations.now) step) }
-    ensures oldest { IfOk result (λ told. told.1.oldest ≡ oldest_step step (forgotten (2 ^ exponent) room generations.now)) }
+    ensures oldest { IfOk result (λ told. told.1.oldest
+        ≡ oldest_step step (forgotten (2 ^ exponent) room generations.now)) }
     ensures count { IfOk result (λ told. told.1.count ≡ key_count (forgotten (2 ^ exponent) room generations.now)) }
 {
     let mut words = empty_table(alloc, exponent)?;

@@ -25,11 +25,14 @@ pub fn left(words: &[u64], keys: SeenKeys, room: u64) -> SeenKeys
     requires fits { room ≤ slot_count words.now }
     requires steps { All (λ entry. entry.1 < first_claim) (entries_in words.now) }
     requires count { keys.count ≤ slot_count words.now }
-    ensures oldest { (seen : Seen) (step : ℕ) → HoldsSeen words.now seen step → keys.oldest ≡ oldest_step step seen → keys.count ≡ key_count seen
+    ensures oldest { (seen : Seen) (step : ℕ) → HoldsSeen words.now seen step
+        → keys.oldest ≡ oldest_step step seen → keys.count ≡ key_count seen
         → result.oldest ≡ oldest_step step (forgotten (slot_count words.now) room seen) }
-    ensures gone { (seen : Seen) (step : ℕ) → HoldsSeen words.now seen step → keys.oldest ≡ oldest_step step seen → keys.count ≡ key_count seen
+    ensures gone { (seen : Seen) (step : ℕ) → HoldsSeen words.now seen step
+        → keys.oldest ≡ oldest_step step seen → keys.count ≡ key_count seen
         → drop (result.oldest - keys.oldest) seen ≡ forgotten (slot_count words.now) room seen }
-    ensures count { (seen : Seen) (step : ℕ) → HoldsSeen words.now seen step → keys.oldest ≡ oldest_step step seen → keys.count ≡ key_count seen
+    ensures count { (seen : Seen) (step : ℕ) → HoldsSeen words.now seen step
+        → keys.oldest ≡ oldest_step step seen → keys.count ≡ key_count seen
         → result.count ≡ key_count (forgotten (slot_count words.now) room seen) }
 {
     entries_are_the_map();
@@ -54,7 +57,8 @@ pub fn room(alloc: Global, words: &[u64], front: u64, inputs: u64) -> Result<Vec
     ensures size { IfOk result (λ rest. length rest.items ≡ length words.now) }
     ensures exact { IfOk result (λ rest. IsWithRoom words.now (front * inputs) rest.items) }
     ensures room { IfOk result (λ rest. length (entries_in rest.items) + front * inputs ≤ slot_count rest.items) }
-    ensures seen { IfOk result (λ rest. (seen : Seen) (step : ℕ) → HoldsSeen words.now seen step → HoldsSeen rest.items (forgotten (slot_count words.now) (front * inputs) seen) step) }
+    ensures seen { IfOk result (λ rest. (seen : Seen) (step : ℕ) → HoldsSeen words.now seen step
+        → HoldsSeen rest.items (forgotten (slot_count words.now) (front * inputs) seen) step) }
 {
     entries_are_the_map();
     different_numbers_fit();

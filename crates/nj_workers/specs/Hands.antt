@@ -29,11 +29,13 @@ rows_between before after = rows_of before.search.now (taken_between before afte
 
 -- the most frames that the candidates of these pieces cost
 abbrev pub frames_between : Hand → Hand → ℕ
-frames_between before after = before.search.now.plan.script.hold * runs_of before.search.now (taken_between before after)
+frames_between before after =
+    before.search.now.plan.script.hold * runs_of before.search.now (taken_between before after)
 
 -- the hand of the same worker after these pieces too: it may go on; the keys of their live candidates were claimed, and
 -- their rows kept; and each of their candidates cost at most the frames of a step
-pub record HasWorked (table : TableView) (pieces : Pieces) (before after : Hand) (old new : List Row) (from to : ℕ) : Type 0 where
+pub record HasWorked (table : TableView) (pieces : Pieces) (before after : Hand) (old new : List Row) (from to : ℕ)
+    : Type 0 where
   pub took : List ℕ
   pub taken : taken_of after.taker ≡ taken_of before.taker ++ took
   pub worker : after.worker ≡ before.worker

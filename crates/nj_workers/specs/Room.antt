@@ -1,5 +1,5 @@
 -- What the workers of a step are given: a table of the step's own. All of it is this project's own.
-use Rattle.std.specs.Prelude.{◌≡◌, ◌+◌, ◌*◌, ◌≤◌, ℕ, List, [], length}
+use Rattle.std.specs.Prelude.{◌+◌, ◌*◌, ◌≤◌, ℕ, List, [], length}
 use Rattle.nj_claims.specs.Tables.{IsTable, entries_in, slot_count}
 use Rattle.nj_seen.specs.Held.{HoldsSeen}
 use Rattle.nj_expand.specs.Held.{Held}

@@ -1,7 +1,7 @@
 //! The desks at which workers work, each with a counter.
 
 ghost use Rattle.std.specs.Prelude.{◌≡◌, ◌≤◌, ◌<◌, ◌+◌, ◌++◌, [], All, length, map, reverse, vec_len, vec_capacity, OnOk, OnErr};
-ghost use Rattle.nj_workers.specs.Hands.{MayWork, HasWorked};
+ghost use Rattle.nj_workers.specs.Hands.{MayWork};
 ghost use Rattle.nj_workers.specs.Desks.{EachPair, Served, AllServed};
 
 use crate::hand::WorkEnd;
@@ -36,7 +36,8 @@ pub(crate) fn work_all<'a, R: Threads + Wait + Sync, G: Gate, L: Ledger + Send>(
     requires some { 0 < length ends.old.items }
     requires counters { length ends.old.items ≤ length steps.old.items }
     requires may { All (λ end. MayWork table.now pieces.now end.hand) ends.old.items }
-    ensures served { OnOk result (AllServed table.now pieces.now ends.old.items ends.new.items steps.old.items steps.new.items) }
+    ensures served { OnOk result
+        (AllServed table.now pieces.now ends.old.items ends.new.items steps.old.items steps.new.items) }
     ensures capacity { OnOk result (vec_capacity ends.new ≡ vec_capacity ends.old) }
     ensures counters { OnErr result (steps.new.items ≡ steps.old.items) }
 {
@@ -69,7 +70,8 @@ fn serve_all<'a, R: Threads + Wait + Sync, G: Gate, L: Ledger + Send>(
     requires threads { 0 < threads }
     requires may { All (λ desk. MayWork table.now pieces.now desk.end.hand) desks.old }
     ensures many { length desks.new ≡ length desks.old }
-    ensures served { EachPair (λ old new. Served table.now pieces.now old.end new.end old.steps new.steps) desks.old desks.new }
+    ensures served { EachPair (λ old new. Served table.now pieces.now old.end new.end old.steps new.steps)
+        desks.old desks.new }
 {
     thread::for_each_mut(
         rt,

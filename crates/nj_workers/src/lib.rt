@@ -1,16 +1,17 @@
 //! One step of a search by several workers, which ends as one thread would end it, whoever takes which candidates.
 //!
 //! The front is cut into pieces of sixteen words. Each worker has a hand: a machine, a taker of the pieces, and a pass
-//! of the claim table that all share. It takes a piece, runs the candidates of its words, and claims the key of each live
-//! one for its number ([`work`]). It keeps their rows, but those of keys that it saw claimed for a smaller number and
-//! that do not win. The table is the step's own and begins empty, so that a step costs work for its candidates and none
-//! for each slot of the search's table. Then all passes come back to the first one, the table is closed, and the search
-//! ends the step by the rows and the closed table ([`next_shared`]). A worker that wants memory has no piece in hand then, and the others go
-//! on; where a piece is left in the end, the step answers want of memory and the search is spent.
+//! of the claim table that all share. It takes a piece, runs the candidates of its words, and claims the key of each
+//! live one for its number ([`work`]). It keeps their rows, but those of keys that it saw claimed for a smaller number
+//! and that do not win. The table is the step's own and begins empty, so that a step costs work for its candidates and
+//! none for each slot of the search's table. Then all passes come back to the first one, the table is closed, and the
+//! search ends the step by the rows and the closed table ([`next_shared`]). A worker that wants memory has no piece in
+//! hand then, and the others go on; where a piece is left in the end, the step answers want of memory and the search is
+//! spent.
 //!
-//! The definition to read first is `AreClaimed` in `specs/Claimed.antt`: what claims of rows, in whatever order, make of
-//! a pass, and which of the rows are kept. Claims of more rows, joined passes and another order of the rows only make
-//! larger `AreClaimed`s, and the one of all live rows is what the end of a step needs.
+//! The definition to read first is `AreClaimed` in `specs/Claimed.antt`: what claims of rows, in whatever order, make
+//! of a pass, and which of the rows are kept. Claims of more rows, joined passes and another order of the rows only
+//! make larger `AreClaimed`s, and the one of all live rows is what the end of a step needs.
 #![tactic(auto)]
 
 mod claiming;

@@ -38,7 +38,8 @@ pub fn next_shared<R: Threads + Wait + Sync, G: Gate, L: Ledger + Send>(
     ensures spent { OnErr result (search.new.spent ≡ true) }
     ensures plan { search.new.plan ≡ search.old.plan }
     ensures bounds { search.new.bounds ≡ search.old.bounds }
-    ensures frames { AreCounted workers steps.old.items steps.new.items (search.old.plan.script.hold * (length (candidates_in search.old) + length (kept_in search.old))) }
+    ensures frames { AreCounted workers steps.old.items steps.new.items
+        (search.old.plan.script.hold * (length (candidates_in search.old) + length (kept_in search.old))) }
 {
     match made(rt, search, alloc, workers, gate, steps) {
         Ok((rows, claims)) => search.finish(alloc, rows, claims, &mut steps[0]),
@@ -65,7 +66,8 @@ fn made<R: Threads + Wait + Sync, G: Gate, L: Ledger + Send>(
     requires counters { workers ≤ length steps.old.items }
     ensures rows { IfOk result (λ pair. AreRowsOf search.now pair.0.items) }
     ensures words { IfOk result (λ pair. IsClosedFor search.now pair.1.items) }
-    ensures frames { AreCounted workers steps.old.items steps.new.items (search.now.plan.script.hold * length (candidates_in search.now)) }
+    ensures frames { AreCounted workers steps.old.items steps.new.items
+        (search.now.plan.script.hold * length (candidates_in search.now)) }
 {
     let claims = opening(search, alloc)?;
     shared(rt, alloc, search, claims, workers, gate, steps)
@@ -82,8 +84,8 @@ fn opening(search: &Search, alloc: Global) -> Result<Vec<u64>, AllocError>
     Ok(claims)
 }
 
-// The least exponent from 10 on of a table with twice the room, or the greatest that is allowed, which has the room. In a
-// table that is half empty few slots are passed before a key's.
+// The least exponent from 10 on of a table with twice the room, or the greatest that is allowed, which has the room.
+// In a table that is half empty few slots are passed before a key's.
 fn exponent_for(room: u64, most: u32) -> u32
     requires least { 10 ≤ most }
     requires most { most ≤ 25 }

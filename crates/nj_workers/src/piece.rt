@@ -1,6 +1,6 @@
 //! The work of a piece: sixteen words of the front.
 
-ghost use Rattle.std.specs.Prelude.{◌≡◌, ◌≤◌, ◌<◌, ◌+◌, ◌*◌, ◌^◌, ◌∷◌, [], false, length, get_or, vec_len, vec_capacity};
+ghost use Rattle.std.specs.Prelude.{◌≡◌, ◌≤◌, ◌<◌, ◌+◌, ◌*◌, ◌^◌, [], false, length, get_or, vec_len, vec_capacity};
 ghost use Rattle.nj_machine.specs.State.{rom_of};
 ghost use Rattle.nj_game.specs.Words.{allowed_of};
 ghost use Rattle.nj_expand.specs.Front.{rom_in, size_in};
@@ -75,13 +75,15 @@ fn do_word<L: Ledger>(
     requires long { length image.old ≡ size_in search.now.plan }
     requires found { search.now.bounds.inputs ≤ vec_capacity found.old }
     requires room { vec_len rows.old + search.now.bounds.inputs ≤ vec_capacity rows.old }
-    ensures claimed { AddsClaimed (word_rows search.now place (get_or search.now.state.front place [])) pass.old pass.new rows.old.items rows.new.items }
+    ensures claimed { AddsClaimed (word_rows search.now place (get_or search.now.state.front place []))
+        pass.old pass.new rows.old.items rows.new.items }
     ensures few { vec_len rows.new ≤ vec_len rows.old + search.now.bounds.inputs }
     ensures capacity { vec_capacity rows.new ≡ vec_capacity rows.old }
     ensures cartridge { rom_of machine.new ≡ rom_in search.now.plan }
     ensures long { length image.new ≡ length image.old }
     ensures found { vec_capacity found.new ≡ vec_capacity found.old }
-    ensures frames { steps.new ≤ steps.old + search.now.plan.script.hold * length (allowed_of search.now.plan (get_or search.now.state.front place [])) }
+    ensures frames { steps.new ≤ steps.old
+        + search.now.plan.script.hold * length (allowed_of search.now.plan (get_or search.now.state.front place [])) }
     ensures never_falls { steps.old ≤ steps.new }
 {
     found.clear();

@@ -31,7 +31,8 @@ pub fn work<'a, R: Wait, G: Gate, L: Ledger>(
 ) -> WorkEnd<'a>
     requires { MayWork table.now pieces.now hand }
     ensures pieces { taken_of result.hand.taker ≡ taken_of hand.entry.taker ++ taken_between hand.entry result.hand }
-    ensures claimed { AreClaimed (rows_between hand.entry result.hand) hand.entry.pass result.hand.pass result.rows.items }
+    ensures claimed { AreClaimed (rows_between hand.entry result.hand)
+        hand.entry.pass result.hand.pass result.rows.items }
     ensures pass { IsSamePass hand.entry.pass result.hand.pass }
     ensures frames { steps.new ≤ steps.old + frames_between hand.entry result.hand }
     ensures never_falls { steps.old ≤ steps.new }
@@ -61,7 +62,8 @@ pub(crate) fn serve<'a, R: Wait, G: Gate, L: Ledger>(
     steps: &mut Steps<L>,
 )
     requires { MayWork table.now pieces.now end.old.hand }
-    ensures worked { HasWorked table.now pieces.now end.old.hand end.new.hand end.old.rows.items end.new.rows.items steps.old steps.new }
+    ensures worked { HasWorked table.now pieces.now end.old.hand end.new.hand
+        end.old.rows.items end.new.rows.items steps.old steps.new }
     ensures done { end.new.refused ≡ false → is_done end.new.hand.taker ≡ true }
 {
     let taken = take_all(
@@ -89,7 +91,8 @@ fn take_all<'a, R: Wait, G: Gate, L: Ledger>(
     steps: &mut Steps<L>,
 ) -> Result<(), AllocError>
     requires { MayWork table.now pieces.now hand.old }
-    ensures worked { HasWorked table.now pieces.now hand.old hand.new rows.old.items rows.new.items steps.old steps.new }
+    ensures worked { HasWorked table.now pieces.now hand.old hand.new
+        rows.old.items rows.new.items steps.old steps.new }
     ensures done { OnOk result (is_done hand.new.taker ≡ true) }
 {
     let inputs = hand.search.bounds().inputs as usize;
@@ -123,7 +126,8 @@ fn take_one<'a, R: Wait, G: Gate, L: Ledger>(
     requires long { length image.old ≡ size_in hand.old.search.now.plan }
     requires found { hand.old.search.now.bounds.inputs ≤ vec_capacity found.old }
     requires room { vec_len rows.old + 16 * hand.old.search.now.bounds.inputs ≤ vec_capacity rows.old }
-    ensures worked { HasWorked table.now pieces.now hand.old hand.new rows.old.items rows.new.items steps.old steps.new }
+    ensures worked { HasWorked table.now pieces.now hand.old hand.new
+        rows.old.items rows.new.items steps.old steps.new }
     ensures none { result ≡ false → is_done hand.new.taker ≡ true }
     ensures long { length image.new ≡ length image.old }
     ensures found { vec_capacity found.new ≡ vec_capacity found.old }

@@ -1,6 +1,6 @@
 //! What comes before the workers' work, and after it.
 
-ghost use Rattle.std.specs.Prelude.{◌≡◌, ◌≤◌, ◌<◌, ◌+◌, ◌++◌, false, true, [], All, length, map, reverse, vec_len, vec_capacity, IsOk, IfOk, OnOk, OnErr};
+ghost use Rattle.std.specs.Prelude.{◌≡◌, ◌≤◌, ◌<◌, ◌+◌, ◌++◌, false, true, [], All, length, map, reverse, vec_len, vec_capacity, IsOk, IfOk, OnOk};
 ghost use Rattle.nj_claims.specs.Passes.{first_pass, joined_pass};
 ghost use Rattle.nj_workers.specs.Desks.{IsSeated, joined_all, rows_all};
 

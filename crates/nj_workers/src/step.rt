@@ -1,6 +1,6 @@
 //! One step by several workers.
 
-ghost use Rattle.std.specs.Prelude.{◌≡◌, ◌≤◌, ◌<◌, ◌+◌, ◌*◌, [], false, true, length, drop, sum, vec_len, IfOk, OnOk};
+ghost use Rattle.std.specs.Prelude.{◌≡◌, ◌≤◌, ◌<◌, ◌+◌, ◌*◌, false, true, length, IfOk, OnOk};
 ghost use Rattle.nj_claims.specs.Passes.{first_pass};
 ghost use Rattle.nj_seen.specs.Rows.{IsRising};
 ghost use Rattle.nj_expand.specs.Held.{live_rows, candidates_in};
@@ -43,11 +43,13 @@ fn claimed_rows<R: Threads + Wait + Sync, G: Gate, L: Ledger + Send>(
     requires some { 1 ≤ workers }
     requires few { workers ≤ 64 }
     requires counters { workers ≤ length steps.old.items }
-    ensures claimed { IfOk result (λ rows. AreClaimed (live_rows search.now) (first_pass table.now.id) pass.new rows.items) }
+    ensures claimed { IfOk result
+        (λ rows. AreClaimed (live_rows search.now) (first_pass table.now.id) pass.new rows.items) }
     ensures own { OnOk result (pass.new.table ≡ table.now.id) }
     ensures root { OnOk result (pass.new.is_root ≡ true) }
     ensures joined { OnOk result (pass.new.out ≡ 0) }
-    ensures frames { AreCounted workers steps.old.items steps.new.items (search.now.plan.script.hold * length (candidates_in search.now)) }
+    ensures frames { AreCounted workers steps.old.items steps.new.items
+        (search.now.plan.script.hold * length (candidates_in search.now)) }
 {
     live_rows_come_by_words();
     let words = search.front_len();
@@ -82,7 +84,8 @@ pub(crate) fn shared<R: Threads + Wait + Sync, G: Gate, L: Ledger + Send>(
     requires counters { workers ≤ length steps.old.items }
     ensures rows { IfOk result (λ pair. AreRowsOf search.now pair.0.items) }
     ensures words { IfOk result (λ pair. IsClosedFor search.now pair.1.items) }
-    ensures frames { AreCounted workers steps.old.items steps.new.items (search.now.plan.script.hold * length (candidates_in search.now)) }
+    ensures frames { AreCounted workers steps.old.items steps.new.items
+        (search.now.plan.script.hold * length (candidates_in search.now)) }
 {
     claims_are_of_rows();
     owned_is_fresh();

@@ -1,5 +1,4 @@
 -- The table has room for the step.
-use Rattle.std.proofs.Common.{◌≡◌, ◌≤◌, ◌*◌, ◌^◌, ◌<◌, ℕ, arith}
 use Rattle.nj_workers.proofs.Rooms.{room_fits, opened_for}
 use Rattle.nj_workers.proofs.next.opening.Goals as goal
 
