@@ -106,13 +106,13 @@ met_back :
 met_back law plan [] k h e =
     at_its_end plan [] k
     (sym (in_after law plan.script.rules.rules (ram_after plan []) 0 k h
-      ∙ ap (λ b. b || is_met plan.script.rules.rules (ram_after plan []) k) (in_none k)) ∙ e)
+    ∙ ap (λ b. b || is_met plan.script.rules.rules (ram_after plan []) k) (in_none k)) ∙ e)
 met_back law plan (pad ∷ back) k h e =
     met_by plan pad back k (met_back law plan back k h)
     (or_cases (is_in (status_back plan back) k)
-      (is_met plan.script.rules.rules (ram_after plan (reverse (pad ∷ back))) k)
+    (is_met plan.script.rules.rules (ram_after plan (reverse (pad ∷ back))) k)
     (sym (in_after law plan.script.rules.rules (ram_after plan (reverse (pad ∷ back))) (status_back plan back) k h)
-      ∙ e))
+    ∙ e))
 
 -- a rule that was met is satisfied
 met_before :
@@ -131,7 +131,7 @@ pub met_along :
 unfolding status_of
 met_along law plan word k h = (
   λ e.
-  (let P : Word → Type 0 = λ w. IsMetAlong plan w k in
-   subst P (reverse-reverse word) (met_back law plan (reverse word) k h e)),
+      (let P : Word → Type 0 = λ w. IsMetAlong plan w k in
+      subst P (reverse-reverse word) (met_back law plan (reverse word) k h e)),
   met_before law plan word k h,
 )

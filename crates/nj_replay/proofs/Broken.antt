@@ -101,7 +101,7 @@ unfolding Breaks
 first_broken hold held pad pads frame some rest e =
     let found = moved_some 1 (unheld hold (hold - 1) pad pads) frame (sym (begins hold held pad pads some) ∙ e) in
     let further : IsBroken hold (replicate 1 pad ++ pads) (1 + found.0) =
-        rest 1 (hold - 1) pad found.0 (omega arith) (omega (arith, some)) found.1.0 in
+    rest 1 (hold - 1) pad found.0 (omega arith) (omega (arith, some)) found.1.0 in
     at_frames hold (replicate 1 pad ++ pads) (pad ∷ pads) (1 + found.0) frame refl (sym found.1.1) further
 
 -- the next frame goes on with a step, or not
@@ -114,7 +114,7 @@ unfolding Breaks
 next_broken true hold done left pad shown pads frame test begun some whole rest e =
     let same : shown ≡ pad = grind (arith, nat_tests) in
     let found =
-        moved_some 1 (unheld hold (left - 1) pad pads) frame (sym (goes_on hold left pad shown pads some same) ∙ e) in
+    moved_some 1 (unheld hold (left - 1) pad pads) frame (sym (goes_on hold left pad shown pads some same) ∙ e) in
     let further : IsBroken hold (replicate (done + 1) pad ++ pads) ((done + 1) + found.0) =
     rest (done + 1) (left - 1) pad found.0 (omega arith) (omega (arith, some, whole)) found.1.0 in
     at_frames hold (replicate (done + 1) pad ++ pads) (replicate done pad ++ (shown ∷ pads)) ((done + 1) + found.0)
@@ -144,7 +144,7 @@ breaks_from hold (shown ∷ pads) some done zero pad frame begun whole e =
     (done + frame)
     (ap (λ n. replicate n pad ++ (shown ∷ pads)) (sym all)) (ap (λ n. n + frame) (sym all))
     (behind_a_step hold pad (shown ∷ pads) frame
-      (first_broken hold pad shown pads frame some (breaks_from hold pads some) e))
+    (first_broken hold pad shown pads frame some (breaks_from hold pads some) e))
 breaks_from hold (shown ∷ pads) some done (suc n) pad frame begun whole e =
     next_broken (shown == pad) hold done (suc n) pad shown pads frame refl begun (omega arith) whole
     (breaks_from hold pads some) e

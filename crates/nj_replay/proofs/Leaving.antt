@@ -124,9 +124,9 @@ left_at : (whole movie : List ℕ) (frame pad shown : ℕ) → frame < length wh
 left_at whole movie frame pad shown h k is_pad is_shown =
     ap₂ first_left
     (drop-cons whole frame pad h
-      ∙ ap₂ (λ x n. x ∷ drop n whole) (sym is_pad) (let e : suc frame ≡ frame + 1 = omega arith in e))
+    ∙ ap₂ (λ x n. x ∷ drop n whole) (sym is_pad) (let e : suc frame ≡ frame + 1 = omega arith in e))
     (drop-cons movie frame shown k
-      ∙ ap₂ (λ x n. x ∷ drop n movie) (sym is_shown) (let e : suc frame ≡ frame + 1 = omega arith in e))
+    ∙ ap₂ (λ x n. x ∷ drop n movie) (sym is_shown) (let e : suc frame ≡ frame + 1 = omega arith in e))
 
 -- one more frame is the same
 pub left_next : (whole movie : List ℕ) (frame pad shown : ℕ) → frame < length whole → frame < length movie →
@@ -137,7 +137,7 @@ left_next whole movie frame pad shown h k is_pad is_shown e so_far =
     so_far
     ∙ ap (moved frame)
     (left_at whole movie frame pad shown h k is_pad is_shown
-      ∙ left_same pad shown (drop (frame + 1) whole) (drop (frame + 1) movie) e)
+    ∙ left_same pad shown (drop (frame + 1) whole) (drop (frame + 1) movie) e)
     ∙ moved-moved frame 1 (first_left (drop (frame + 1) whole) (drop (frame + 1) movie))
 
 -- the next frame differs
@@ -149,7 +149,7 @@ left_here whole movie frame pad shown h k is_pad is_shown e so_far =
     sym (so_far
     ∙ ap (moved frame)
     (left_at whole movie frame pad shown h k is_pad is_shown
-      ∙ left_other pad shown (drop (frame + 1) whole) (drop (frame + 1) movie) e)
+    ∙ left_other pad shown (drop (frame + 1) whole) (drop (frame + 1) movie) e)
     ∙ ap Some (add-zero frame))
 
 -- the movie ends before the next frame

@@ -28,7 +28,7 @@ pub judged_next :
     jammed ≡ is_jammed machine →
     judged_of plan child
     ≡ judged_in plan.script.rules.rules (ram_of (state_of plan child)) (status_of plan word)
-      (is_jammed (state_of plan child)) →
+    (is_jammed (state_of plan child)) →
     new ≡ judged_in rules.rules ram old.status.0 jammed → new ≡ judged_of plan child
 judged_next plan word child rules machine ram jammed old new same before state is_ram is_jam law is_new =
     is_new
@@ -52,7 +52,7 @@ steps_from : (hold count : ℕ) (word : Word) → count < length word →
 steps_from hold count word h =
     ap (held_pads hold)
     (drop-cons word count 0 h
-      ∙ ap (λ n. get_or word count 0 ∷ drop n word) (let e : suc count ≡ count + 1 = omega arith in e))
+    ∙ ap (λ n. get_or word count 0 ∷ drop n word) (let e : suc count ≡ count + 1 = omega arith in e))
 
 -- where frames are left, steps are left
 more_steps :
@@ -62,8 +62,8 @@ more_steps hold count word rest e some within =
     elim (eq-or-lt_of_le within) [
       | inl same ↦
           (let none : length rest ≡ 0 =
-               ap length (e ∙ ap (held_pads hold) (drop_all count word (omega (arith, same)))) in
-           absurd (omega (arith, none, some)))
+          ap length (e ∙ ap (held_pads hold) (drop_all count word (omega (arith, same)))) in
+          absurd (omega (arith, none, some)))
       | inr h ↦ h
     ]
 
@@ -80,10 +80,10 @@ next_step hold count pad word rest some e frames within first =
     let more = more_steps hold count word rest e frames within in
     let next = get_or word count 0 in
     let parts : rest ≡ replicate hold next ++ held_pads hold (drop (count + 1) word) =
-        e ∙ steps_from hold count word more in
+    e ∙ steps_from hold count word more in
     let is : pad ≡ next =
-        first ∙ ap (λ xs. get_or xs 0 pad) parts
-        ∙ first_frame hold next (held_pads hold (drop (count + 1) word)) pad some in
+    first ∙ ap (λ xs. get_or xs 0 pad) parts
+    ∙ first_frame hold next (held_pads hold (drop (count + 1) word)) pad some in
     let size : length rest ≡ hold + length (held_pads hold (drop (count + 1) word)) =
     ap length parts ∙ length-append (replicate hold next) (held_pads hold (drop (count + 1) word))
     ∙ ap (λ n. n + length (held_pads hold (drop (count + 1) word))) (length-replicate hold next) in
@@ -125,13 +125,17 @@ pub told : (plan : Plan) (movie : List ℕ) (word : Word) (judged : Judged) (ste
 unfolding replay_of replayed_of movie_of
 told plan movie word judged step frames some read is_step is_frames is_judged =
     let size : length (plan.start ++ held_pads plan.script.hold word) ≡ frames =
-        ap length (sym (read_is_played plan.script.hold plan.start movie word some read)) ∙ sym is_frames in
+    ap length (sym (read_is_played plan.script.hold plan.start movie word some read)) ∙ sym is_frames in
     ap (told_of plan) read
     ∙ ap₂
     (λ n m. Ok
-      (record
-        {step = n; frames = m; reward = (let j = judged_of plan word in j.reward); verdict =
-          (let j = judged_of plan word in j.verdict)})) (sym is_step) size
+    (record {
+      step = n;
+      frames = m;
+      reward = (let j = judged_of plan word in j.reward);
+      verdict =
+          (let j = judged_of plan word in j.verdict);
+    })) (sym is_step) size
     ∙ ap (λ j. Ok (record { step = step; frames = frames; reward = j.reward; verdict = j.verdict })) (sym is_judged)
 
 pub refused :

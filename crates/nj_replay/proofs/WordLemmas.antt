@@ -17,9 +17,13 @@ covers :
     length pads ≤ length (held_pads hold (first_from hold left pads)) + left
 covers hold left [] some = omega arith
 covers hold zero (pad ∷ pads) some =
-    omega
-    (arith, some, covers hold (hold - 1) pads some,
-      length-append (replicate hold pad) (held_pads hold (first_from hold (hold - 1) pads)), length-replicate hold pad)
+    omega (
+      arith,
+      some,
+      covers hold (hold - 1) pads some,
+      length-append (replicate hold pad) (held_pads hold (first_from hold (hold - 1) pads)),
+      length-replicate hold pad,
+    )
 covers hold (suc left) (pad ∷ pads) some = omega (arith, covers hold left pads some)
 
 -- frames that do not leave the steps of their first pads are these steps
@@ -118,12 +122,12 @@ pub played_is_read :
     word_of hold start movie ≡ Ok word
 played_is_read hold start movie word some e =
     let behind : drop (length start) movie ≡ held_pads hold word =
-        ap (drop (length start)) e ∙ drop_at start (held_pads hold word) (length start) refl in
+    ap (drop (length start)) e ∙ drop_at start (held_pads hold word) (length start) refl in
     let first : first_pads hold (drop (length start) movie) ≡ word =
-        ap (first_pads hold) behind ∙ first_pads-held hold word some in
+    ap (first_pads hold) behind ∙ first_pads-held hold word some in
     let begun : first_left start movie ≡ None = ap (first_left start) e ∙ left_prefix start (held_pads hold word) in
     let held : first_left (held_pads hold (first_pads hold (drop (length start) movie))) (drop (length start) movie)
-        ≡ None =
+    ≡ None =
     ap₂ (λ w m. first_left (held_pads hold w) m) first behind
     ∙ ap (first_left (held_pads hold word)) (sym (append-nil (held_pads hold word)))
     ∙ left_prefix (held_pads hold word) [] in
@@ -134,8 +138,8 @@ refused_by : (hold : ℕ) (start movie : List ℕ) (refused : ReplayRefused) →
     (let first = first_pads hold (drop (length start) movie) in
     ((k : ℕ) × ((first_left start movie ≡ Some k) × (refused ≡ NotStart k)))
     ⊎ ((k : ℕ)
-      × ((first_left start movie ≡ None)
-        × ((first_left (start ++ held_pads hold first) movie ≡ Some k) × (refused ≡ NotHeld k))))) →
+    × ((first_left start movie ≡ None)
+    × ((first_left (start ++ held_pads hold first) movie ≡ Some k) × (refused ≡ NotHeld k))))) →
     IsFirstRefusal hold start movie refused
 refused_by hold start movie refused some (inl (k, (left, is))) =
     subst (IsFirstRefusal hold start movie) (sym is) (left_some start movie k left)
@@ -143,8 +147,8 @@ refused_by hold start movie refused some (inr (k, (begun, (left, is)))) =
     let behind = drop (length start) movie in
     let first = first_pads hold behind in
     let found =
-        moved_some (length start) (first_left (held_pads hold first) behind) k
-        (sym (left_behind start (held_pads hold first) movie begun) ∙ left) in
+    moved_some (length start) (first_left (held_pads hold first) behind) k
+    (sym (left_behind start (held_pads hold first) movie begun) ∙ left) in
     let here : LeavesStep hold start (start ++ behind) (length start + found.0) =
     broken_behind hold start behind found.0 (broken hold behind found.0 some found.1.0) in
     let P : List ℕ → ℕ → Type 0 = λ m n. LeavesStep hold start m n in

@@ -77,7 +77,7 @@ distinct-snoc (y ∷ ys) x = by_tests (y == x) refl (stands x ys) refl (distinct
         → distinct (ys ++ x ∷ []) ≡ (if stands x ys then distinct ys else distinct ys ++ x ∷ [])
         → y ∷ filter (λ z. not (z == y)) (distinct (ys ++ x ∷ []))
         ≡ (if (y == x) || stands x ys then y ∷ filter (λ z. not (z == y)) (distinct ys)
-            else (y ∷ filter (λ z. not (z == y)) (distinct ys)) ++ x ∷ [])
+        else (y ∷ filter (λ z. not (z == y)) (distinct ys)) ++ x ∷ [])
     by_tests true s true t ih = let e = rw t at ih in rw (e, s) refl
     by_tests false s true t ih = let e = rw t at ih in rw (e, s, t) refl
     by_tests true s false t ih =
@@ -201,8 +201,8 @@ pub room_for_byte :
     → IsDistinct nat_eq (take n xs) → stands x (take n xs) ≡ false → n < 256
 room_for_byte xs n x bytes size at_most byte h absent =
     let grown : IsDistinct nat_eq (take n xs ++ x ∷ []) =
-        subst (IsDistinct nat_eq) (sym (distinct-absent (take n xs) x h absent))
-        (IsDistinct-distinct (take n xs ++ x ∷ [])) in
+    subst (IsDistinct nat_eq) (sym (distinct-absent (take n xs) x h absent))
+    (IsDistinct-distinct (take n xs ++ x ∷ [])) in
     let few = bytes_at_most (take n xs ++ x ∷ []) grown (below_of (take n xs) (λ i. bytes-take xs n i bytes)) in
     omega (arith, few, length-append (take n xs) (x ∷ []), length-take n xs)
   where
@@ -220,7 +220,7 @@ pub added-step :
     → distinct (before ++ drop i pads) ≡ all → distinct (after ++ drop (i + 1) pads) ≡ all
 added-step before after pads all i p d h e grown left =
     let next : drop i pads ≡ p ∷ drop (i + 1) pads =
-        rw (add-one, drop-cons pads i d) (ap (λ x. x ∷ drop (suc i) pads) (sym e)) in
+    rw (add-one, drop-cons pads i d) (ap (λ x. x ∷ drop (suc i) pads) (sym e)) in
     ap (λ xs. distinct (xs ++ drop (i + 1) pads)) grown ∙ distinct-append (before ++ p ∷ []) (drop (i + 1) pads)
     ∙ ap distinct (append_assoc before (p ∷ []) (drop (i + 1) pads)) ∙ ap (λ xs. distinct (before ++ xs)) (sym next)
     ∙ left

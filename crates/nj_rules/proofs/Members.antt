@@ -35,7 +35,7 @@ sum-cond ram false x xs = omega (arith, ints)
 pub sum-members : (ram : List ℕ) (set : ℕ) (rules : List Rule) (i : ℕ) (d : Rule) → i < length rules →
     int_sum (map (gain_of ram) (members_from i set (drop i rules)))
     ≡ ((if is_in set i then gain_of ram (slice_index_or rules i d) else pos 0) +ℤ int_sum
-        (map (gain_of ram) (members_from (i + 1) set (drop (i + 1) rules))))
+    (map (gain_of ram) (members_from (i + 1) set (drop (i + 1) rules))))
 sum-members ram set rules i d h =
     rw (drop_here rules i d h)
     (sum-cond ram (is_in set i) (slice_index_or rules i d) (members_from (i + 1) set (drop (i + 1) rules)))
@@ -50,7 +50,7 @@ count-cond p false x xs = omega arith
 pub count-members : (p : Rule → Bool) (set : ℕ) (rules : List Rule) (i : ℕ) (d : Rule) → i < length rules →
     count_by p (members_from i set (drop i rules))
     ≡ (if is_in set i && p (slice_index_or rules i d) then 1 else 0)
-      + count_by p (members_from (i + 1) set (drop (i + 1) rules))
+    + count_by p (members_from (i + 1) set (drop (i + 1) rules))
 count-members p set rules i d h =
     rw (drop_here rules i d h)
     (count-cond p (is_in set i) (slice_index_or rules i d) (members_from (i + 1) set (drop (i + 1) rules)))

@@ -20,7 +20,7 @@ pub offered-passed :
     → distinct (before ++ offered_pads (drop (i + 1) sets) ram) ≡ all
 offered-passed sets ram before all i set h e fails left =
     let next : offered_pads (drop i sets) ram ≡ offered_pads (drop (i + 1) sets) ram =
-        rw (next_is sets i set h e, fails) refl in
+    rw (next_is sets i set h e, fails) refl in
     rw (← next) left
 
 -- a set whose conditions hold brings its pads
@@ -32,7 +32,7 @@ pub offered-taken :
     → distinct (after ++ offered_pads (drop (i + 1) sets) ram) ≡ all
 offered-taken sets ram before after all i set h e holds goes_on grown left =
     let next : offered_pads (drop i sets) ram ≡ set.pads ++ offered_pads (drop (i + 1) sets) ram =
-        rw (next_is sets i set h e, holds, goes_on) refl in
+    rw (next_is sets i set h e, holds, goes_on) refl in
     rw (grown, distinct-append (before ++ set.pads) (offered_pads (drop (i + 1) sets) ram), append_assoc, ← next) left
 
 -- behind a set with `stop` whose conditions hold nothing is offered
@@ -43,7 +43,7 @@ pub offered-stopped :
     → distinct (before ++ offered_pads (drop i sets) ram) ≡ all → after ≡ all
 offered-stopped sets ram before after all i set h e holds stops grown left =
     let next : offered_pads (drop i sets) ram ≡ set.pads =
-        rw (next_is sets i set h e, holds, stops) (append_nil set.pads) in
+    rw (next_is sets i set h e, holds, stops) (append_nil set.pads) in
     rw (grown, ← next) left
 
 -- every set brings its pads, where conditions do not count
@@ -55,7 +55,7 @@ pub named-taken :
     → distinct (after ++ flat_map (λ s. s.pads) (drop (i + 1) sets)) ≡ all
 named-taken sets before after all i set h e grown left =
     let next : flat_map (λ s. s.pads) (drop i sets) ≡ set.pads ++ flat_map (λ s. s.pads) (drop (i + 1) sets) =
-        rw (next_is sets i set h e) refl in
+    rw (next_is sets i set h e) refl in
     rw (grown, distinct-append (before ++ set.pads) (flat_map (λ s. s.pads) (drop (i + 1) sets)), append_assoc, ← next)
     left
 

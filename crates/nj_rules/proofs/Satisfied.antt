@@ -35,7 +35,7 @@ met_from-parts k [] ram j = refl
 met_from-parts k (rule ∷ rules) ram j =
     rw (met_from-parts (k + 1) rules ram j)
     (regroup (all_hold_in ram rule.when) (k == j) (list_any (λ n. n == j) rule.also) (own_from (k + 1) rules ram j)
-      (is_named rules ram j))
+    (is_named rules ram j))
 
 own_from-below : (k : ℕ) (rules : List Rule) (ram : List ℕ) (j : ℕ) → j < k → own_from k rules ram j ≡ false
 unfolding own_from
@@ -70,4 +70,4 @@ status_after-from rules ram old status n h past e =
     let test : ℕ → Bool = λ k. is_in old k || is_met rules ram k in
     same_set 128 status (set_below 128 test) h (set_below-lt 128 test)
     (λ j below. rw (is_in-set_below 128 test j below, ← met_from-all rules ram j, ← e j, drop_all n rules past)
-      (sym (or_false (is_in status j))))
+    (sym (or_false (is_in status j))))

@@ -51,7 +51,7 @@ unfolding identity_tests
 versions file cart script is =
     let all : Accepts (identity_tests file cart script) = record { none = is } in
     let known : (version_of file == 1 || version_of file == 2) ≡ true =
-        not-false _ (this_passes (then_passes (then_passes all))) in
+    not-false _ (this_passes (then_passes (then_passes all))) in
     elim (or_cases (version_of file == 1) (version_of file == 2) known) [
       | inl e ↦ inl (eqb-true (version_of file) 1 e)
       | inr e ↦ inr (eqb-true (version_of file) 2 e)
@@ -86,7 +86,7 @@ sealed file version is =
     record { none = ap first_refusal (sym (cond-true (version_of file == 2) _ _ (ap (λ v. v == 2) version))) ∙ is } in
     let long : keys_end file + 8 ≤ length file = ltb-false (length file) (keys_end file + 8) (this_passes passes) in
     let short : length file ≤ keys_end file + 8 =
-        ltb-false (keys_end file + 8) (length file) (this_passes (then_passes (then_passes passes))) in
+    ltb-false (keys_end file + 8) (length file) (this_passes (then_passes (then_passes passes))) in
     record {
       hash =
           eqb-true (u64_at file (keys_end file)) (fnv_of (take (keys_end file) file))

@@ -25,7 +25,7 @@ up_to :
 up_to before behind b m =
     take-add (length before) (suc m) (before ++ b ∷ behind)
     ∙ (ap (λ xs. xs ++ take (suc m) (drop (length before) (before ++ b ∷ behind)))
-      (take_at before (b ∷ behind) (length before) refl)
+    (take_at before (b ∷ behind) (length before) refl)
     ∙ ap (λ xs. before ++ take (suc m) xs) (drop_at before (b ∷ behind) (length before) refl))
 
 module _ (before behind : List ℕ) (b c : ℕ) where
@@ -44,7 +44,7 @@ module _ (before behind : List ℕ) (b c : ℕ) where
       let is : length before + suc (n - suc (length before)) ≡ n = omega (arith, high) in
       ap (λ k. drop k old) (sym is)
       ∙ (behind_it before behind b (n - suc (length before))
-          ∙ (sym (behind_it before behind c (n - suc (length before))) ∙ ap (λ k. drop k new) is))
+      ∙ (sym (behind_it before behind c (n - suc (length before))) ∙ ap (λ k. drop k new) is))
 
   same_length : length old ≡ length new
   same_length = length-append before (b ∷ behind) ∙ sym (length-append before (c ∷ behind))
@@ -76,10 +76,11 @@ module _ (before behind : List ℕ) (b c : ℕ) where
   same_place low zero = (omega arith, same_words_end low)
   same_place low (suc g) =
       let inner : (8 ≤ place_of old g) × (place_of old g ≡ place_of new g) = same_place low g in
-      let far : 8 ≤ place_of old g = inner.0 in
-      (omega (arith, far),
+      let far : 8 ≤ place_of old g = inner.0 in (
+        omega (arith, far),
         ap (λ n. place_of old g + 4 + 8 * n) (same_u32 (place_of old g) (omega (arith, far, low)))
-        ∙ ap (λ at. at + 4 + 8 * u32_at new at) inner.1)
+            ∙ ap (λ at. at + 4 + 8 * u32_at new at) inner.1,
+      )
 
   same_end : length before < 8 → keys_end old ≡ keys_end new
   same_end low = (same_place low (count_of old)).1 ∙ ap (λ n. place_of new n) (same_u32 40 (omega (arith, low)))
@@ -103,10 +104,10 @@ last_bytes file n are ends =
     let eight : n + 8 - n ≡ 8 = omega arith in
     let left : length (drop n file) ≡ 8 = length-drop n file ∙ omega (arith, ends) in
     let whole : take (n + 8 - n) (drop n file) ≡ drop n file =
-        take_all (n + 8 - n) (drop n file) (omega (arith, left, eight)) in
+    take_all (n + 8 - n) (drop n file) (omega (arith, left, eight)) in
     le_bytes_8 (take (n + 8 - n) (drop n file)) (u64_at file n) (ap length whole ∙ left)
     (λ i. subst (λ xs. slice_index_or xs i 0 < 256) (sym whole)
-      (small_at (drop n file) (All-drop (λ x. x < 256) n file are) i)) refl
+    (small_at (drop n file) (All-drop (λ x. x < 256) n file are) i)) refl
     ∙ whole
 
 module _ (before behind : List ℕ) (b c : ℕ) (are : All (λ x. x < 256) before) (are' : All (λ x. x < 256) behind)
@@ -147,7 +148,7 @@ module _ (before behind : List ℕ) (b c : ℕ) (are : All (λ x. x < 256) befor
   both_sealed is is' =
       let n : ℕ = keys_end (old before behind b c) in
       let same : keys_end (new before behind b c) ≡ n =
-          omega (arith, is.ends, is'.ends, same_length before behind b c) in
+      omega (arith, is.ends, is'.ends, same_length before behind b c) in
       let hash : u64_at (new before behind b c) n ≡ fnv_of (take n (new before behind b c)) =
       subst (λ k. u64_at (new before behind b c) k ≡ fnv_of (take k (new before behind b c))) same is'.hash in
       elim (cases_lt (length before) n) [
@@ -173,7 +174,7 @@ module _ (before behind : List ℕ) (b c : ℕ) (are : All (λ x. x < 256) befor
       first_refusal (tests_of (new before behind b c) cart script) ≡ None → b ≡ c
   unchanged cart script two is is' =
       let first : IsSealed (old before behind b c) =
-          sealed (old before behind b c) two (tail_passes (old before behind b c) cart script is) in
+      sealed (old before behind b c) two (tail_passes (old before behind b c) cart script is) in
       elim (versions (new before behind b c) cart script (head_passes (new before behind b c) cart script is')) [
         | inl one ↦
             not_shorter two one first

@@ -40,7 +40,7 @@ unfolding fnv_step
 same_byte x b c a b' c' same =
     same_xor b c x
     (xor_comm b x
-      ∙ (same_factor (bit_xor x b) (bit_xor x c) (xor_lt 64 x b a b') (xor_lt 64 x c a c') same ∙ xor_comm x c))
+    ∙ (same_factor (bit_xor x b) (bit_xor x c) (xor_lt 64 x b a b') (xor_lt 64 x c a c') same ∙ xor_comm x c))
 
 step_fits : (x byte : ℕ) → fnv_step x byte < 2 ^ 64
 unfolding fnv_step
@@ -59,7 +59,7 @@ same_before [] x y are a b same = same
 same_before (byte ∷ bytes) x y are a b same =
     same_hash x y byte a b (wide byte (are 0 0 (omega arith)))
     (same_before bytes (fnv_step x byte) (fnv_step y byte) (λ k d inside. are (suc k) d (suc-le-suc inside))
-      (step_fits x byte) (step_fits y byte) same)
+    (step_fits x byte) (step_fits y byte) same)
 
 from_fits : (bytes : List ℕ) (x : ℕ) → x < 2 ^ 64 → fnv_from x bytes < 2 ^ 64
 unfolding fnv_from
@@ -80,7 +80,7 @@ same_text before behind b c are small small' same =
     let x : ℕ = fnv_from 14695981039346656037 before in
     let fits : x < 2 ^ 64 = from_fits before 14695981039346656037 (omega arith) in
     let split : (d : ℕ) → fnv_of (before ++ d ∷ behind) ≡ fnv_from (fnv_step x d) behind =
-        λ d. fold-append fnv_step 14695981039346656037 before (d ∷ behind) in
+    λ d. fold-append fnv_step 14695981039346656037 before (d ∷ behind) in
     same_byte x b c fits (wide b small) (wide c small')
     (same_before behind (fnv_step x b) (fnv_step x c) are (step_fits x b) (step_fits x c)
-      (sym (split b) ∙ (same ∙ split c)))
+    (sym (split b) ∙ (same ∙ split c)))

@@ -15,7 +15,7 @@ use Rattle.nj_saved.proofs.Keys.{key_count_more}
 between : (low high n : ℕ) → not (is_in_range low high n) ≡ false → (low ≤ n) × (n ≤ high)
 between low high n is =
     let both : (nat_le low n ≡ true) × (nat_le n high ≡ true) =
-        and_parts (nat_le low n) (nat_le n high) (not-false _ is) in
+    and_parts (nat_le low n) (nat_le n high) (not-false _ is) in
     (leb-true low n both.0, leb-true n high both.1)
 
 pub has_head : (file : List ℕ) → first_refusal (size_tests file) ≡ None → HasHead file
@@ -34,16 +34,16 @@ has_head file is =
     let k = then_passes j in
     let step : (1 ≤ step_of file) × (step_of file ≤ 16777215) = between 1 16777215 (step_of file) (this_passes a) in
     let front :
-        (is_in_range 1 1048576 (front_of file) ≡ true) × (nat_le (front_of file * step_of file) 67108864 ≡ true) =
-        and_parts (is_in_range 1 1048576 (front_of file)) (nat_le (front_of file * step_of file) 67108864)
-        (not-false _ (this_passes d)) in
+    (is_in_range 1 1048576 (front_of file) ≡ true) × (nat_le (front_of file * step_of file) 67108864 ≡ true) =
+    and_parts (is_in_range 1 1048576 (front_of file)) (nat_le (front_of file * step_of file) 67108864)
+    (not-false _ (this_passes d)) in
     let words : (nat_le 1 (front_of file) ≡ true) × (nat_le (front_of file) 1048576 ≡ true) =
-        and_parts (nat_le 1 (front_of file)) (nat_le (front_of file) 1048576) front.0 in
+    and_parts (nat_le 1 (front_of file)) (nat_le (front_of file) 1048576) front.0 in
     let level : (0 ≤ u32_at file 32) × (u32_at file 32 ≤ 128) = between 0 128 (u32_at file 32) (this_passes f) in
     let until : (0 ≤ u32_at file 36) × (u32_at file 36 ≤ 33554432) =
-        between 0 33554432 (u32_at file 36) (this_passes h) in
+    between 0 33554432 (u32_at file 36) (this_passes h) in
     let count : (1 ≤ count_of file) × (count_of file ≤ step_of file + 1) =
-        between 1 (step_of file + 1) (count_of file) (this_passes j) in
+    between 1 (step_of file + 1) (count_of file) (this_passes j) in
     record {
       head = ltb-false (length file) 44 (this_passes i);
       whole = ltb-false (length file) (words_end file) (this_passes k);
@@ -81,7 +81,7 @@ reaches file older at is =
           (others_of (count_tests file older at) (tests_below (key_tests file older at) (u32_at file at)) is);
     } in
     let far : key_place at (u32_at file at - 1) + 8 ≤ length file =
-        ltb-false (length file) (key_place at (u32_at file at - 1) + 8) (this_passes last) in
+    ltb-false (length file) (key_place at (u32_at file at - 1) + 8) (this_passes last) in
     record { there = omega (arith, some, far); few = leb-true (key_count older + u32_at file at) 33554432 range.1 }
 
 -- so do the first generations
@@ -97,11 +97,11 @@ reach_below file whole (suc g) is =
     let here : Reaches file (generations_below file g) (place_of file g) =
     reaches file (generations_below file g) (place_of file g)
     (others_of (tests_below (λ h. generation_tests file (generations_below file h) (place_of file h)) g)
-      (generation_tests file (generations_below file g) (place_of file g)) is) in
+    (generation_tests file (generations_below file g) (place_of file g)) is) in
     let keys : length (keys_at file (place_of file g)) ≡ u32_at file (place_of file g) =
-        length_below (λ k. u64_at file (key_place (place_of file g) k)) (u32_at file (place_of file g)) in
+    length_below (λ k. u64_at file (key_place (place_of file g) k)) (u32_at file (place_of file g)) in
     let more : key_count (generations_below file (suc g))
-        ≡ key_count (generations_below file g) + length (keys_at file (place_of file g)) =
+    ≡ key_count (generations_below file g) + length (keys_at file (place_of file g)) =
     key_count_more (generations_below file g) (keys_at file (place_of file g)) in
     let few : key_count (generations_below file g) + u32_at file (place_of file g) ≤ 33554432 = here.few in
     record { there = here.there; few = omega (arith, keys, more, few) }

@@ -23,7 +23,7 @@ at_below f d (suc n) k below =
     elim (cases_lt k n) [
       | inl inside ↦
           let far : k < length (list_below f n) =
-              (let e : length (list_below f n) ≡ n = length_below f n in omega (arith, e, inside)) in
+          (let e : length (list_below f n) ≡ n = length_below f n in omega (arith, e, inside)) in
           get_or-append (list_below f n) (f n ∷ []) d k far ∙ at_below f d n k inside
       | inr last ↦ let e : k ≡ n = omega (arith, below, last) in
           get_or_push (list_below f n) (f n) d k (length_below f n ∙ sym e) ∙ ap f (sym e)
@@ -71,13 +71,13 @@ module _ (file : List ℕ) (older : List (List ℕ)) (at : ℕ)
   unfolding generation_tests count_tests
   some =
       let all : Accepts (count_tests file older at) =
-          record {
-            none =
-                first_of (count_tests file older at) (tests_below (key_tests file older at) (u32_at file at)) accepted;
-          } in
+      record {
+        none =
+            first_of (count_tests file older at) (tests_below (key_tests file older at) (u32_at file at)) accepted;
+      } in
       leb-true 1 (u32_at file at)
       (and_parts (nat_le 1 (u32_at file at)) (nat_le (key_count older + u32_at file at) 33554432)
-        (not-false _ (this_passes (then_passes all)))).0
+      (not-false _ (this_passes (then_passes all)))).0
 
   key_accepted : (k : ℕ) → k < u32_at file at → first_refusal (key_tests file older at k) ≡ None
   unfolding generation_tests
@@ -109,7 +109,7 @@ module _ (file : List ℕ) (older : List (List ℕ)) (at : ℕ)
       let all : length (keys_at file at) ≡ u32_at file at = counted in
       let below : k < u32_at file at = omega (arith, inside, all) in
       let above : key_before file at k < u64_at file (key_place at k) =
-          leb-false (u64_at file (key_place at k)) (key_before file at k) (key_parts k below).0 in
+      leb-false (u64_at file (key_place at k)) (key_before file at k) (key_parts k below).0 in
       let left : slice_index (0 ∷ keys_at file at) k ≡ key_before file at k = before_is k below in
       let right : slice_index (0 ∷ keys_at file at) (suc k) ≡ u64_at file (key_place at k) = key_is k below in
       subst (λ m. slice_index (0 ∷ keys_at file at) k < slice_index (0 ∷ keys_at file at) m) (sym (add-one k))
@@ -119,7 +119,7 @@ module _ (file : List ℕ) (older : List (List ℕ)) (at : ℕ)
   is_next = record {
     some =
         (let all : length (keys_at file at) ≡ u32_at file at = counted in
-         let n : 1 ≤ u32_at file at = some in omega (arith, all, n));
+        let n : 1 ≤ u32_at file at = some in omega (arith, all, n));
     rising = rises;
     new = λ k inside. (let all : length (keys_at file at) ≡ u32_at file at = counted in
         let below : k < u32_at file at = omega (arith, inside, all) in
@@ -134,16 +134,16 @@ are_generations :
 unfolding generations_tests
 are_generations file accepted g inside =
     let all : length (generations_below file (count_of file)) ≡ count_of file =
-        length_below (λ h. keys_at file (place_of file h)) (count_of file) in
+    length_below (λ h. keys_at file (place_of file h)) (count_of file) in
     let below : g < count_of file = omega (arith, inside, all) in
     let here : IsNext (generations_below file g) (keys_at file (place_of file g)) =
     is_next file (generations_below file g) (place_of file g)
     (passes_at (λ h. generation_tests file (generations_below file h) (place_of file h)) (count_of file) g below
-      accepted) in
+    accepted) in
     subst (λ older. IsNext older (slice_index_or (generations_below file (count_of file)) g []))
     (sym (take_below (λ h. keys_at file (place_of file h)) (count_of file) g (omega (arith, below))))
     (subst (IsNext (generations_below file g))
-      (sym (at_below (λ h. keys_at file (place_of file h)) [] (count_of file) g below)) here)
+    (sym (at_below (λ h. keys_at file (place_of file h)) [] (count_of file) g below)) here)
 
 -- the words are as many pads as their count and the step say
 words_size :
@@ -165,9 +165,9 @@ unfolding contents_of
 contents_in_range file generations end head read =
     let size : length (slice_range file 44 (words_end file)) ≡ front_of file * step_of file = words_size file head in
     let words : length (slice_range file 44 (words_end file)) / step_of file ≡ front_of file =
-        front_is (front_of file) (step_of file) _ head.first_step size in
+    front_is (front_of file) (step_of file) _ head.first_step size in
     let all : length (generations_below file (count_of file)) ≡ count_of file =
-        length_below (λ h. keys_at file (place_of file h)) (count_of file) in
+    length_below (λ h. keys_at file (place_of file h)) (count_of file) in
     record {
       first_step = head.first_step;
       last_step = head.last_step;

@@ -26,10 +26,10 @@ pub one_inserted :
 one_inserted has before now keys i key inside read inserted invariant q =
     inserted q
     ∙ (ap (λ b. cond (key == q) true b) (invariant q)
-        ∙ (joined (key == q) (has q) (list_any (λ k. k == q) (take i keys))
+    ∙ (joined (key == q) (has q) (list_any (λ k. k == q) (take i keys))
     ∙ ap (λ b. has q || b)
     (ap (λ k. list_any (λ k. k == q) (take i keys) || (k == q)) read
-      ∙ sym (list_any_more (λ k. k == q) keys i 0 inside))))
+    ∙ sym (list_any_more (λ k. k == q) keys i 0 inside))))
 
 -- no key was put into the set yet
 pub none_inserted : (b : Bool) (keys : List ℕ) (q : ℕ) → b ≡ (b || list_any (λ k. k == q) (take 0 keys))

@@ -38,7 +38,7 @@ one_key file older at k keys last key more are passes is there pushed =
       read =
           pushed
           ∙ (ap₂ (λ xs x. xs ++ x ∷ []) are.read is
-              ∙ ap (list_below (λ j. u64_at file (key_place at j))) (sym (add-one k)));
+          ∙ ap (list_below (λ j. u64_at file (key_place at j))) (sym (add-one k)));
       counted = ap length pushed ∙ (length_push keys key ∙ ap (λ n. n + 1) are.counted);
       before = is ∙ ap (key_before file at) (sym (add-one k));
       there = omega (arith, there);
@@ -90,7 +90,7 @@ pub generation_read :
     count ≡ u32_at file at → key_count older + count ≤ 33554432 →
     MatchResult r (λ keys. AreKeys file older at keys)
     (λ refused. (refused ≡ NoMemory)
-      ⊎ (first_refusal (tests_below (key_tests file older at) (u32_at file at)) ≡ Some refused)) →
+    ⊎ (first_refusal (tests_below (key_tests file older at) (u32_at file at)) ≡ Some refused)) →
     MatchResult r (λ keys. IsNextGeneration file older at keys)
     (λ refused. (refused ≡ NoMemory) ⊎ (first_refusal (generation_tests file older at) ≡ Some refused))
 generation_read file older at count (Ok keys) passes is few are =
@@ -151,11 +151,11 @@ one_generation file g older at keys more next are is pushed moved =
       read =
           pushed
           ∙ (ap₂ (λ gs x. gs ++ x ∷ []) are.read (is.read ∙ ap (keys_at file) are.place)
-              ∙ ap (generations_below file) (sym (add-one g)));
+          ∙ ap (generations_below file) (sym (add-one g)));
       place =
           same
           ∙ (ap (λ n. at + 4 + 8 * n) is.counted
-              ∙ (ap (λ p. p + 4 + 8 * u32_at file p) are.place ∙ ap (place_of file) (sym (add-one g))));
+          ∙ (ap (λ p. p + 4 + 8 * u32_at file p) are.place ∙ ap (place_of file) (sym (add-one g))));
       there = omega (arith, same, there);
       few = omega (arith, count, few);
     }

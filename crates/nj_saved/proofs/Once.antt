@@ -86,7 +86,7 @@ both xs ys first second apart i j d less inside =
           (sym (get_or-append xs ys d i (omega (arith, less, low))) ∙ e ∙ get_or-append xs ys d j low)
       | inr high ↦
           let right : get_or (xs ++ ys) j d ≡ get_or ys (j - length xs) d =
-              get_or-append_right xs ys (length xs) j d refl high in
+          get_or-append_right xs ys (length xs) j d refl high in
           elim (cases_lt i (length xs)) [
             | inl low ↦ λ e. apart i (j - length xs) d low (omega (arith, inside, all, high))
                 (sym (get_or-append xs ys d i low) ∙ e ∙ right)
@@ -127,7 +127,7 @@ once_to generations are (suc n) within =
     subst (λ zs. AllPairs (λ a b. a ≢ b) zs)
     (sym (ap (λ m. concat (take m generations)) (sym (add-one n)) ∙ concat_more generations n low))
     (both (concat (take n generations)) keys (once_to generations are n (omega (arith, within)))
-      (differ keys next.rising) apart)
+    (differ keys next.rising) apart)
 
 -- ---- generations in the words of lists
 
@@ -159,7 +159,7 @@ is_new generations once g k inside low =
     let place : found.0 < length older = found.1 in
     let size : length (older ++ keys) ≡ length older + length keys = length-append older keys in
     let whole : length ((older ++ keys) ++ rest) ≡ length (older ++ keys) + length rest =
-        length-append (older ++ keys) rest in
+    length-append (older ++ keys) rest in
     let left : get_or ((older ++ keys) ++ rest) found.0 q ≡ q =
     get_or-append (older ++ keys) rest q found.0 (omega (arith, place, size))
     ∙ get_or-append older keys q found.0 place ∙ found.2 in
@@ -181,9 +181,9 @@ are_generations generations come g inside = record {
 not_less : (y x : ℕ) → x < y → is_lt (nat_cmp y x) ≡ false
 not_less y x above =
     ap (λ b. is_lt (cond b Less (cond (y == x) Equal Greater))) (le-ltb y x (omega (arith, above))) ∙ tie (y == x) where
-  tie : (b : Bool) → is_lt (cond b Equal Greater) ≡ false
-  tie true = refl
-  tie false = refl
+      tie : (b : Bool) → is_lt (cond b Equal Greater) ≡ false
+      tie true = refl
+      tie false = refl
 
 sorted : (keys : List ℕ) → IsStrictlyIncreasing (0 ∷ keys) → IsSorted nat_cmp keys
 sorted keys up k d low inside =

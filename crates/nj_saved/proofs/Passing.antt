@@ -55,7 +55,7 @@ key_passes file keys rest older at k is next inside =
     let key : u64_at file (key_place at k) ≡ slice_index keys k = here.is in
     let far : at + 4 + 8 * k + 8 ≤ length file = here.there in
     let before : key_before file at k ≡ slice_index (0 ∷ keys) k =
-        key_before_is file keys rest at k is (omega (arith, inside)) in
+    key_before_is file keys rest at k is (omega (arith, inside)) in
     let rises : slice_index (0 ∷ keys) k < slice_index keys k =
     subst (λ m. slice_index (0 ∷ keys) k < slice_index (0 ∷ keys) m) (add-one k) (next.rising k (omega (arith, inside)))
     in
@@ -63,8 +63,8 @@ key_passes file keys rest older at k is next inside =
     let all : Accepts (key_tests file older at k) =
     passes (le-ltb (length file) (key_place at k + 8) far)
     (passes
-      (or_from _ _ (lt-leb (u64_at file (key_place at k)) (key_before file at k) above)
-        (ap (has_key older) key ∙ next.new k inside)) no_more) in
+    (or_from _ _ (lt-leb (u64_at file (key_place at k)) (key_before file at k) above)
+    (ap (has_key older) key ∙ next.new k inside)) no_more) in
     all.none
 
 -- a generation passes
@@ -78,18 +78,18 @@ generation_passes file keys rest older at is next few =
     let in_range : (nat_le 1 (u32_at file at) && nat_le (key_count older + u32_at file at) 33554432) ≡ true =
     ap (λ n. nat_le 1 n && nat_le (key_count older + n) 33554432) count
     ∙ (ap (λ b. b && nat_le (key_count older + length keys) 33554432) (le-leb 1 (length keys) some)
-      ∙ le-leb (key_count older + length keys) 33554432 few) in
+    ∙ le-leb (key_count older + length keys) 33554432 few) in
     let counted : Accepts (count_tests file older at) =
-        passes (le-ltb (length file) (at + 4) is.there) (passes (not_true _ in_range) no_more) in
+    passes (le-ltb (length file) (at + 4) is.there) (passes (not_true _ in_range) no_more) in
     both_pass (count_tests file older at) (tests_below (key_tests file older at) (u32_at file at)) counted.none
     (below_pass (key_tests file older at) (u32_at file at)
-      (λ k below. key_passes file keys rest older at k is next (omega (arith, below, count))))
+    (λ k below. key_passes file keys rest older at k is next (omega (arith, below, count))))
 
 -- all generations pass
 pub generations_pass :
     (file : List ℕ) (generations : List (List ℕ)) (rest : ℕ → List ℕ) →
     ((g : ℕ) → g < length generations →
-      IsGenerationAt file (slice_index_or generations g []) (rest g) (place_of file g)) →
+    IsGenerationAt file (slice_index_or generations g []) (rest g) (place_of file g)) →
     ((n : ℕ) → n ≤ length generations → generations_below file n ≡ take n generations) → AreGenerations generations →
     key_count generations ≤ 33554432 →
     first_refusal
@@ -100,12 +100,12 @@ generations_pass file generations rest there are ranges few =
     (λ g inside.
     let older : generations_below file g ≡ take g generations = are g (omega (arith, inside)) in
     let more : key_count (take (g + 1) generations)
-        ≡ key_count (take g generations) + length (slice_index_or generations g []) =
-        sum_by_more length generations g [] inside in
+    ≡ key_count (take g generations) + length (slice_index_or generations g []) =
+    sum_by_more length generations g [] inside in
     let most : key_count (take (g + 1) generations) ≤ key_count generations =
-        sum_by-take-le length generations (g + 1) in
+    sum_by-take-le length generations (g + 1) in
     let within : key_count (take g generations) + length (slice_index_or generations g []) ≤ 33554432 =
-        omega (arith, more, most, few) in
+    omega (arith, more, most, few) in
     ap (λ older. first_refusal (generation_tests file older (place_of file g))) older
     ∙ generation_passes file (slice_index_or generations g []) (rest g) (take g generations) (place_of file g)
     (there g inside) (ranges g inside) within)

@@ -30,8 +30,8 @@ module _ (file : List ℕ) (are : All (λ b. b < 256) file) where
       drop_split file at (at + 4) (omega arith)
       ∙ ap (λ bytes. bytes ++ drop (at + 4) file)
       (sym
-        (le_bytes_4 (slice_range file at (at + 4)) (u32_at file at) (piece_size file at 4 there)
-          (piece_small at (at + 4)) refl))
+      (le_bytes_4 (slice_range file at (at + 4)) (u32_at file at) (piece_size file at 4 there)
+      (piece_small at (at + 4)) refl))
 
   pub piece8 : (at : ℕ) → at + 8 ≤ length file → drop at file ≡ to_le_bytes w64 (u64_at file at) ++ drop (at + 8) file
   unfolding u64_at
@@ -39,8 +39,8 @@ module _ (file : List ℕ) (are : All (λ b. b < 256) file) where
       drop_split file at (at + 8) (omega arith)
       ∙ ap (λ bytes. bytes ++ drop (at + 8) file)
       (sym
-        (le_bytes_8 (slice_range file at (at + 8)) (u64_at file at) (piece_size file at 8 there)
-          (piece_small at (at + 8)) refl))
+      (le_bytes_8 (slice_range file at (at + 8)) (u64_at file at) (piece_size file at 8 there)
+      (piece_small at (at + 8)) refl))
 
   -- the first k keys of the generation at a place
   keys_piece : (at k : ℕ) → key_place at k ≤ length file →
@@ -54,7 +54,7 @@ module _ (file : List ℕ) (are : All (λ b. b < 256) file) where
       let key : ℕ = u64_at file (key_place at k) in
       keys_piece at k (omega (arith, before))
       ∙ (ap (λ bytes. flat_map (to_le_bytes w64) keys ++ bytes)
-        (piece8 (key_place at k) before ∙ ap (λ n. to_le_bytes w64 key ++ drop n file) next)
+      (piece8 (key_place at k) before ∙ ap (λ n. to_le_bytes w64 key ++ drop n file) next)
       ∙ (sym (append_assoc (flat_map (to_le_bytes w64) keys) (to_le_bytes w64 key) (drop (key_place at (suc k)) file))
       ∙ ap (λ bytes. bytes ++ drop (key_place at (suc k)) file)
       (sym (flat_map-append (to_le_bytes w64) keys (key ∷ [])))))
@@ -65,10 +65,10 @@ module _ (file : List ℕ) (are : All (λ b. b < 256) file) where
   unfolding generation_bytes
   generation_piece at there =
       let count : length (keys_at file at) ≡ u32_at file at =
-          length_below (λ k. u64_at file (key_place at k)) (u32_at file at) in
+      length_below (λ k. u64_at file (key_place at k)) (u32_at file at) in
       piece4 at (omega (arith, there))
       ∙ (ap (λ n. to_le_bytes w32 n ++ drop (at + 4) file) (sym count)
-        ∙ ap (λ bytes. to_le_bytes w32 (length (keys_at file at)) ++ bytes) (keys_piece at (u32_at file at) there))
+      ∙ ap (λ bytes. to_le_bytes w32 (length (keys_at file at)) ++ bytes) (keys_piece at (u32_at file at) there))
 
   -- the first g generations
   pub generations_piece : (g : ℕ) → place_of file g ≤ length file →
@@ -80,9 +80,9 @@ module _ (file : List ℕ) (are : All (λ b. b < 256) file) where
       generations_piece g (omega (arith, there))
       ∙ (ap (λ bytes. flat_map generation_bytes (generations_below file g) ++ bytes) (generation_piece at there)
       ∙ (sym
-        (append_assoc (flat_map generation_bytes (generations_below file g)) (generation_bytes keys)
-          (drop (place_of file (suc g)) file))
+      (append_assoc (flat_map generation_bytes (generations_below file g)) (generation_bytes keys)
+      (drop (place_of file (suc g)) file))
       ∙ ap (λ bytes. bytes ++ drop (place_of file (suc g)) file)
       (ap (λ bytes. flat_map generation_bytes (generations_below file g) ++ bytes)
-        (sym (append-nil (generation_bytes keys)))
+      (sym (append-nil (generation_bytes keys)))
       ∙ sym (flat_map-append generation_bytes (generations_below file g) (keys ∷ [])))))

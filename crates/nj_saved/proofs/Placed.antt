@@ -14,7 +14,7 @@ list_below_is f xs d zero fits are = refl
 list_below_is f xs d (suc n) fits are =
     ap (λ ys. ys ++ f n ∷ []) (list_below_is f xs d n (omega (arith, fits)) (λ k below. are k (omega (arith, below))))
     ∙ (ap (λ y. take n xs ++ y ∷ []) (are n (omega arith))
-      ∙ (sym (take_more xs n d (omega (arith, fits))) ∙ ap (λ m. take m xs) (add-one n)))
+    ∙ (sym (take_more xs n d (omega (arith, fits))) ∙ ap (λ m. take m xs) (add-one n)))
 
 -- a number whose bytes stand at the place
 pub number4 :
@@ -46,7 +46,7 @@ pub reaches :
     at + length bytes ≤ length file
 reaches file bytes rest at is some =
     let long : length file - at ≡ length bytes + length rest =
-        sym (length-drop at file) ∙ (ap length is ∙ length-append bytes rest) in
+    sym (length-drop at file) ∙ (ap length is ∙ length-append bytes rest) in
     omega (arith, long, some)
 
 pub length_keys : (keys : List ℕ) → length (flat_map (to_le_bytes w64) keys) ≡ 8 * length keys
@@ -68,7 +68,7 @@ keys_there file (key ∷ keys) rest at is fit zero inside =
     let first : at + 8 * zero ≡ at = omega arith in
     let some : 0 < 8 = omega arith in
     let far : at + 8 ≤ length file =
-        reaches file (to_le_bytes w64 key) (flat_map (to_le_bytes w64) keys ++ rest) at is some in
+    reaches file (to_le_bytes w64 key) (flat_map (to_le_bytes w64) keys ++ rest) at is some in
     record {
       is = ap (u64_at file) first ∙ number8 file (flat_map (to_le_bytes w64) keys ++ rest) at key is (fit 0);
       there = omega (arith, first, far);
@@ -110,7 +110,7 @@ pub keys_are : (file keys rest : List ℕ) (at : ℕ) → IsGenerationAt file ke
 keys_are file keys rest at is =
     ap (list_below (λ k. u64_at file (key_place at k))) is.count
     ∙ (list_below_is (λ k. u64_at file (key_place at k)) keys 0 (length keys) (omega arith)
-      (λ k inside. (is.each k inside).is) ∙ take_all (length keys) keys (omega arith))
+    (λ k inside. (is.each k inside).is) ∙ take_all (length keys) keys (omega arith))
 
 -- generations that stand behind one another
 module _ (file tail : List ℕ) (generations : List (List ℕ))
@@ -137,7 +137,7 @@ module _ (file tail : List ℕ) (generations : List (List ℕ))
   places zero inside = start
   places (suc g) inside =
       let here : IsGenerationAt file (keys_of g) (flat_map generation_bytes (drop (g + 1) generations) ++ tail)
-          (place_of file g) =
+      (place_of file g) =
       one_there g (omega (arith, inside)) (places g (omega (arith, inside))) in
       ap (λ n. drop (place_of file g + 4 + 8 * n) file) here.count
       ∙ (here.behind_it ∙ ap (λ m. flat_map generation_bytes (drop m generations) ++ tail) (add-one g))

@@ -50,7 +50,7 @@ module _ (file : List ℕ) (are : All (λ b. b < 256) file) where
   number_fits at =
       let bytes : List ℕ = slice_range file at (at + 8) in
       let small : (i : ℕ) → slice_index bytes i < 256 =
-          small_at bytes (All-take (λ b. b < 256) (at + 8 - at) (drop at file) (All-drop (λ b. b < 256) at file are)) in
+      small_at bytes (All-take (λ b. b < 256) (at + 8 - at) (drop at file) (All-drop (λ b. b < 256) at file are)) in
       eight (slice_index bytes 0) (slice_index bytes 1) (slice_index bytes 2) (slice_index bytes 3)
       (slice_index bytes 4) (slice_index bytes 5) (slice_index bytes 6) (slice_index bytes 7)
       (small 0) (small 1) (small 2) (small 3) (small 4) (small 5) (small 6) (small 7)
@@ -59,7 +59,7 @@ module _ (file : List ℕ) (are : All (λ b. b < 256) file) where
   key_fits : (at k : ℕ) → slice_index (keys_at file at) k < 2 ^ 64
   key_fits at k =
       let all : length (keys_at file at) ≡ u32_at file at =
-          length_below (λ j. u64_at file (key_place at j)) (u32_at file at) in
+      length_below (λ j. u64_at file (key_place at j)) (u32_at file at) in
       elim (cases_lt k (u32_at file at)) [
         | inl inside ↦
             subst (λ n. n < 2 ^ 64) (sym (at_below (λ j. u64_at file (key_place at j)) 0 (u32_at file at) k inside))
@@ -97,7 +97,7 @@ module _ (file : List ℕ) (are : All (λ b. b < 256) file) where
       44 ≤ length file → is_named file ≡ true → (front count : ℕ) → front_of file ≡ front → count_of file ≡ count →
       file
       ≡ (file_name
-          ++ (to_le_bytes w32 (version_of file) ++ (to_le_bytes w64 (u64_at file 8) ++ (to_le_bytes w64 (u64_at file 16)
+      ++ (to_le_bytes w32 (version_of file) ++ (to_le_bytes w64 (u64_at file 8) ++ (to_le_bytes w64 (u64_at file 16)
       ++ (to_le_bytes w32 (step_of file) ++ (to_le_bytes w32 front ++ (to_le_bytes w32 (u32_at file 32)
       ++ (to_le_bytes w32 (u32_at file 36) ++ to_le_bytes w32 count)))))))) ++ drop 44 file
   unfolding file_name
@@ -174,7 +174,7 @@ module _ (file : List ℕ) (are : All (λ b. b < 256) file) where
         front_same count_same
         ∙ (ap (λ x. numbers ++ x) (drop_split file 44 (words_end file) (far_end file)
         ∙ (ap (λ x. words ++ x) (generations_piece file are (count_of file) r.there)
-          ∙ sym (append_assoc words keys rest)))
+        ∙ sym (append_assoc words keys rest)))
         ∙ sym (append_assoc numbers (words ++ keys) rest))
 
     first_bytes : version_of file ≡ 1 → file ≡ file_bytes 1 (contents_of file)
@@ -183,7 +183,7 @@ module _ (file : List ℕ) (are : All (λ b. b < 256) file) where
         let early : length file ≤ keys_end file = ended file one (tail_passes file cart script is) in
         fields_are
         ∙ (ap₂ (λ v rest. field_bytes v (contents_of file) ++ rest) one (drop_all (keys_end file) file early)
-            ∙ append-nil (field_bytes 1 (contents_of file)))
+        ∙ append-nil (field_bytes 1 (contents_of file)))
 
     second_bytes : version_of file ≡ 2 → file ≡ file_bytes 2 (contents_of file)
     unfolding file_bytes
@@ -191,12 +191,12 @@ module _ (file : List ℕ) (are : All (λ b. b < 256) file) where
         let seal : IsSealed file = sealed file two (tail_passes file cart script is) in
         let fields : List ℕ = field_bytes 2 (contents_of file) in
         let whole : file ≡ fields ++ drop (keys_end file) file =
-            fields_are ∙ ap (λ v. field_bytes v (contents_of file) ++ drop (keys_end file) file) two in
+        fields_are ∙ ap (λ v. field_bytes v (contents_of file) ++ drop (keys_end file) file) two in
         let end : keys_end file + 8 ≡ length file = seal.ends in
         let left : length (drop (keys_end file) file) ≡ length file - keys_end file =
-            length-drop (keys_end file) file in
+        length-drop (keys_end file) file in
         let size : length file ≡ length fields + length (drop (keys_end file) file) =
-            ap length whole ∙ length-append fields (drop (keys_end file) file) in
+        ap length whole ∙ length-append fields (drop (keys_end file) file) in
         let same : keys_end file ≡ length fields = omega (arith, end, left, size) in
         let before : take (keys_end file) file ≡ fields =
         ap (λ n. take n file) same

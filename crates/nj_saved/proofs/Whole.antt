@@ -39,14 +39,14 @@ module _ (file : List ℕ) (cart script : ℕ) where
       generations_refused refused is =
           refuses refused
           (behind_identity
-            ∙ (first_passes (size_tests file) _ sizes ∙ first_stays (generations_tests file) _ refused is))
+          ∙ (first_passes (size_tests file) _ sizes ∙ first_stays (generations_tests file) _ refused is))
 
       module _ (generations : List (List ℕ)) (end : ℕ) (read : AreGenerationsTo file generations end) where
         behind_generations : first_refusal (tests_of file cart script) ≡ first_refusal (tail_tests file end)
         behind_generations =
             behind_identity
             ∙ (first_passes (size_tests file) _ sizes
-                ∙ (first_passes (generations_tests file) (tail_tests file (keys_end file)) read.accepted
+            ∙ (first_passes (generations_tests file) (tail_tests file (keys_end file)) read.accepted
             ∙ ap (λ n. first_refusal (tail_tests file n)) (sym read.ends)))
 
         pub tail_refused :

@@ -65,7 +65,7 @@ module _ (version : ℕ) (saved : Saved) (more : List ℕ) where
   long : 44 ≤ length headed
   long =
       let n : length headed ≡ length (head_bytes version saved) + length more =
-          length-append (head_bytes version saved) more in
+      length-append (head_bytes version saved) more in
       let m : length (head_bytes version saved) ≡ 44 = size in omega (arith, n, m)
 
   behind_head : drop 44 headed ≡ more
@@ -113,7 +113,7 @@ module _ (version : ℕ) (saved : Saved) (tail : List ℕ) (ranges : IsInRange s
       elim (cases_lt g (length saved.generations)) [
         | inl inside ↦
             let one : length (slice_index_or saved.generations g []) ≤ key_count saved.generations =
-                get_or-le-sum_by length saved.generations g [] inside in
+            get_or-le-sum_by length saved.generations g [] inside in
             omega (arith, one, ranges.most_keys)
         | inr past ↦ subst (λ keys. length keys < 2 ^ 32) (sym (get_or_past saved.generations g [] past)) (omega arith)
       ]
@@ -128,7 +128,7 @@ module _ (version : ℕ) (saved : Saved) (tail : List ℕ) (ranges : IsInRange s
   generations_are_read =
       ap
       (λ n. first_refusal
-        (tests_below (λ g. generation_tests written (generations_below written g) (place_of written g)) n)) count_there
+      (tests_below (λ g. generation_tests written (generations_below written g) (place_of written g)) n)) count_there
       ∙ generations_pass written saved.generations
       (λ g. flat_map generation_bytes (drop (g + 1) saved.generations) ++ tail)
       (each_there written tail saved.generations start few fits.keys)
@@ -156,17 +156,17 @@ module _ (version : ℕ) (saved : Saved) (tail : List ℕ) (ranges : IsInRange s
       (passes (ap not (eq-eqb (u64_at written 8) saved.cart (cart_is version saved body fits.cart)))
       (passes (le-ltb (length written) 24 (omega (arith, length_is)))
       (passes (ap not (eq-eqb (u64_at written 16) saved.script (script_is version saved body fits.script)))
-        no_more)))))) in
+      no_more)))))) in
       all.none
 
   reaches_words : words_end written ≤ length written
   reaches_words =
       let e : words_end written ≡ 44 + length saved.words = words_there in
       let n : length written ≡ length (head_bytes version saved) + length body =
-          length-append (head_bytes version saved) body in
+      length-append (head_bytes version saved) body in
       let m : length (head_bytes version saved) ≡ 44 = size version saved body in
       let k : length body ≡ length saved.words + length (flat_map generation_bytes saved.generations ++ tail) =
-          length-append saved.words (flat_map generation_bytes saved.generations ++ tail) in
+      length-append saved.words (flat_map generation_bytes saved.generations ++ tail) in
       omega (arith, e, n, m, k)
 
   front_in_range : is_front (step_of written) (front_of written) ≡ true
@@ -174,7 +174,7 @@ module _ (version : ℕ) (saved : Saved) (tail : List ℕ) (ranges : IsInRange s
       ap (λ n. is_front n (front_of written)) step_there ∙ (ap (is_front saved.step) front_there
       ∙ and_from (is_in_range 1 1048576 (words_of saved)) (nat_le (words_of saved * saved.step) 67108864)
       (and_from (nat_le 1 (words_of saved)) (nat_le (words_of saved) 1048576)
-        (le-leb 1 (words_of saved) ranges.some_words) (le-leb (words_of saved) 1048576 ranges.most_words))
+      (le-leb 1 (words_of saved) ranges.some_words) (le-leb (words_of saved) 1048576 ranges.most_words))
       (ap (λ n. nat_le n 67108864) ranges.whole ∙ le-leb (length saved.words) 67108864 ranges.most_pads))
 
   sizes_read : first_refusal (size_tests written) ≡ None
@@ -196,7 +196,7 @@ module _ (version : ℕ) (saved : Saved) (tail : List ℕ) (ranges : IsInRange s
       (passes (within written 36 0 33554432 saved.until until (omega arith) ranges.until)
       (passes (le-ltb (length written) 44 length_is)
       (passes
-        (within written 40 1 (step_of written + 1) (length saved.generations) count_there ranges.some_generations last)
+      (within written 40 1 (step_of written + 1) (length saved.generations) count_there ranges.some_generations last)
       (passes (le-ltb (length written) (words_end written) reaches_words) no_more)))))))))) in
       all.none
 
@@ -204,7 +204,7 @@ module _ (version : ℕ) (saved : Saved) (tail : List ℕ) (ranges : IsInRange s
   words_read : slice_range written 44 (words_end written) ≡ saved.words
   words_read =
       let count : words_end written - 44 ≡ length saved.words =
-          (let e : words_end written ≡ 44 + length saved.words = words_there in omega (arith, e)) in
+      (let e : words_end written ≡ 44 + length saved.words = words_there in omega (arith, e)) in
       ap (λ n. take n (drop 44 written)) count
       ∙ (ap (take (length saved.words)) (behind_head version saved body)
       ∙ take_at saved.words (flat_map generation_bytes saved.generations ++ tail) (length saved.words) refl)
@@ -231,7 +231,7 @@ module _ (version : ℕ) (saved : Saved) (tail : List ℕ) (ranges : IsInRange s
       ap (λ refusal. accepted_unless refusal (contents_of written))
       (both_pass (identity_tests written saved.cart saved.script) _ (identity_read small known)
       (both_pass (size_tests written) _ sizes_read
-        (both_pass (generations_tests written) _ generations_are_read tail_passes)))
+      (both_pass (generations_tests written) _ generations_are_read tail_passes)))
       ∙ ap Ok contents_are
 
 -- a file of version 1
@@ -241,10 +241,10 @@ unfolding file_bytes field_bytes tail_tests
 read_first saved ranges fits =
     let file : List ℕ = written 1 saved [] ranges fits in
     let left : length file - keys_end file ≡ 0 =
-        sym (length-drop (keys_end file) file) ∙ ap length (behind_keys 1 saved [] ranges fits) in
+    sym (length-drop (keys_end file) file) ∙ ap length (behind_keys 1 saved [] ranges fits) in
     let version : version_of file ≡ 1 = version_is 1 saved (body 1 saved [] ranges fits) (omega arith) in
     let last : Accepts (trailing file (keys_end file) ∷ []) =
-        passes (le-ltb (keys_end file) (length file) (omega (arith, left))) no_more in
+    passes (le-ltb (keys_end file) (length file) (omega (arith, left))) no_more in
     let ends : first_refusal (tail_tests file (keys_end file)) ≡ None =
     ap first_refusal (cond-false (version_of file == 2) _ _ (ap (λ v. v == 2) version)) ∙ last.none in
     ap (λ bytes. saved_of (head_bytes 1 saved ++ (saved.words ++ bytes)) saved.cart saved.script)
@@ -283,8 +283,8 @@ read_second saved ranges fits =
     let last : Accepts (hash_tests file (keys_end file)) =
     passes (le-ltb (length file) (keys_end file + 8) (omega (arith, left)))
     (passes
-      (ap not
-        (eq-eqb (u64_at file (keys_end file)) (fnv_of (take (keys_end file) file)) (kept ∙ ap fnv_of (sym before))))
+    (ap not
+    (eq-eqb (u64_at file (keys_end file)) (fnv_of (take (keys_end file) file)) (kept ∙ ap fnv_of (sym before))))
     (passes (le-ltb (keys_end file + 8) (length file) (omega (arith, left))) no_more)) in
     let ends : first_refusal (tail_tests file (keys_end file)) ≡ None =
     ap first_refusal (cond-true (version_of file == 2) _ _ (ap (λ v. v == 2) version)) ∙ last.none in

@@ -87,9 +87,9 @@ pub fits_slots :
     → inputs ≡ length (named_pads plan.script.inputs.sets) → most * inputs ≤ 2 ^ limits.exponent
 fits_slots plan limits saved most inputs none is counted =
     let seen : most_of limits plan.cartridge * length (named_pads plan.script.inputs.sets) ≤ 2 ^ limits.exponent =
-        (accepted plan limits saved none).seen in
+    (accepted plan limits saved none).seen in
     let e : most * inputs ≡ most_of limits plan.cartridge * length (named_pads plan.script.inputs.sets) =
-        ap₂ (λ m n. m * n) is counted in
+    ap₂ (λ m n. m * n) is counted in
     omega (arith, seen, e)
 
 -- as each step has a frame, all steps are within the frames of a movie
@@ -98,9 +98,9 @@ pub few_steps :
     → total_steps limits saved ≤ 2 ^ 20
 few_steps plan limits saved hold none =
     let movie : length plan.start + plan.script.hold * total_steps limits saved ≤ 2 ^ 20 =
-        (accepted plan limits saved none).movie in
+    (accepted plan limits saved none).movie in
     let each : 1 * total_steps limits saved ≤ plan.script.hold * total_steps limits saved =
-        mul-le-mul_right (total_steps limits saved) hold in
+    mul-le-mul_right (total_steps limits saved) hold in
     omega (arith, movie, each)
 
 -- a saved front fits

@@ -114,7 +114,7 @@ pub all_counted : (planned : Planned) (held : Held) (limit workers : ℕ) (old m
     → AreCounted workers mid new (frames_a_step held * limit) → AreCounted workers old new (frames_most planned)
 all_counted planned held limit workers old mid new some is limited first second =
     let steps : frames_a_step held * limit ≡ frames_a_step held * planned.limits.steps =
-        ap (λ n. frames_a_step held * n) limited in
+    ap (λ n. frames_a_step held * n) limited in
     more_counted workers old mid new (frames_before planned) (frames_a_step held * limit) (frames_most planned)
     (by_more workers old mid (frames_before planned) some first) second
     (omega (arith, all_frames planned held is, steps))

@@ -83,7 +83,7 @@ pub frames_within :
 frames_within begun now limit made before frames frames' within are_made ran =
     let more : made + 1 ≤ limit = omega arith in
     let h : frames_a_step begun * (made + 1) ≤ frames_a_step begun * limit =
-        mul-le-mul_left (frames_a_step begun) more in
+    mul-le-mul_left (frames_a_step begun) more in
     omega (arith, one_more begun now limit made before frames frames' are_made ran, h)
 
 -- what a step ends the search with is the answer of the whole
@@ -203,7 +203,7 @@ ends_by :
 ends_by planned held judged is e verdict v =
     is.whole
     ∙ ap (λ w. judged_first w (rest_of held planned.limits.steps))
-      (verdict_is planned held judged is e ∙ ap search_verdict v)
+    (verdict_is planned held judged is e ∙ ap search_verdict v)
 
 -- a start that neither wins nor fails goes on
 pub going : (planned : Planned) (held : Held) (judged : Judged) → planned.saved ≡ None → held ≡ held_in planned
@@ -241,7 +241,7 @@ start_wins planned held judged movie outcome none opened e v m told keep =
     ∙ told_start planned.plan keep
     ∙ ap unsaved (ap₂ (Won 0)
     (ap (λ (j : Judged). j.reward)
-      (sym (e ∙ ap₂ (λ (p : Plan) (f : List Word). judged_of p (get_or f 0 [])) is.going is.front)))
+    (sym (e ∙ ap₂ (λ (p : Plan) (f : List Word). judged_of p (get_or f 0 [])) is.going is.front)))
     (sym (m ∙ ap₂ (λ (p : Plan) (f : List Word). movie_of p (get_or f 0 [])) is.going is.front)) ∙ sym told)
 
 -- a start that fails is told so
@@ -328,7 +328,7 @@ unfolding frames_most bounds_in
 all_frames planned held is =
     ap₂
     (λ (p : Plan) (b : Bounds). frames_before planned
-      + p.script.hold * (b.most * (b.inputs + 1)) * planned.limits.steps)
+    + p.script.hold * (b.most * (b.inputs + 1)) * planned.limits.steps)
     (sym is.plan) (sym is.bounds)
 
 -- those before the first step and those of all steps are within those of the search
@@ -339,5 +339,5 @@ pub frames_going :
     → after ≤ before + frames_most planned
 frames_going planned held limit before between after is limited start ran =
     let steps : frames_a_step held * limit ≡ frames_a_step held * planned.limits.steps =
-        ap (λ n. frames_a_step held * n) limited in
+    ap (λ n. frames_a_step held * n) limited in
     omega (arith, all_frames planned held is, start, ran, steps)

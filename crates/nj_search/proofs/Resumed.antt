@@ -190,7 +190,7 @@ module _ (tell : RulesTell) (keep : SearchesKeep)
     unfolding most_of saved_of
     resumed_accepted =
         let whole_plan =
-            accepted planned.plan (let p = with_steps planned (a + b) in p.limits) planned.saved is.accepted in
+        accepted planned.plan (let p = with_steps planned (a + b) in p.limits) planned.saved is.accepted in
         record {
           budget = whole_plan.budget;
           seen = whole_plan.seen;

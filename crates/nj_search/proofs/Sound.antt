@@ -91,10 +91,10 @@ word_long :
 word_long saved ranges k inside =
     let size : words_of saved * saved.step ≡ length saved.words = ranges.whole in
     let more : (k + 1) * saved.step ≤ words_of saved * saved.step =
-        mul-le-mul_right saved.step (omega (arith, inside)) in
+    mul-le-mul_right saved.step (omega (arith, inside)) in
     let next : (k + 1) * saved.step ≡ k * saved.step + saved.step = grind arith in
     let rest : length (drop (k * saved.step) saved.words) ≡ length saved.words - k * saved.step =
-        length-drop (k * saved.step) saved.words in
+    length-drop (k * saved.step) saved.words in
     length-take saved.step (drop (k * saved.step) saved.words) ∙ omega (arith, size, more, next, rest)
 
 -- each as long as the steps
@@ -102,7 +102,7 @@ front_long : (saved : Saved) → IsInRange saved → All (λ word. length word �
 unfolding front_in
 front_long saved ranges k d inside =
     let below : k < words_of saved =
-        (let e : length (front_in saved) ≡ words_of saved = front_length saved in omega (arith, inside, e)) in
+    (let e : length (front_in saved) ≡ words_of saved = front_length saved in omega (arith, inside, e)) in
     ap length (get_or-map-range_with_len (word_at saved.words saved.step) 0 (words_of saved) k k d below (omega arith))
     ∙ word_long saved ranges k below
 
@@ -169,10 +169,10 @@ end_from_start tell keep planned can none state is =
     let bounds = bounds_in planned in
     let limit = planned.limits.steps in
     let rest : searched game bounds limit (opening game) ≡ LimitAt state =
-        not_at_start (game.judged []).verdict _ state is in
+    not_at_start (game.judged []).verdict _ state is in
     let well = well_made tell planned can in
     let latest : 0 + limit + planned.plan.script.tolerance ≤ 33554432 =
-        omega (arith, can.tolerance, can.limits.most_steps) in
+    omega (arith, can.tolerance, can.limits.most_steps) in
     let made : state.step ≡ limit = (keep.fronts game bounds limit state is).step in
     record {
       sound =
@@ -199,16 +199,16 @@ end_from_saved tell keep come planned can saved goes state is =
     let front : words_before planned.saved ≤ most_of planned.limits planned.plan.cartridge =
     (accepted planned.plan planned.limits planned.saved can.accepted).front in
     let few : words_of saved ≤ most_of planned.limits planned.plan.cartridge =
-        subst (λ s. words_before s ≤ most_of planned.limits planned.plan.cartridge) goes front in
+    subst (λ s. words_before s ≤ most_of planned.limits planned.plan.cartridge) goes front in
     let begun =
-        keep.forgets bounds 33554432 128 33554432 (state_in saved) (saved_sound come bounds.most saved ranges fits few)
-        in
+    keep.forgets bounds 33554432 128 33554432 (state_in saved) (saved_sound come bounds.most saved ranges fits few)
+    in
     let steps : limit + saved.step ≤ 2 ^ 20 =
     subst (λ s. total_steps planned.limits s ≤ 2 ^ 20) goes
     (few_steps planned.plan planned.limits planned.saved can.hold can.accepted) in
     let latest : saved.step + limit + planned.plan.script.tolerance ≤ 33554432 = omega (arith, can.tolerance, steps) in
     let made : state.step ≡ saved.step + limit =
-        (keep.fronts_from game bounds limit from state (front_even saved ranges bounds) is).step in
+    (keep.fronts_from game bounds limit from state (front_even saved ranges bounds) is).step in
     record {
       sound = keep.goes_on game bounds 128 33554432 limit from state well latest begun is;
       step = omega (arith, made, ap steps_before goes);
@@ -239,9 +239,9 @@ concat_long n [] long = sym (zero-mul n)
 concat_long n (word ∷ words) long =
     let here : length word ≡ n = All-head (λ w. length w ≡ n) word words long in
     let rest : length (concat words) ≡ length words * n =
-        concat_long n words (All-tail (λ w. length w ≡ n) word words long) in
+    concat_long n words (All-tail (λ w. length w ≡ n) word words long) in
     let both : length (word ++ concat words) ≡ length word + length (concat words) =
-        length-append word (concat words) in
+    length-append word (concat words) in
     let more : suc (length words) * n ≡ length words * n + n = suc-mul (length words) n in
     omega (arith, here, rest, both, more)
 
@@ -273,10 +273,10 @@ unfolding saved_of
 saved_in_range all planned can state end =
     let sound = end.sound in
     let total : total_steps planned.limits planned.saved ≤ 2 ^ 20 =
-        few_steps planned.plan planned.limits planned.saved can.hold can.accepted in
+    few_steps planned.plan planned.limits planned.saved can.hold can.accepted in
     let some : 1 ≤ state.step = omega (arith, end.step, can.limits.some_steps) in
     let size : length (concat state.front) ≡ length state.front * state.step =
-        concat_long state.step state.front sound.long in
+    concat_long state.step state.front sound.long in
     let words : length (concat state.front) / state.step ≡ length state.front = words_saved state some sound.long in
     record {
       first_step = some;

@@ -93,10 +93,10 @@ won_replays lengths wins lengths_from wins_from read tell planned step word hold
     let by = won_from lengths wins lengths_from wins_from planned planned.saved step word ranges won in
     let plan = planned.plan in
     let within : length word ≤ total_steps planned.limits planned.saved =
-        omega (arith, by.within.long, by.within.within) in
+    omega (arith, by.within.long, by.within.within) in
     let fits :
-        length planned.plan.start + planned.plan.script.hold * total_steps planned.limits planned.saved ≤ 2 ^ 20 =
-        (accepted planned.plan planned.limits planned.saved none).movie in
+    length planned.plan.start + planned.plan.script.hold * total_steps planned.limits planned.saved ≤ 2 ^ 20 =
+    (accepted planned.plan planned.limits planned.saved none).movie in
     record {
       long = by.within.long;
       short_enough = omega (arith, length-movie plan word, fits, mul-le-mul_left plan.script.hold within);

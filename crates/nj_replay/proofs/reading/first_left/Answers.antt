@@ -21,7 +21,7 @@ loop-frame-preserved c =
     let told = c.in-Some.ensures in (
       omega (arith, told.lookup.3.0),
       left_next c.args.whole.now c.args.movie.now c.loop-frame.frame c.index-whole-frame.result c.in-Some.shown.now
-      c.loop-frame-test.true told.lookup.3.0
+          c.loop-frame-test.true told.lookup.3.0
           c.index-whole-frame.is told.lookup.1 (sym c.shown.view_is ∙ c.if-shown-pad.false ∙ c.pad.view_is)
           c.loop-frame.invariant.1,
     )

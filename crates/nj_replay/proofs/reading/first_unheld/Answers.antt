@@ -21,14 +21,14 @@ loop-frame-preserved c =
           at_same whole c.args.hold c.if-left-eq0.left c.if-left-eq0.held (c.args.hold - 1) c.index-behind-frame.result
           (c.loop-frame.frame + 1) _ w.left-is (w.held-is ∙ c.pad.view_is)
           (step_begins whole c.args.hold c.loop-frame.held c.args.behind.now c.loop-frame.frame
-            c.index-behind-frame.result c.requires c.loop-frame-test.true c.index-behind-frame.is
+          c.index-behind-frame.result c.requires c.loop-frame-test.true c.index-behind-frame.is
           (at_same whole c.args.hold 0 c.loop-frame.held c.loop-frame.left c.loop-frame.held c.loop-frame.frame _
-            (sym w.if-left-eq0.true) refl c.loop-frame.invariant))
+          (sym w.if-left-eq0.true) refl c.loop-frame.invariant))
       | else-left-eq0+then-pad-held w ↦
           at_same whole c.args.hold c.if-left-eq0.left c.if-left-eq0.held (c.loop-frame.left - 1) c.loop-frame.held
           (c.loop-frame.frame + 1) _ w.left-is w.held-is
           (step_goes_on whole c.args.hold c.loop-frame.left c.loop-frame.held c.args.behind.now c.loop-frame.frame
-            c.index-behind-frame.result (omega (arith, w.if-left-eq0.false))
+          c.index-behind-frame.result (omega (arith, w.if-left-eq0.false))
           (sym c.pad.view_is ∙ w.if-pad-held.true) c.loop-frame-test.true c.index-behind-frame.is
           c.loop-frame.invariant)
     ]

@@ -70,4 +70,4 @@ returns-clause-named c = λ sets ram.
     length-le_from_is_member nat_eq_equiv (distinct (offered_pads sets ram))
     (distinct (flat_map (λ set. set.pads) sets)) (IsDistinct-distinct (offered_pads sets ram))
     (λ q there. is_member-distinct (flat_map (λ set. set.pads) sets) q
-      ∙ offered_is_named sets ram q (sym (is_member-distinct (offered_pads sets ram) q) ∙ there))
+    ∙ offered_is_named sets ram q (sym (is_member-distinct (offered_pads sets ram) q) ∙ there))

@@ -19,8 +19,8 @@ pub returns-clause-pads : goal.returns-clause-pads
 returns-clause-pads c =
     let absent : stands c.args.pad (take c.args.filled c.args.into.now) ≡ false = grind (arith, common_steps) in
     let room : c.args.filled < 256 =
-        room_for_byte c.args.into.now c.args.filled c.args.pad c.fits-into c.told-into c.requires.count
-        c.ranges.pad.fits c.requires.once absent in
+    room_for_byte c.args.into.now c.args.filled c.args.pad c.fits-into c.told-into c.requires.count
+    c.ranges.pad.fits c.requires.once absent in
     take_more_set c.args.into.now c.args.filled c.args.pad (omega arith)
     ∙ distinct-absent (take c.args.filled c.args.into.now) c.args.pad c.requires.once absent
 
@@ -28,6 +28,6 @@ pub returns-clause-within : goal.returns-clause-within
 returns-clause-within c =
     let absent : stands c.args.pad (take c.args.filled c.args.into.now) ≡ false = grind (arith, common_steps) in
     let room : c.args.filled < 256 =
-        room_for_byte c.args.into.now c.args.filled c.args.pad c.fits-into c.told-into c.requires.count
-        c.ranges.pad.fits c.requires.once absent in
+    room_for_byte c.args.into.now c.args.filled c.args.pad c.fits-into c.told-into c.requires.count
+    c.ranges.pad.fits c.requires.once absent in
     omega arith

@@ -9,7 +9,7 @@ returns-in_err-count c =
     let p = err_from_is_err_and c.from_residual.result c.from_residual.ensures.1 in
     rw (p.1, p.2)
     (inr
-      (count_refused c.args.file.now c.args.older.now c.args.at c.in_err-count.field-0.0 c.in_err-count.ensures.test))
+    (count_refused c.args.file.now c.args.older.now c.args.at c.in_err-count.field-0.0 c.in_err-count.ensures.test))
 
 pub returns : goal.returns
 returns c =

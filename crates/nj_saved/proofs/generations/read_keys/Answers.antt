@@ -15,8 +15,8 @@ returns-in_err-last c =
     let below : c.loop-k.k < u32_at c.args.file.now c.args.at = omega (arith, c.loop-k-test.true, c.requires.count) in
     rw (p.1, p.2)
     (inr
-      (key_refused c.args.file.now c.args.older.now c.args.at c.loop-k.k _ _ c.in_err-last.field-0.0 c.loop-k.invariant
-        below c.in_err-last.ensures.test))
+    (key_refused c.args.file.now c.args.older.now c.args.at c.loop-k.k _ _ c.in_err-last.field-0.0 c.loop-k.invariant
+    below c.in_err-last.ensures.test))
 
 pub loop-k-preserved : goal.loop-k-preserved
 loop-k-preserved c =
@@ -27,6 +27,6 @@ loop-k-preserved c =
 pub returns : goal.returns
 returns c =
     let end : c.loop-k.k ≡ u32_at c.args.file.now c.args.at =
-        omega (arith, c.loop-k-test.false, c.loop-k.auto.k-end, c.requires.count) in
+    omega (arith, c.loop-k-test.false, c.loop-k.auto.k-end, c.requires.count) in
     subst (AreKeys c.args.file.now c.args.older.now c.args.at) (sym c.from_vec.ensures)
     (all_keys c.args.file.now c.args.older.now c.args.at c.loop-k.k _ _ c.loop-k.invariant end)

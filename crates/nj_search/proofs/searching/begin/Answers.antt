@@ -18,8 +18,8 @@ pub returns-else-goes_on-clause-begun : goal.returns-else-goes_on-clause-begun
 returns-else-goes_on-clause-begun g c =
     IfOk-weaker c.judge_start.result
     (λ begun. (planned : Planned) → planned.saved ≡ None → c.in_ok-search.search ≡ held_in planned →
-      IsBegun planned begun)
+    IsBegun planned begun)
     (λ begun. IsBegun c.args.plan begun)
     (λ begun is. is c.args.plan (starts c.args.plan (sym c.goes_on-goes_on.ensures ∙ c.if-goes_on.false))
-      c.in_ok-search.ensures.opened)
+    c.in_ok-search.ensures.opened)
     c.judge_start.ensures

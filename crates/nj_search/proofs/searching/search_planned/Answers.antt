@@ -26,7 +26,7 @@ returns-in-Going-clause-ended g c =
     (λ ended. answer_of search.plan c.args.keep (rest_of search c.steps-limit.result) ≡ ended)
     (λ ended. ended ≡ ended_of c.args.plan c.args.keep)
     (λ ended told. answered c.args.plan search c.args.keep c.steps-limit.result ended going c.steps-limit.ensures.steps
-      told) c.search_on.ensures.ended
+    told) c.search_on.ensures.ended
 
 pub returns-in-Going-clause-frames : goal.returns-in-Going-clause-frames
 returns-in-Going-clause-frames g c =

@@ -10,5 +10,5 @@ returns c =
     mul-le-mul_left held.plan.script.hold
     (c.a_step_is_bounded.ensures.both held
     (sym (inputs_are c.bounds-bounds.result held.plan.script held.bounds c.bounds-bounds.ensures.bounds)
-      ∙ c.bounds-bounds.ensures.inputs)
+    ∙ c.bounds-bounds.ensures.inputs)
     (subst (λ (n : ℕ). n ≤ held.bounds.most) c.front_len-words.ensures.len c.front_len-words.ensures.within))

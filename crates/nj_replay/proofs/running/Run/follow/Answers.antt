@@ -43,7 +43,7 @@ loop-rest-preserved g c =
           (let P : Word → Type 0 = λ w. IsAfter plan w c.step.new.self.machine c.step.new.self.judged in
           subst P (sym next.grown)
           (c.step.ensures.after plan (take c.loop-rest.count word) rules hold
-            (c.loop-rest.invariant.after plan rules hold begun)));
+          (c.loop-rest.invariant.after plan rules hold begun)));
     }
 
 pub returns-clause-count : goal.returns-clause-count
