@@ -68,7 +68,7 @@ near_is : (at low : ℕ) → at < 65536 → low < 256 → is_far at (branch_targ
 near_is at low h l =
     ap (λ n. ltb 127 n && ltb n 65408) (offset_is at low h l)
     ∙ sign_cases low l (λ s. (ltb 127 (low + s) && ltb (low + s) 65408) ≡ false) (λ near. grind (arith, nat_tests))
-      (λ far. grind (arith, nat_tests))
+    (λ far. grind (arith, nat_tests))
 
 branch_fits : (homes : Homes) (at k low : ℕ) → at < 65536 → low < 256
     → cells_fault homes at (Opcode k ∷ Branch (Literal (branch_target at low)) ∷ []) ≡ None
@@ -127,7 +127,7 @@ word_is k low high l r =
 branch_is : (k at low : ℕ) → at < 65536 → low < 256 → k ∷ offset_to at (branch_target at low) % 256 ∷ [] ≡ k ∷ low ∷ []
 branch_is k at low h l =
     let same : (low + sign low) % 256 ≡ low =
-      sign_cases low l (λ s. (low + s) % 256 ≡ low) (λ near. omega arith) (λ far. omega arith) in
+    sign_cases low l (λ s. (low + s) % 256 ≡ low) (λ near. omega arith) (λ far. omega arith) in
     ap (λ n. k ∷ n % 256 ∷ []) (offset_is at low h l) ∙ ap (λ n. k ∷ n ∷ []) same
 
 bytes_are : (mode : Mode) (homes : Homes) (k at low high : ℕ) → at < 65536 → low < 256 → high < 256 →
@@ -190,7 +190,7 @@ bytes_at : (homes : Homes) (at : ℕ) (i : Instruction) → IsInstruction i → 
     → flat_map (cell_bytes homes at) (cells_at at i) ≡ encoding i
 bytes_at homes at i is h =
     bytes_are (row_of i.opcode).mode homes i.opcode at (low_of i) (high_of i) h (byte_at i.operand 0 is.bytes)
-      (byte_at i.operand 1 is.bytes)
+    (byte_at i.operand 1 is.bytes)
     ∙ ap (λ (bytes : List ℕ). i.opcode ∷ bytes) (behind_is i is)
 
 -- a line whose cells fit is not refused
@@ -204,12 +204,12 @@ line_fits homes begun at index cells none within = rw (none, le-ltb 65536 (at + 
 refused_step : (homes : Homes) (begun : Bool) (at index size : ℕ) (cells : List Cell) (line : Line) (rest : List Line) →
     line ≡ bare (Cells cells) → sum_by cell_size cells ≡ size →
     fault_of homes begun at index (bare (Cells cells)) ≡ None →
-      first_refused homes (begun || true) (at + size) (index + 1) rest ≡ None →
+    first_refused homes (begun || true) (at + size) (index + 1) rest ≡ None →
     first_refused homes begun at index (line ∷ rest) ≡ None
 refused_step homes begun at index size cells line rest is sized fits after =
     ap (λ (l : Line). first_refused homes begun at index (l ∷ rest)) is
     ∙ ap (λ (o : Option Fault). refused_or o (index + 1)
-      (first_refused homes (begun || true) (at + sum_by cell_size cells) (index + 1) rest)) fits
+    (first_refused homes (begun || true) (at + sum_by cell_size cells) (index + 1) rest)) fits
     ∙ ap (λ n. first_refused homes (begun || true) (at + n) (index + 1) rest) sized
     ∙ after
 
@@ -220,23 +220,23 @@ none_refused homes begun at index [] within are = refl
 none_refused homes begun at index (i ∷ is) within are =
     let here = All-head IsInstruction i is are in
     let sum : length (encodings (i ∷ is)) ≡ length (encoding i) + length (encodings is) =
-      length-append (encoding i) (encodings is) in
+    length-append (encoding i) (encodings is) in
     let size = size_at at i here in
     refused_step homes begun at index (length (encoding i)) (cells_at at i) (line_of (statement_line at i))
-      (map line_of (said_at (at + length (encoding i)) is))
+    (map line_of (said_at (at + length (encoding i)) is))
     (read_at at i here) size
     (line_fits homes begun at index (cells_at at i)
     (cells_fit (row_of i.opcode).mode homes i.opcode at (low_of i) (high_of i) (omega (arith, sum))
-      (byte_at i.operand 0 here.bytes) (byte_at i.operand 1 here.bytes))
+    (byte_at i.operand 0 here.bytes) (byte_at i.operand 1 here.bytes))
     (omega (arith, sum, size)))
     (none_refused homes (begun || true) (at + length (encoding i)) (index + 1) is (omega (arith, sum))
-      (All-tail IsInstruction i is are))
+    (All-tail IsInstruction i is are))
 
 -- its bytes are those that were listed
 bytes_step : (homes : Homes) (at size : ℕ) (cells : List Cell) (line : Line) (rest : List Line) (bytes after : List ℕ) →
     line ≡ bare (Cells cells) → sum_by cell_size cells ≡ size →
     flat_map (cell_bytes homes at) cells ≡ bytes → bytes_from homes (at + size) rest ≡ after
-      → bytes_from homes at (line ∷ rest) ≡ bytes ++ after
+    → bytes_from homes at (line ∷ rest) ≡ bytes ++ after
 bytes_step homes at size cells line rest bytes after is sized here there =
     ap (λ (l : Line). bytes_from homes at (l ∷ rest)) is
     ∙ (λ i. here i ++ bytes_from homes (at + sized i) rest)
@@ -249,9 +249,9 @@ all_bytes homes at [] within are = refl
 all_bytes homes at (i ∷ is) within are =
     let here = All-head IsInstruction i is are in
     let sum : length (encodings (i ∷ is)) ≡ length (encoding i) + length (encodings is) =
-      length-append (encoding i) (encodings is) in
+    length-append (encoding i) (encodings is) in
     bytes_step homes at (length (encoding i)) (cells_at at i) (line_of (statement_line at i))
-      (map line_of (said_at (at + length (encoding i)) is)) (encoding i) (encodings is)
+    (map line_of (said_at (at + length (encoding i)) is)) (encoding i) (encodings is)
     (read_at at i here) (size_at at i here) (bytes_at homes at i here (omega (arith, sum)))
     (all_bytes homes (at + length (encoding i)) is (omega (arith, sum)) (All-tail IsInstruction i is are))
 
@@ -304,13 +304,16 @@ source_lines : EndsLines → PartsLines → (origin : ℕ) (all : List Instructi
 source_lines ends parts origin all within are =
     ap (λ (text : List ℕ). lines (org_line origin ++ text)) (statements_are ends parts origin all within are)
     ∙ parts (org_line origin ∷ said_at origin all)
-    (are_lines (org_line origin ∷ said_at origin all) (ends (codes ".org $" ++ hex4 origin)
-      (plain_is (codes ".org $" ++ hex4 origin) (org_plain origin)), all_ended ends origin all are))
+    (are_lines (org_line origin ∷ said_at origin all) (
+      ends (codes ".org $" ++ hex4 origin)
+          (plain_is (codes ".org $" ++ hex4 origin) (org_plain origin)),
+      all_ended ends origin all are,
+    ))
 
 pub again : EndsLines → PartsLines → (origin : ℕ) (all : List Instruction) → origin < 65536 →
     origin + length (encodings all) ≤ 65536 → All IsInstruction all →
     assembly_of (source_of origin (listing_of origin (encodings all)))
-      ≡ Ok (record { origin = origin; bytes = encodings all })
+    ≡ Ok (record { origin = origin; bytes = encodings all })
 unfolding assembly_of read_lines
 again ends parts origin all small within are =
     ap (λ (ls : List (List ℕ)). assembly_in (map line_of ls)) (source_lines ends parts origin all within are)
@@ -318,10 +321,10 @@ again ends parts origin all small within are =
     ∙ assembled_by (bare (Origin origin) ∷ map line_of (said_at origin all)) origin (encodings all)
     (org_first origin (map line_of (said_at origin all)) small)
     (org_none (homes_of (bare (Origin origin) ∷ map line_of (said_at origin all))) origin
-      (map line_of (said_at origin all)) small
+    (map line_of (said_at origin all)) small
     (none_refused (homes_of (bare (Origin origin) ∷ map line_of (said_at origin all))) true origin 1 all within are))
     (org_bytes (homes_of (bare (Origin origin) ∷ map line_of (said_at origin all))) origin
-      (map line_of (said_at origin all))
+    (map line_of (said_at origin all))
     ∙ all_bytes (homes_of (bare (Origin origin) ∷ map line_of (said_at origin all))) origin all within are)
 
 -- an instruction of an opcode, with the operand bytes $80 and $90 as far as its mode takes them
@@ -363,7 +366,7 @@ example_bytes : (n : ℕ) → All (λ b. b < 256) (take n (128 ∷ 144 ∷ []))
 example_bytes n =
     All-take (λ b. b < 256) n (128 ∷ 144 ∷ [])
     (All-cons (λ b. b < 256) 128 (144 ∷ []) (omega arith)
-      (All-cons (λ b. b < 256) 144 [] (omega arith) (All-nil (λ b. b < 256))))
+    (All-cons (λ b. b < 256) 144 [] (omega arith) (All-nil (λ b. b < 256))))
 
 example_is : (k : ℕ) → k < 256 → is_official k ≡ true → IsInstruction (example k)
 example_is k h official = record {
@@ -384,32 +387,38 @@ one_line ends parts i is =
     let all : List Line = bare (Cells (cells_at 32768 i)) ∷ [] in
     ap (λ (text : List ℕ). assembly_in (map line_of (lines text))) (sym whole)
     ∙ ap (λ (ls : List (List ℕ)). assembly_in (map line_of ls))
-      (parts (statement_line 32768 i ∷ []) (are_lines (statement_line 32768 i ∷ []) (said_ended ends 32768 i is, tt)))
+    (parts (statement_line 32768 i ∷ []) (are_lines (statement_line 32768 i ∷ []) (said_ended ends 32768 i is, tt)))
     ∙ ap (λ (l : Line). assembly_in (l ∷ [])) line
     ∙ assembled_by all 32768 (encoding i) refl
     (refused_step (homes_of all) false 32768 0 (length (encoding i)) (cells_at 32768 i)
-      (bare (Cells (cells_at 32768 i))) [] refl (size_at 32768 i is)
+    (bare (Cells (cells_at 32768 i))) [] refl (size_at 32768 i is)
     (line_fits (homes_of all) false 32768 0 (cells_at 32768 i)
     (cells_fit (row_of i.opcode).mode (homes_of all) i.opcode 32768 (low_of i) (high_of i) (omega arith)
-      (byte_at i.operand 0 is.bytes) (byte_at i.operand 1 is.bytes))
-    (omega (arith, size_is (row_of i.opcode).mode i.opcode 32768 (low_of i) (high_of i),
-      length_small (row_of i.opcode).mode)))
+    (byte_at i.operand 0 is.bytes) (byte_at i.operand 1 is.bytes))
+    (omega (
+      arith,
+      size_is (row_of i.opcode).mode i.opcode 32768 (low_of i) (high_of i),
+      length_small (row_of i.opcode).mode,
+    )))
     refl)
     (bytes_step (homes_of all) 32768 (length (encoding i)) (cells_at 32768 i) (bare (Cells (cells_at 32768 i))) []
-      (encoding i) [] refl (size_at 32768 i is) (bytes_at (homes_of all) 32768 i is (omega arith)) refl
+    (encoding i) [] refl (size_at 32768 i is) (bytes_at (homes_of all) 32768 i is (omega arith)) refl
     ∙ append-nil (encoding i))
 
 pub one_again : EndsLines → PartsLines → (i : Instruction) → IsInstruction i →
     assembly_of (drop 14 (listing_of 32768 (encoding i))) ≡ Ok (record { origin = 32768; bytes = encoding i })
 one_again ends parts i is =
     ap (λ (text : List ℕ). assembly_of text)
-      (one_listed 32768 i is (omega (arith, is.whole, length_small (row_of i.opcode).mode)))
+    (one_listed 32768 i is (omega (arith, is.whole, length_small (row_of i.opcode).mode)))
     ∙ one_line ends parts i is
 
 pub reached : EndsLines → PartsLines → (k : ℕ) → k < 256 → is_official k ≡ true →
     (line : List ℕ) × (operand : List ℕ) × (assembly_of line ≡ Ok (record { origin = 32768; bytes = k ∷ operand }))
-      × (drop 14 (listing_of 32768 (k ∷ operand)) ≡ line)
+    × (drop 14 (listing_of 32768 (k ∷ operand)) ≡ line)
 reached ends parts k h official =
-    let is = example_is k h official in
-    (statement_line 32768 (example k), (example k).operand, one_line ends parts (example k) is,
-      one_listed 32768 (example k) is (omega (arith, is.whole, length_small (row_of k).mode)))
+    let is = example_is k h official in (
+      statement_line 32768 (example k),
+      (example k).operand,
+      one_line ends parts (example k) is,
+      one_listed 32768 (example k) is (omega (arith, is.whole, length_small (row_of k).mode)),
+    )

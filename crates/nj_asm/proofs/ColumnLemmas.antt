@@ -87,7 +87,7 @@ pub cut_all : (at : ℕ) (all : List Instruction) → All IsInstruction all
 cut_all at [] are = refl
 cut_all at (i ∷ is) are =
     λ j. cut at i (All-head IsInstruction i is are) j
-      ++ cut_all (at + length (encoding i)) is (All-tail IsInstruction i is are) j
+    ++ cut_all (at + length (encoding i)) is (All-tail IsInstruction i is are) j
 
 -- the columns are plain text
 spaced_plain : (bytes : List ℕ) → list_all is_plain (flat_map spaced bytes) ≡ true
@@ -123,36 +123,38 @@ line_ended : EndsLines → (at : ℕ) (i : Instruction) → IsInstruction i → 
 unfolding instruction_text
 line_ended ends at i is =
     ends (place_text at (encoding i) ++ name_of (row_of i.opcode).op
-      ++ operand_text (row_of i.opcode).mode at (low_of i) (high_of i))
+    ++ operand_text (row_of i.opcode).mode at (low_of i) (high_of i))
     (plain_is (place_text at (encoding i) ++ name_of (row_of i.opcode).op
-      ++ operand_text (row_of i.opcode).mode at (low_of i) (high_of i))
+    ++ operand_text (row_of i.opcode).mode at (low_of i) (high_of i))
     (plain-append (place_text at (encoding i) ++ name_of (row_of i.opcode).op)
-      (operand_text (row_of i.opcode).mode at (low_of i) (high_of i))
+    (operand_text (row_of i.opcode).mode at (low_of i) (high_of i))
     (plain-append (place_text at (encoding i)) (name_of (row_of i.opcode).op) (place_plain at (encoding i))
-      (name_plain i.opcode is.byte))
+    (name_plain i.opcode is.byte))
     (operand_plain (row_of i.opcode).mode at (low_of i) (high_of i))))
 
 lines_ended : EndsLines → (at : ℕ) (all : List Instruction) → All IsInstruction all → AreEnded (lines_at at all)
 lines_ended ends at [] are = tt
-lines_ended ends at (i ∷ is) are =
-    (line_ended ends at i (All-head IsInstruction i is are),
-      lines_ended ends (at + length (encoding i)) is (All-tail IsInstruction i is are))
+lines_ended ends at (i ∷ is) are = (
+  line_ended ends at i (All-head IsInstruction i is are),
+  lines_ended ends (at + length (encoding i)) is (All-tail IsInstruction i is are),
+)
 
 pub all_ended : EndsLines → (at : ℕ) (all : List Instruction) → All IsInstruction all → AreEnded (said_at at all)
 all_ended ends at [] are = tt
-all_ended ends at (i ∷ is) are =
-    (said_ended ends at i (All-head IsInstruction i is are),
-      all_ended ends (at + length (encoding i)) is (All-tail IsInstruction i is are))
+all_ended ends at (i ∷ is) are = (
+  said_ended ends at i (All-head IsInstruction i is are),
+  all_ended ends (at + length (encoding i)) is (All-tail IsInstruction i is are),
+)
 
 -- the listing is its lines, one behind another
 listed_first : (at : ℕ) (i : Instruction) (rest : List ℕ) → IsInstruction i → at < 65536 →
     listed at 0 (encoding i ++ rest)
-      ≡ instruction_text at (encoding i) ++ listed ((at + length (encoding i)) % 65536) 0 rest
+    ≡ instruction_text at (encoding i) ++ listed ((at + length (encoding i)) % 65536) 0 rest
 listed_first at i rest is within =
     listed-instruction at (length (encoding i)) (encoding i ++ rest) within (omega arith) is.whole (omega arith)
-      (omega (arith, length-append (encoding i) rest)) (runs i.opcode is.byte is.official)
+    (omega (arith, length-append (encoding i) rest)) (runs i.opcode is.byte is.official)
     ∙ (λ j. instruction_text at (take_at (encoding i) rest (length (encoding i)) refl j)
-      ++ listed ((at + length (encoding i)) % 65536) 0 (drop_at (encoding i) rest (length (encoding i)) refl j))
+    ++ listed ((at + length (encoding i)) % 65536) 0 (drop_at (encoding i) rest (length (encoding i)) refl j))
 
 listed_all : (here at : ℕ) (all : List Instruction) → at + length (encodings all) ≤ 65536 →
     (0 < length (encodings all) → here ≡ at) → All IsInstruction all →
@@ -160,13 +162,13 @@ listed_all : (here at : ℕ) (all : List Instruction) → at + length (encodings
 listed_all here at [] within same are = refl
 listed_all here at (i ∷ is) within same are =
     let sum : length (encodings (i ∷ is)) ≡ length (encoding i) + length (encodings is) =
-      length-append (encoding i) (encodings is) in
+    length-append (encoding i) (encodings is) in
     let now : here ≡ at = same (omega (arith, sum)) in
     ap (λ n. listed n 0 (encodings (i ∷ is))) now
     ∙ listed_first at i (encodings is) (All-head IsInstruction i is are) (omega (arith, sum))
     ∙ ap (λ (text : List ℕ). instruction_text at (encoding i) ++ text)
     (listed_all ((at + length (encoding i)) % 65536) (at + length (encoding i)) is (omega (arith, sum))
-      (λ some. omega (arith, sum, some)) (All-tail IsInstruction i is are))
+    (λ some. omega (arith, sum, some)) (All-tail IsInstruction i is are))
 
 -- the statements of a listing
 pub statements_are : EndsLines → PartsLines → (origin : ℕ) (all : List Instruction) →
@@ -176,7 +178,7 @@ unfolding listing_of
 statements_are ends parts origin all within are =
     ap (λ (text : List ℕ). statements_of text) (listed_all origin origin all within (λ some. refl) are)
     ∙ ap (λ (ls : List (List ℕ)). flat_map (λ line. drop 14 line) ls)
-      (parts (lines_at origin all) (are_lines (lines_at origin all) (lines_ended ends origin all are)))
+    (parts (lines_at origin all) (are_lines (lines_at origin all) (lines_ended ends origin all are)))
     ∙ cut_all origin all are
 
 -- a listing of one line
@@ -186,5 +188,5 @@ unfolding listing_of
 one_listed at i is within =
     ap (λ (bytes : List ℕ). drop 14 (listed at 0 bytes)) (sym (append-nil (encoding i)))
     ∙ ap (λ (text : List ℕ). drop 14 text)
-      (listed_first at i [] is (omega arith) ∙ append-nil (instruction_text at (encoding i)))
+    (listed_first at i [] is (omega arith) ∙ append-nil (instruction_text at (encoding i)))
     ∙ cut at i is

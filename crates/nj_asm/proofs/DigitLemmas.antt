@@ -105,7 +105,7 @@ pub hex2_read : (n : ℕ) → n < 256 → literal_of 16 (hex2 n) ≡ Some (Liter
 unfolding hex2
 hex2_read n h =
     two_read (front_digit n) (back_digit n) (n / 16 % 16) (n % 16) n (digit_is (n / 16 % 16) (high_digit n))
-      (digit_is (n % 16) (low_digit n)) (high_digit n) (low_digit n) (omega arith)
+    (digit_is (n % 16) (low_digit n)) (high_digit n) (low_digit n) (omega arith)
 
 four_read : (a b c d t u v w n : ℕ) → digit_value a ≡ t → digit_value b ≡ u → digit_value c ≡ v → digit_value d ≡ w →
     t < 16 → u < 16 → v < 16 → w < 16 →
@@ -122,8 +122,8 @@ hex4_read n h =
     let low : n % 256 ≡ n % 256 / 16 % 16 * 16 + n % 256 % 16 = omega arith in
     let whole : n ≡ n / 256 % 256 * 256 + n % 256 = omega arith in
     four_read (front_digit (n / 256 % 256)) (back_digit (n / 256 % 256)) (front_digit (n % 256)) (back_digit (n % 256))
-      (n / 256 % 256 / 16 % 16) (n / 256 % 256 % 16) (n % 256 / 16 % 16) (n % 256 % 16) n
+    (n / 256 % 256 / 16 % 16) (n / 256 % 256 % 16) (n % 256 / 16 % 16) (n % 256 % 16) n
     (digit_is _ (high_digit (n / 256 % 256))) (digit_is _ (low_digit (n / 256 % 256)))
-      (digit_is _ (high_digit (n % 256))) (digit_is _ (low_digit (n % 256)))
+    (digit_is _ (high_digit (n % 256))) (digit_is _ (low_digit (n % 256)))
     (high_digit (n / 256 % 256)) (low_digit (n / 256 % 256)) (high_digit (n % 256)) (low_digit (n % 256))
     (omega (arith, high, low, whole))

@@ -69,7 +69,7 @@ statement_with a b c d rest p q r s =
     let some : (length (a ∷ b ∷ c ∷ 32 ∷ d ∷ rest) == 0) ≡ false = grind (arith, nat_tests) in
     rw some
     (ap (λ n. said_by (take n (a ∷ b ∷ c ∷ 32 ∷ d ∷ rest)) (without_start (drop n (a ∷ b ∷ c ∷ 32 ∷ d ∷ rest))))
-      (three_letters a b c (32 ∷ d ∷ rest) p q r)
+    (three_letters a b c (32 ∷ d ∷ rest) p q r)
     ∙ ap (said_by (a ∷ b ∷ c ∷ [])) (start_shown d rest s)
     ∙ word_said a b c (d ∷ rest) p)
 
@@ -118,7 +118,7 @@ no_shorter k mode shorter low high is beside narrow =
 
 by_width : (k : ℕ) (mode : Mode) (form : Form) (n : ℕ) (b : Bool) → ltb n 256 ≡ b →
     (b ≡ true → coded (name_at k) (modes_in form true) ≡ Some (k, mode)) →
-      (b ≡ false → coded (name_at k) (modes_in form false) ≡ Some (k, mode)) →
+    (b ≡ false → coded (name_at k) (modes_in form false) ≡ Some (k, mode)) →
     coded (name_at k) (modes_of (Valued form (Literal n))) ≡ Some (k, mode)
 by_width k mode form n true e narrow wide = ap (λ b. coded (name_at k) (modes_in form b)) e ∙ narrow refl
 by_width k mode form n false e narrow wide = ap (λ b. coded (name_at k) (modes_in form b)) e ∙ wide refl
@@ -131,28 +131,28 @@ coded_in Immediate k at low high is = ap (λ o. coded_or Immediate o None) (foun
 coded_in Zp k at low high is =
     ap (λ b. coded (name_at k) (modes_in Plain b)) (lt-ltb low 256 is.low_byte)
     ∙ (λ i. coded_or Relative (other_than_branch k Zp low high is refl i)
-      (coded_or Zp (found k Zp low high is i) (coded (name_at k) (Abs ∷ []))))
+    (coded_or Zp (found k Zp low high is i) (coded (name_at k) (Abs ∷ []))))
 coded_in ZpX k at low high is =
     ap (λ b. coded (name_at k) (modes_in CommaX b)) (lt-ltb low 256 is.low_byte)
-      ∙ ap (λ o. coded_or ZpX o (coded (name_at k) (AbsX ∷ []))) (found k ZpX low high is)
+    ∙ ap (λ o. coded_or ZpX o (coded (name_at k) (AbsX ∷ []))) (found k ZpX low high is)
 coded_in ZpY k at low high is =
     ap (λ b. coded (name_at k) (modes_in CommaY b)) (lt-ltb low 256 is.low_byte)
-      ∙ ap (λ o. coded_or ZpY o (coded (name_at k) (AbsY ∷ []))) (found k ZpY low high is)
+    ∙ ap (λ o. coded_or ZpY o (coded (name_at k) (AbsY ∷ []))) (found k ZpY low high is)
 coded_in Abs k at low high is =
     by_width k Abs Plain (low + 256 * high) (ltb (low + 256 * high) 256) refl
     (λ narrow i. coded_or Relative (other_than_branch k Abs low high is refl i)
-      (coded_or Zp (no_shorter k Abs Zp low high is refl narrow i) (coded_or Abs (found k Abs low high is i) None)))
+    (coded_or Zp (no_shorter k Abs Zp low high is refl narrow i) (coded_or Abs (found k Abs low high is i) None)))
     (λ wide i.
-      coded_or Relative (other_than_branch k Abs low high is refl i) (coded_or Abs (found k Abs low high is i) None))
+    coded_or Relative (other_than_branch k Abs low high is refl i) (coded_or Abs (found k Abs low high is i) None))
 coded_in AbsX k at low high is =
     by_width k AbsX CommaX (low + 256 * high) (ltb (low + 256 * high) 256) refl
     (λ narrow i.
-      coded_or ZpX (no_shorter k AbsX ZpX low high is refl narrow i) (coded_or AbsX (found k AbsX low high is i) None))
+    coded_or ZpX (no_shorter k AbsX ZpX low high is refl narrow i) (coded_or AbsX (found k AbsX low high is i) None))
     (λ wide i. coded_or AbsX (found k AbsX low high is i) None)
 coded_in AbsY k at low high is =
     by_width k AbsY CommaY (low + 256 * high) (ltb (low + 256 * high) 256) refl
     (λ narrow i.
-      coded_or ZpY (no_shorter k AbsY ZpY low high is refl narrow i) (coded_or AbsY (found k AbsY low high is i) None))
+    coded_or ZpY (no_shorter k AbsY ZpY low high is refl narrow i) (coded_or AbsY (found k AbsY low high is i) None))
     (λ wide i. coded_or AbsY (found k AbsY low high is i) None)
 coded_in IndX k at low high is = ap (λ o. coded_or IndX o None) (found k IndX low high is)
 coded_in IndY k at low high is = ap (λ o. coded_or IndY o None) (found k IndY low high is)
@@ -194,7 +194,7 @@ reverse_shown (x ∷ a) b some shown = go (is_blank x) shown
 pub shown-append : (a b : List ℕ) → 0 < length b → suffix_len is_blank b ≡ 0 → suffix_len is_blank (a ++ b) ≡ 0
 shown-append a b some shown =
     ap (prefix_len is_blank) (reverse-append a b)
-      ∙ reverse_shown (reverse b) (reverse a) (omega (arith, length-reverse b)) shown
+    ∙ reverse_shown (reverse b) (reverse a) (omega (arith, length-reverse b)) shown
 
 byte_shown : (name front : List ℕ) (n : ℕ) → suffix_len is_blank (name ++ (front ++ hex2 n)) ≡ 0
 byte_shown name front n =
@@ -256,8 +256,15 @@ three_by (a ∷ b ∷ []) h = absurd (cc)
 three_by (a ∷ b ∷ c ∷ []) h =
     let one = and_parts (is_upper a) (is_upper b && (is_upper c && true)) h in
     let two = and_parts (is_upper b) (is_upper c && true) one.1 in
-    record { a = a; b = b; c = c; letters = refl; first = one.0; second = two.0;
-      third = (and_parts (is_upper c) true two.1).0 }
+    record {
+      a = a;
+      b = b;
+      c = c;
+      letters = refl;
+      first = one.0;
+      second = two.0;
+      third = (and_parts (is_upper c) true two.1).0;
+    }
 three_by (a ∷ b ∷ c ∷ d ∷ rest) h =
     let long : (length (a ∷ b ∷ c ∷ d ∷ rest) == 3) ≡ false = grind (arith, nat_tests) in
     let none : true ≡ false = sym h ∙ ap (λ t. t && list_all is_upper (a ∷ b ∷ c ∷ d ∷ rest)) long in
@@ -266,7 +273,7 @@ three_by (a ∷ b ∷ c ∷ d ∷ rest) h =
 -- the words of a listed statement
 statement_parts : (a b c at low high : ℕ) → is_upper a ≡ true → is_upper b ≡ true → is_upper c ≡ true → (m : Mode) →
     statement_of ((a ∷ b ∷ c ∷ []) ++ operand_text m at low high)
-      ≡ instruction_of (a ∷ b ∷ c ∷ []) (operand_of (drop 1 (operand_text m at low high)))
+    ≡ instruction_of (a ∷ b ∷ c ∷ []) (operand_of (drop 1 (operand_text m at low high)))
 unfolding operand_text
 statement_parts a b c at low high p q r Implied = statement_bare a b c p q r
 statement_parts a b c at low high p q r Accumulator = statement_with a b c 65 [] p q r refl
@@ -290,7 +297,7 @@ statement_read_by : (a b c k : ℕ) (mode : Mode) (at low high : ℕ) → is_upp
     is_upper c ≡ true → is_mnemonic (a ∷ b ∷ c ∷ []) ≡ true →
     coded (a ∷ b ∷ c ∷ []) (modes_of (operand_in mode at low high)) ≡ Some (k, mode) → low < 256 → high < 256 →
     statement_of ((a ∷ b ∷ c ∷ []) ++ operand_text mode at low high)
-      ≡ Cells (Opcode k ∷ cells_in mode (operand_in mode at low high))
+    ≡ Cells (Opcode k ∷ cells_in mode (operand_in mode at low high))
 statement_read_by a b c k mode at low high p q r mnemonic code l h =
     statement_parts a b c at low high p q r mode
     ∙ ap (instruction_of (a ∷ b ∷ c ∷ [])) (operand_read mode at low high l h)
@@ -301,25 +308,25 @@ line_read_by : (a b c k : ℕ) (mode : Mode) (at low high : ℕ) → is_upper a 
     is_upper c ≡ true → is_mnemonic (a ∷ b ∷ c ∷ []) ≡ true →
     coded (a ∷ b ∷ c ∷ []) (modes_of (operand_in mode at low high)) ≡ Some (k, mode) → low < 256 → high < 256 →
     line_of (((a ∷ b ∷ c ∷ []) ++ operand_text mode at low high) ++ 10 ∷ [])
-      ≡ record { label = None; statement = Cells (Opcode k ∷ cells_in mode (operand_in mode at low high)) }
+    ≡ record { label = None; statement = Cells (Opcode k ∷ cells_in mode (operand_in mode at low high)) }
 line_read_by a b c k mode at low high p q r mnemonic code l h =
     line_is a (b ∷ c ∷ operand_text mode at low high) (Cells (Opcode k ∷ cells_in mode (operand_in mode at low high)))
     (plain-append (a ∷ b ∷ c ∷ []) (operand_text mode at low high) (letters_plain a b c p q r)
-      (operand_plain mode at low high))
+    (operand_plain mode at low high))
     (upper_shown a p)
     (operand_shown (a ∷ b ∷ c ∷ []) (letters_shown a b c r) mode at low high)
     (statement_read_by a b c k mode at low high p q r mnemonic code l h)
 
 pub line_read : (k : ℕ) (mode : Mode) (at low high : ℕ) → IsListed k mode low high →
     line_of ((name_at k ++ operand_text mode at low high) ++ 10 ∷ [])
-      ≡ record { label = None; statement = Cells (Opcode k ∷ cells_in mode (operand_in mode at low high)) }
+    ≡ record { label = None; statement = Cells (Opcode k ∷ cells_in mode (operand_in mode at low high)) }
 line_read k mode at low high is =
     let t = three_by (name_at k) (word_at k is.byte) in
     ap (λ (n : List ℕ). line_of ((n ++ operand_text mode at low high) ++ 10 ∷ [])) t.letters
     ∙ line_read_by t.a t.b t.c k mode at low high t.first t.second t.third
     (ap is_mnemonic (sym t.letters) ∙ known k is.byte is.official)
     (ap (λ (n : List ℕ). coded n (modes_of (operand_in mode at low high))) (sym t.letters)
-      ∙ coded_in mode k at low high is)
+    ∙ coded_in mode k at low high is)
     is.low_byte is.high_byte
 
 -- a mnemonic is plain text

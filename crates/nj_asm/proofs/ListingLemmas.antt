@@ -27,7 +27,7 @@ passed (suc k) at byte bytes small some =
     let less : suc k - 1 ≡ k = omega arith in
     let same : ((at + 1) % 65536 + k) % 65536 ≡ (at + suc k) % 65536 = omega arith in
     ap (λ (n : ℕ). listed (next_to at) n bytes) less ∙ listed-shown k (next_to at) bytes (omega arith)
-      ∙ ap (λ (n : ℕ). listed n 0 (drop k bytes)) same
+    ∙ ap (λ (n : ℕ). listed n 0 (drop k bytes)) same
 
 pub listed-instruction : (at span : ℕ) (bytes : List ℕ) → at < 65536 → 0 < length bytes →
     span ≡ span_of (get_or bytes 0 0) → 0 < span → span ≤ length bytes →
@@ -36,9 +36,9 @@ pub listed-instruction : (at span : ℕ) (bytes : List ℕ) → at < 65536 → 0
 listed-instruction at span [] small some is positive whole runs = absurd (omega arith)
 listed-instruction at span (byte ∷ bytes) small some is positive whole runs =
     third (is_jam (row_of byte).op) (ltb (length bytes + 1) (span_of byte)) _ _ _ runs
-      (is_not_short (length bytes + 1) (span_of byte) (omega arith))
+    (is_not_short (length bytes + 1) (span_of byte) (omega arith))
     ∙ rw (← is) (ap (λ (rest : List ℕ). instruction_text at (take span (byte ∷ bytes)) ++ rest)
-      (passed span at byte bytes small positive))
+    (passed span at byte bytes small positive))
 
 -- the line of an instruction, and those behind it
 pub instruction_step : (at span : ℕ) (bytes text goal : List ℕ) → at < 65536 → 0 < length bytes →
@@ -64,9 +64,9 @@ listed_one at (opcode ∷ operand) small e =
     let same : (length operand + 1 == span_of opcode) ≡ true = parts.1 in
     let size : length operand + 1 ≡ span_of opcode = grind (arith, nat_tests) in
     listed-instruction at (span_of opcode) (opcode ∷ operand) small (omega arith) refl (omega (arith, size))
-      (omega (arith, size)) parts.0
+    (omega (arith, size)) parts.0
     ∙ ap (λ (shown : List ℕ).
-      instruction_text at shown ++ listed ((at + span_of opcode) % 65536) 0 (drop (span_of opcode) (opcode ∷ operand)))
+    instruction_text at shown ++ listed ((at + span_of opcode) % 65536) 0 (drop (span_of opcode) (opcode ∷ operand)))
     (take_all (span_of opcode) (opcode ∷ operand) (omega (arith, size)))
     ∙ ap (λ (rest : List ℕ). instruction_text at (opcode ∷ operand) ++ listed ((at + span_of opcode) % 65536) 0 rest)
     (drop_all (span_of opcode) (opcode ∷ operand) (omega (arith, size)))

@@ -165,7 +165,7 @@ first_code_is test at zero k low high passes one = absurd (omega arith)
 first_code_is test at (suc left) k low high passes one =
     first_code_is_by test at k (first_code test (at + 1) left) (test at) (λ h. one at (omega arith) h)
     (λ h. first_code_is test (at + 1) left k (later test at k low h passes) (omega arith) passes
-      (λ j within p. one j (omega arith) p))
+    (λ j within p. one j (omega arith) p))
 
 -- what it finds passes
 first_code_passes_by : (test : ℕ → Bool) (at end k : ℕ) (rest : Option ℕ) (b : Bool) → test at ≡ b → at < end →
@@ -181,7 +181,7 @@ first_code_passes test at zero k found = absurd (cc)
 first_code_passes test at (suc left) k found =
     first_code_passes_by test at (at + suc left) k (first_code test (at + 1) left) (test at) refl (omega arith)
     (λ e. let rest : (k < (at + 1) + left) × (test k ≡ true) = first_code_passes test (at + 1) left k e in
-      (omega (arith, rest.0), rest.1)) found
+    (omega (arith, rest.0), rest.1)) found
 
 -- it finds one where one passes
 first_code_some_by : (at : ℕ) (rest : Option ℕ) (b : Bool) → (b ≡ false → is_some rest ≡ true)
@@ -204,7 +204,7 @@ code_itself : (k : ℕ) → is_official k ≡ true → is_code (name_at k) (Some
 code_itself k official =
     and_from (is_official k) _ official
     (and_from _ _ (spelled_itself (name_at k))
-      ((Decides-eqb (number_of (row_of k).mode) (number_of (row_of k).mode)).1 refl))
+    ((Decides-eqb (number_of (row_of k).mode) (number_of (row_of k).mode)).1 refl))
 
 -- an official opcode with the mnemonic and the mode
 record IsNamed (word : List ℕ) (m : Mode) (j : ℕ) : Type 0 where
@@ -258,9 +258,9 @@ no_branch k h other =
 abbrev back : ℕ → Mode
 back n =
     cond (n == 0) Implied
-      (cond (n == 1) Accumulator (cond (n == 2) Immediate (cond (n == 3) Zp (cond (n == 4) ZpX (cond (n == 5) ZpY
+    (cond (n == 1) Accumulator (cond (n == 2) Immediate (cond (n == 3) Zp (cond (n == 4) ZpX (cond (n == 5) ZpY
     (cond (n == 6) Abs (cond (n == 7) AbsX
-      (cond (n == 8) AbsY (cond (n == 9) IndX (cond (n == 10) IndY (cond (n == 11) Indirect Relative)))))))))))
+    (cond (n == 8) AbsY (cond (n == 9) IndX (cond (n == 10) IndY (cond (n == 11) Indirect Relative)))))))))))
 
 back_is : (m : Mode) → back (number_of m) ≡ m
 back_is Implied = refl

@@ -45,7 +45,7 @@ absent : (byte : ℕ) → ((b : ℕ) → is_plain b ≡ true → (b == byte) ≡
 absent byte other [] plain = refl
 absent byte other (b ∷ bytes) plain =
     let rest : position_or_len (λ b. b == byte) bytes ≡ length bytes =
-      absent byte other bytes (tail_plain b bytes plain) in
+    absent byte other bytes (tail_plain b bytes plain) in
     rw (other b (head_plain b bytes plain)) (omega arith)
 
 pub plain_is : (text : List ℕ) → list_all is_plain text ≡ true → IsPlain text
@@ -70,7 +70,7 @@ no_return_by : (a b : ℕ) (bytes : List ℕ) → ends_with nat_eq (b ∷ bytes 
     → ends_with nat_eq (a ∷ (b ∷ bytes ++ 10 ∷ [])) (13 ∷ 10 ∷ []) ≡ false
 no_return_by a b bytes before =
     let more : length (a ∷ (b ∷ bytes ++ 10 ∷ [])) - 2 ≡ suc (length (b ∷ bytes ++ 10 ∷ []) - 2) =
-      omega (arith, length-append bytes (10 ∷ [])) in
+    omega (arith, length-append bytes (10 ∷ [])) in
     rw more before
 
 no_return : (text : List ℕ) → list_all is_plain text ≡ true → ends_with nat_eq (text ++ 10 ∷ []) (13 ∷ 10 ∷ []) ≡ false
@@ -82,7 +82,7 @@ one_feed_by : (b : ℕ) (bytes : List ℕ) → ends_with nat_eq (bytes ++ 10 ∷
     → ends_with nat_eq (b ∷ (bytes ++ 10 ∷ [])) (10 ∷ []) ≡ true
 one_feed_by b bytes before =
     let more : length (b ∷ (bytes ++ 10 ∷ [])) - 1 ≡ suc (length (bytes ++ 10 ∷ []) - 1) =
-      omega (arith, length-append bytes (10 ∷ [])) in
+    omega (arith, length-append bytes (10 ∷ [])) in
     rw more before
 
 one_feed : (text : List ℕ) → ends_with nat_eq (text ++ 10 ∷ []) (10 ∷ []) ≡ true
@@ -108,7 +108,7 @@ code_is : (b : ℕ) (bytes : List ℕ) → list_all is_plain (b ∷ bytes) ≡ t
 unfolding code_of
 code_is b bytes plain first last =
     ap (λ (text : List ℕ). without_end (without_start (take (length_before 59 text) text)))
-      (content_is (b ∷ bytes) plain)
+    (content_is (b ∷ bytes) plain)
     ∙ ap (λ n. without_end (without_start (take n (b ∷ bytes)))) (absent 59 plain_no_semicolon (b ∷ bytes) plain)
     ∙ ap (λ (text : List ℕ). without_end (without_start text)) (take_all (length (b ∷ bytes)) (b ∷ bytes) (omega arith))
     ∙ ap without_end (start_is b bytes first)

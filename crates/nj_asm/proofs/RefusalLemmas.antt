@@ -13,7 +13,7 @@ use Rattle.nj_asm.specs.FirstRefused.{fault_at, IsFirstRefused}
 abbrev fault_among : Homes → Bool → ℕ → ℕ → List Line → ℕ → Line → Option Fault
 fault_among homes begun at index ls k line =
     fault_of homes (begun || list_any (λ l. is_said l.statement) (take k ls))
-      (at + sum_by (λ l. size_of l.statement) (take k ls)) (index + k) line
+    (at + sum_by (λ l. size_of l.statement) (take k ls)) (index + k) line
 
 or_false : (b : Bool) → (b || false) ≡ b
 or_false true = refl
@@ -34,15 +34,15 @@ among_first homes begun at index l ls =
 -- the others
 among_next : (homes : Homes) (begun : Bool) (at index : ℕ) (l : Line) (ls : List Line) (k : ℕ) (line : Line) →
     fault_among homes begun at index (l ∷ ls) (suc k) line
-      ≡ fault_among homes (begun || is_said l.statement) (at + size_of l.statement) (index + 1) ls k line
+    ≡ fault_among homes (begun || is_said l.statement) (at + size_of l.statement) (index + 1) ls k line
 among_next homes begun at index l ls k line =
     let b : (begun || (is_said l.statement || list_any (λ l. is_said l.statement) (take k ls)))
-      ≡ ((begun || is_said l.statement) || list_any (λ l. is_said l.statement) (take k ls)) =
-      or_assoc begun (is_said l.statement) (list_any (λ l. is_said l.statement) (take k ls)) in
+    ≡ ((begun || is_said l.statement) || list_any (λ l. is_said l.statement) (take k ls)) =
+    or_assoc begun (is_said l.statement) (list_any (λ l. is_said l.statement) (take k ls)) in
     let first : sum_by (λ l. size_of l.statement) (l ∷ take k ls) ≡ size_of l.statement
-      + sum_by (λ l. size_of l.statement) (take k ls) = sum_by-cons (λ (l : Line). size_of l.statement) l (take k ls) in
+    + sum_by (λ l. size_of l.statement) (take k ls) = sum_by-cons (λ (l : Line). size_of l.statement) l (take k ls) in
     let a : at + sum_by (λ l. size_of l.statement) (l ∷ take k ls)
-      ≡ at + size_of l.statement + sum_by (λ l. size_of l.statement) (take k ls) = omega (arith, first) in
+    ≡ at + size_of l.statement + sum_by (λ l. size_of l.statement) (take k ls) = omega (arith, first) in
     let i : index + suc k ≡ index + 1 + k = omega arith in
     rw (b, a, i)
 
@@ -63,7 +63,7 @@ told_among homes begun at index (l ∷ ls) zero fault first =
 told_among homes begun at index (l ∷ ls) (suc n) fault first =
     let i : index + suc n + 1 ≡ index + 1 + n + 1 = omega arith in
     let rest : IsFirstAmong homes (begun || is_said l.statement) (at + size_of l.statement) (index + 1) ls n fault =
-      record {
+    record {
       within = omega (arith, first.within);
       refused = λ d. sym (among_next homes begun at index l ls n (get_or ls n d)) ∙ first.refused d;
       earlier = λ k d h. sym (among_next homes begun at index l ls k (get_or ls k d))
@@ -81,7 +81,7 @@ Told homes begun at index ls refusal =
 earlier_with : (homes : Homes) (begun : Bool) (at index : ℕ) (l : Line) (ls : List Line) (n : ℕ) →
     fault_of homes begun at index l ≡ None →
     ((k : ℕ) (d : Line) → k < n → fault_among homes (begun || is_said l.statement) (at + size_of l.statement)
-      (index + 1) ls k (get_or ls k d) ≡ None) →
+    (index + 1) ls k (get_or ls k d) ≡ None) →
     (k : ℕ) (d : Line) → k < suc n → fault_among homes begun at index (l ∷ ls) k (get_or (l ∷ ls) k d) ≡ None
 earlier_with homes begun at index l ls n own rest zero d h = among_first homes begun at index l ls ∙ own
 earlier_with homes begun at index l ls n own rest (suc k) d h =
@@ -91,9 +91,9 @@ only_by : (homes : Homes) (begun : Bool) (at index : ℕ) (l : Line) (ls : List 
     (own : Option Fault) →
     fault_of homes begun at index l ≡ own →
     refused_or own (index + 1)
-      (first_refused homes (begun || is_said l.statement) (at + size_of l.statement) (index + 1) ls) ≡ Some refusal →
+    (first_refused homes (begun || is_said l.statement) (at + size_of l.statement) (index + 1) ls) ≡ Some refusal →
     (first_refused homes (begun || is_said l.statement) (at + size_of l.statement) (index + 1) ls ≡ Some refusal →
-      Told homes (begun || is_said l.statement) (at + size_of l.statement) (index + 1) ls refusal) →
+    Told homes (begun || is_said l.statement) (at + size_of l.statement) (index + 1) ls refusal) →
     Told homes begun at index (l ∷ ls) refusal
 only_by homes begun at index l ls refusal (Some fault) own found rest =
     let i : index + 0 + 1 ≡ index + 1 = omega arith in
@@ -148,7 +148,7 @@ told all n fault first =
       earlier = λ k d h. sym (from_zero all k (get_or all k d)) ∙ first.earlier k d h;
     } in
     ap (λ o. answer_of o (origin_of all) (bytes_from (homes_of all) (origin_of all) all))
-      (told_among (homes_of all) false (origin_of all) 0 all n fault among)
+    (told_among (homes_of all) false (origin_of all) 0 all n fault among)
     ∙ ap (λ m. Err (refused fault m)) i
 
 pub only : (all : List Line) (refusal : AsmRefused) → assembly_in all ≡ Err refusal
@@ -156,7 +156,7 @@ pub only : (all : List Line) (refusal : AsmRefused) → assembly_in all ≡ Err 
 unfolding assembly_in
 only all refusal h =
     let t = only_among (homes_of all) false (origin_of all) 0 all refusal (refused_answer (first_refused (homes_of all)
-      false (origin_of all) 0 all) (origin_of all) (bytes_from (homes_of all) (origin_of all) all) refusal h) in
+    false (origin_of all) 0 all) (origin_of all) (bytes_from (homes_of all) (origin_of all) all) refusal h) in
     let i : 0 + t.0 + 1 ≡ t.0 + 1 = omega arith in (
       t.0,
       t.1,

@@ -25,5 +25,5 @@ first_code_none test at over = let none : 256 - at ≡ 0 = omega arith in rw non
 -- the modes from a place on
 pub coded-drop : (word : List ℕ) (modes : List Mode) (i : ℕ) (d : Mode) → i < length modes →
     coded word (drop i modes)
-      ≡ coded_or (get_or modes i d) (opcode_of word (Some (get_or modes i d))) (coded word (drop (i + 1) modes))
+    ≡ coded_or (get_or modes i d) (opcode_of word (Some (get_or modes i d))) (coded word (drop (i + 1) modes))
 coded-drop word modes i d within = rw (add-one, drop-cons modes i d within)

@@ -40,8 +40,10 @@ clip_both_by radix n d some (inr large) =
 
 clip_both : (radix n d : ℕ) → 0 < radix → min 65536 (min 65536 n * radix + d) ≡ min 65536 (n * radix + d)
 clip_both radix n d some =
-    elim (leb_tells n 65536) [ inl t ↦ clip_both_by radix n d some (inl t.1)
-      | inr t ↦ clip_both_by radix n d some (inr t.1) ]
+    elim (leb_tells n 65536) [
+      | inl t ↦ clip_both_by radix n d some (inl t.1)
+      | inr t ↦ clip_both_by radix n d some (inr t.1)
+    ]
 
 -- a number may be clipped before its further digits are read
 pub clip_early : (radix n : ℕ) (digits : List ℕ) → 0 < radix →
@@ -61,7 +63,7 @@ clipped_step radix number i next text goal some within is before =
     ap (λ m. min 65536 (digits_value_after radix m (drop (i + 1) text))) is
     ∙ clip_early radix (number * radix + digit_value (get_or text i 0)) (drop (i + 1) text) some
     ∙ ap (λ (ds : List ℕ). min 65536 (digits_value_after radix number ds))
-      (sym (drop-cons text i 0 within ∙ ap (λ n. get_or text i 0 ∷ drop n text) (sym (add-one i))))
+    (sym (drop-cons text i 0 within ∙ ap (λ n. get_or text i 0 ∷ drop n text) (sym (add-one i))))
     ∙ before
 
 pub and_left : (a b : Bool) → (a && b) ≡ true → a ≡ true

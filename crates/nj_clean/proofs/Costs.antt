@@ -16,7 +16,7 @@ step_cost hold n at_ step b order within some =
     let whole : n ≡ step + (n - step) = omega (arith, within) in
     let parts : hold * n * b ≡ hold * step * b + hold * (n - step) * b =
     ap (λ x. hold * x * b) whole
-      ∙ (let e : hold * (step + (n - step)) * b ≡ hold * step * b + hold * (n - step) * b = grind arith in e) in
+    ∙ (let e : hold * (step + (n - step)) * b ≡ hold * step * b + hold * (n - step) * b = grind arith in e) in
     let low : hold * (step - at_) ≤ hold * step = mul_up hold (step - at_) step (omega arith) in
     let more : hold * step * 1 ≤ hold * step * b = mul_up (hold * step) 1 b some in
     omega (arith, parts, low, more)
@@ -53,10 +53,10 @@ pub whole_cost : (start behind p : ℕ) → 1 ≤ p
 whole_cost start behind p some =
     let one : 1 * (p + 1) ≤ p * (p + 1) =
     (let up : (p + 1) * 1 ≤ (p + 1) * p = mul_up (p + 1) 1 p some in
-      let turned : (p + 1) * p ≡ p * (p + 1) = grind arith in omega (arith, up, turned)) in
+    let turned : (p + 1) * p ≡ p * (p + 1) = grind arith in omega (arith, up, turned)) in
     let low : start * 1 ≤ start * (p * (p + 1)) = mul_up start 1 (p * (p + 1)) (omega (arith, one)) in
     let parts : (start + behind) * (1 + p * (p + 1)) ≡ start + behind + start * (p * (p + 1)) + behind * p * (p + 1) =
-      grind arith in
+    grind arith in
     omega (arith, low, parts)
 
 -- no sweep

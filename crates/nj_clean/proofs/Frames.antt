@@ -17,7 +17,7 @@ pub movie_long : (plan : Plan) (word : Word)
 unfolding movie_of
 movie_long plan word =
     length-append plan.start (held_pads plan.script.hold word)
-      ∙ ap (λ n. length plan.start + n) (held_long plan.script.hold word)
+    ∙ ap (λ n. length plan.start + n) (held_long plan.script.hold word)
 
 -- words of one length have movies of one length
 pub movies_long : (plan : Plan) (word other : Word) → length word ≡ length other

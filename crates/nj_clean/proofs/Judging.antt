@@ -18,13 +18,13 @@ status_in plan word judged e = ap (λ j. j.status.0) e
 pub judged_next : (plan : Plan) (word child : Word) (rules : Rules) (machine : State) (ram : List ℕ) (jammed : Bool)
     (old new : Judged) →
     plan.script.rules ≡ rules → old ≡ judged_of plan word → machine ≡ state_of plan child → ram ≡ ram_of machine →
-      jammed ≡ is_jammed machine →
+    jammed ≡ is_jammed machine →
     judged_of plan child ≡ judged_in plan.script.rules.rules (ram_of (state_of plan child)) (status_of plan word)
-      (is_jammed (state_of plan child)) →
+    (is_jammed (state_of plan child)) →
     new ≡ judged_in rules.rules ram old.status.0 jammed → new ≡ judged_of plan child
 judged_next plan word child rules machine ram jammed old new same before state is_ram is_jam law is_new =
     is_new
     ∙ ap₂ (λ r s. judged_in r ram s jammed) (ap (λ r. r.rules) (sym same)) (status_in plan word old before)
     ∙ ap₂ (λ m j. judged_in plan.script.rules.rules m (status_of plan word) j) (is_ram ∙ ap ram_of state)
-      (is_jam ∙ ap is_jammed state)
+    (is_jam ∙ ap is_jammed state)
     ∙ sym law

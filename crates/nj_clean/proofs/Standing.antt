@@ -20,21 +20,21 @@ use Rattle.nj_replay.specs.Replay.{IsAfter}
 pub is_image : (plan : Plan) (word : Word) → IsReady (state_of plan word)
     → rom_of (state_of plan word) ≡ rom_of (power_on plan.cartridge)
     → ((s : State) → IsReady s → IsImage (rom_of s) (image_of s))
-      → IsImage (rom_of (power_on plan.cartridge)) (image_of (state_of plan word))
+    → IsImage (rom_of (power_on plan.cartridge)) (image_of (state_of plan word))
 is_image plan word ready rom saved =
     subst (λ r. IsImage r (image_of (state_of plan word))) rom (saved (state_of plan word) ready)
 
 pub state_again : (plan : Plan) (word : Word) → IsReady (state_of plan word)
     → rom_of (state_of plan word) ≡ rom_of (power_on plan.cartridge)
     → ((s : State) → IsReady s → of_image (rom_of s) (image_of s) ≡ s)
-      → of_image (rom_of (power_on plan.cartridge)) (image_of (state_of plan word)) ≡ state_of plan word
+    → of_image (rom_of (power_on plan.cartridge)) (image_of (state_of plan word)) ≡ state_of plan word
 state_again plan word ready rom again =
     ap (λ r. of_image r (image_of (state_of plan word))) (sym rom) ∙ again (state_of plan word) ready
 
 pub image_length : (plan : Plan) (word : Word) → IsReady (state_of plan word)
     → rom_of (state_of plan word) ≡ rom_of (power_on plan.cartridge)
     → ((s : State) → IsReady s → length (image_of s) ≡ image_len (rom_of s))
-      → length (image_of (state_of plan word)) ≡ image_len (rom_of (power_on plan.cartridge))
+    → length (image_of (state_of plan word)) ≡ image_len (rom_of (power_on plan.cartridge))
 image_length plan word ready rom len = len (state_of plan word) ready ∙ ap image_len rom
 
 -- an image that is loaded
@@ -49,7 +49,7 @@ pub loaded_at_hand : (plan : Plan) (word : Word) (machine loaded : State) (image
     rom_of machine ≡ rom_of (power_on plan.cartridge) →
     image ≡ image_of (state_of plan word) → shown ≡ image → loaded ≡ of_image (rom_of machine) shown →
     of_image (rom_of (power_on plan.cartridge)) (image_of (state_of plan word)) ≡ state_of plan word
-      → loaded ≡ state_of plan word
+    → loaded ≡ state_of plan word
 loaded_at_hand plan word machine loaded image shown rom is same told again = told ∙ ap₂ of_image rom (same ∙ is) ∙ again
 
 -- ---- the start
@@ -63,7 +63,7 @@ pub start_judged : (plan : Plan) (rules : Rules) (machine : State) (ram : List �
     rules ≡ plan.script.rules → machine ≡ state_of plan [] →
     ram ≡ ram_of machine → jammed ≡ is_jammed machine → judged ≡ judged_in rules.rules ram 0 jammed →
     judged_of plan [] ≡ judged_in plan.script.rules.rules (ram_of (state_of plan [])) 0 (is_jammed (state_of plan []))
-      → judged ≡ judged_of plan []
+    → judged ≡ judged_of plan []
 start_judged plan rules machine ram jammed judged same is is_ram is_jam told law =
     told
     ∙ ap₂ (λ r m. judged_in r m 0 jammed) (ap (λ r. r.rules) same) (is_ram ∙ ap ram_of is)
@@ -82,9 +82,9 @@ pub one_more : (plan : Plan) (word : Word) (pads : List ℕ) (i item : ℕ) (m :
 one_more plan word pads i item m j within is after =
     let grown : take (i + 1) pads ≡ take i pads ++ item ∷ [] =
     ap (λ n. take n pads) (let one : i + 1 ≡ suc i = omega arith in one) ∙ take-suc pads i item within
-      ∙ ap (λ x. take i pads ++ x ∷ []) (sym is) in
+    ∙ ap (λ x. take i pads ++ x ∷ []) (sym is) in
     subst (λ w. IsAfter plan w m j)
-      (append_assoc word (take i pads) (item ∷ []) ∙ ap (λ ps. word ++ ps) (sym grown)) after
+    (append_assoc word (take i pads) (item ∷ []) ∙ ap (λ ps. word ++ ps) (sym grown)) after
 
 pub all_of : (plan : Plan) (word : Word) (pads : List ℕ) (i : ℕ) (m : State) (j : Judged) → length pads ≤ i →
     IsAfter plan (word ++ take i pads) m j → IsAfter plan (word ++ pads) m j
@@ -100,7 +100,7 @@ take-take zero m xs = refl
 take-take (suc n) m [] = ap (take (suc n)) (take_past (suc n + m))
 take-take (suc n) m (x ∷ xs) =
     ap (λ k. take (suc n) (take k (x ∷ xs))) (let e : suc n + m ≡ suc (n + m) = omega arith in e)
-      ∙ ap (λ ys. x ∷ ys) (take-take n m xs)
+    ∙ ap (λ ys. x ∷ ys) (take-take n m xs)
 
 -- the pads of a word between two steps
 pub pads_between : (word : Word) (at_ to : ℕ) → at_ ≤ to

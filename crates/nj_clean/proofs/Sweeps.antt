@@ -58,7 +58,7 @@ keeps_part : (plan : Plan) (given : Word) → Keeps plan (IsPartOf given)
 unfolding Keeps
 keeps_part plan given word p h =
     tried_keeps plan (IsPartOf given) word p h
-      (λ _. (released_bytes word p h.0, λ q e. h.1 q (released_among word p q h.0 e)))
+    (λ _. (released_bytes word p h.0, λ q e. h.1 q (released_among word p q h.0 e)))
 
 pub tries_long : (plan : Plan) (ps : List Press) (word : Word) → length (fold (tried plan) word ps) ≡ length word
 tries_long plan ps word = folded plan (λ w. length w ≡ length word) (keeps_long plan (length word)) ps word refl
@@ -136,7 +136,7 @@ first_stays plan p ps word bytes same =
   where
     by_cases : (tried plan word p ≡ word) ⊎ (buttons_in (tried plan word p) < buttons_in word)
         → (fold (tried plan) word (p ∷ ps) ≡ tried plan word p)
-          ⊎ (buttons_in (fold (tried plan) word (p ∷ ps)) < buttons_in (tried plan word p))
+        ⊎ (buttons_in (fold (tried plan) word (p ∷ ps)) < buttons_in (tried plan word p))
         → tried plan word p ≡ word
     by_cases (inl e) _ = e
     by_cases (inr h) (inl f) = sym f ∙ same
@@ -149,7 +149,7 @@ each_stays plan (q ∷ ps) word p bytes same (inl e) =
     ap (tried plan word) (sym e) ∙ first_stays plan q ps word bytes same
 each_stays plan (q ∷ ps) word p bytes same (inr m) =
     each_stays plan ps word p bytes
-      (ap (λ w. fold (tried plan) w ps) (sym (first_stays plan q ps word bytes same)) ∙ same) m
+    (ap (λ w. fold (tried plan) w ps) (sym (first_stays plan q ps word bytes same)) ∙ same) m
 
 -- a press that stays is needed
 stays_needed : (plan : Plan) (word : Word) (p : Press) → AreBytes word → is_pressed word p ≡ true
@@ -176,7 +176,7 @@ sweeps-add : (plan : Plan) (n k : ℕ) (word : Word) → sweeps (n + k) plan wor
 sweeps-add plan zero k word = ap (λ m. sweeps m plan word) (let e : 0 + k ≡ k = omega arith in e)
 sweeps-add plan (suc n) k word =
     ap (λ m. sweeps m plan word) (let e : suc n + k ≡ suc (n + k) = omega arith in e)
-      ∙ sweeps-add plan n k (swept plan word)
+    ∙ sweeps-add plan n k (swept plan word)
 
 -- a word of which a sweep releases nothing stays so
 stays_swept : (plan : Plan) (n : ℕ) (word : Word) → swept plan word ≡ word
@@ -197,7 +197,7 @@ enough plan (suc n) word bytes few =
   where
     by_cases : (swept plan word ≡ word) ⊎ (length (presses (swept plan word)) < length (presses word))
         → (length (presses (swept plan word)) ≤ n
-          → swept plan (sweeps n plan (swept plan word)) ≡ sweeps n plan (swept plan word))
+        → swept plan (sweeps n plan (swept plan word)) ≡ sweeps n plan (swept plan word))
         → swept plan (sweeps (suc n) plan word) ≡ sweeps (suc n) plan word
     by_cases (inl e) rest = stays_swept plan (suc n) word e
     by_cases (inr h) rest = rest (omega (arith, few, h))
@@ -224,7 +224,7 @@ only_end plan word n bytes e = by_test (nat_le n (length (presses word))) refl
     by_test true h = same_end plan n (length (presses word)) word (grind (arith, nat_tests)) e
     by_test false h =
         sym (same_end plan (length (presses word)) n word (grind (arith, nat_tests))
-          (enough plan (length (presses word)) word bytes (omega arith)))
+        (enough plan (length (presses word)) word bytes (omega arith)))
 
 -- a word and the word that a sweep leaves of it are cleaned to the same
 pub cleaned_swept : (plan : Plan) (word : Word) → AreBytes word → cleaned plan (swept plan word) ≡ cleaned plan word
@@ -280,7 +280,7 @@ keeps_within : (plan : Plan) (given : Word) → Keeps plan (IsWithin given)
 unfolding Keeps
 keeps_within plan given word p h =
     tried_keeps plan (IsWithin given) word p h
-      (λ _. (released_bytes word p h.0, released_within given word p h (released_or word p h.0)))
+    (λ _. (released_bytes word p h.0, released_within given word p h (released_or word p h.0)))
 
 -- a cleaned word has no more presses
 pub cleaned_fewer : (plan : Plan) (word : Word) → AreBytes word

@@ -46,7 +46,7 @@ pub read_first : (hold : ℕ) (start movie : List ℕ) (word : Word) → word_of
 unfolding word_of
 read_first hold start movie word e =
     read_by (first_left start movie)
-      (first_left (start ++ held_pads hold (first_pads hold (drop (length start) movie))) movie) _ _
+    (first_left (start ++ held_pads hold (first_pads hold (drop (length start) movie))) movie) _ _
     (first_pads hold (drop (length start) movie)) word e
 
 -- ---- bytes
@@ -99,13 +99,13 @@ replay_told plan word kept replayed reward told is won rewarded =
     let long : length kept ≡ length word = ap length is ∙ cleaned_long plan word in
     let step : length kept ≡ replayed.step = long ∙ ap (λ r. r.step) told in
     let frames : length (movie_of plan kept) ≡ replayed.frames =
-      movies_long plan kept word long ∙ ap (λ r. r.frames) told in
+    movies_long plan kept word long ∙ ap (λ r. r.frames) told in
     let verdict : (let r = replayed_of plan kept in r.verdict) ≡ Win =
-      only_win (let r = replayed_of plan kept in r.verdict) won in
+    only_win (let r = replayed_of plan kept in r.verdict) won in
     ap₂ (λ n m. (let j = judged_of plan kept in
-      record { step = n; frames = m; reward = j.reward; verdict = j.verdict })) step frames
+    record { step = n; frames = m; reward = j.reward; verdict = j.verdict })) step frames
     ∙ ap₂ (λ r v. record { step = replayed.step; frames = replayed.frames; reward = r; verdict = v })
-      (sym rewarded) verdict
+    (sym rewarded) verdict
 
 won_end : (plan : Plan) (word : Word) → wins plan word ≡ true
     → end_of plan word ≡ told_clean plan word (cleaned plan word)
@@ -119,10 +119,10 @@ lost_end plan word lost = rw lost refl
 pub cleaned_told : (plan : Plan) (movie : List ℕ) (word kept : Word) (given : ℕ) (replayed : Replayed) (reward : ℤ) →
     word_of plan.script.hold plan.start movie ≡ Ok word →
     wins plan word ≡ true → replayed_of plan word ≡ replayed → given ≡ length (presses word) →
-      kept ≡ cleaned plan word → wins plan kept ≡ true →
+    kept ≡ cleaned plan word → wins plan kept ≡ true →
     reward ≡ (let r = replayed_of plan kept in r.reward) →
     clean_of plan movie ≡ Ok (Cleaned (movie_of plan kept) (given - length (presses kept))
-      (record { step = replayed.step; frames = replayed.frames; reward = reward; verdict = Win }))
+    (record { step = replayed.step; frames = replayed.frames; reward = reward; verdict = Win }))
 unfolding clean_of
 cleaned_told plan movie word kept given replayed reward read won told count is kept_wins rewarded =
     ap (end_told plan) read
@@ -130,7 +130,7 @@ cleaned_told plan movie word kept given replayed reward read won told count is k
     (won_end plan word won
     ∙ ap (told_clean plan word) (sym is)
     ∙ ap₂ (λ n r. Cleaned (movie_of plan kept) (n - length (presses kept)) r) (sym count)
-      (replay_told plan word kept replayed reward told is kept_wins rewarded))
+    (replay_told plan word kept replayed reward told is kept_wins rewarded))
 
 -- a movie that does not win
 pub not_won_told : (plan : Plan) (movie : List ℕ) (replayed : Replayed) → replay_of plan movie ≡ Ok replayed
@@ -172,7 +172,7 @@ frames_at_least plan movie word read =
 pub replay_frames : (plan : Plan) (movie : List ℕ) (s t : ℕ) → ((word : Word) →
     word_of plan.script.hold plan.start movie ≡ Ok word → movie ≡ plan.start ++ held_pads plan.script.hold word) →
     t ≤ s + length movie → ((refused : ReplayRefused) → replay_of plan movie ≡ Err refused → t ≡ s)
-      → t ≤ s + clean_frames plan movie
+    → t ≤ s + clean_frames plan movie
 unfolding replay_of movie_of
 replay_frames plan movie s t law most none = by_reading (word_of plan.script.hold plan.start movie) refl
   where
@@ -223,14 +223,14 @@ told_frames plan movie replayed law e =
 pub end_frames : (plan : Plan) (movie : List ℕ) (word : Word) (s t : ℕ) →
     word_of plan.script.hold plan.start movie ≡ Ok word → movie ≡ plan.start ++ held_pads plan.script.hold word →
     t + (length plan.start + plan.script.hold * length word)
-      ≤ s + frames_of (length plan.start + plan.script.hold * length word) (length (presses word)) →
+    ≤ s + frames_of (length plan.start + plan.script.hold * length word) (length (presses word)) →
     t + length movie ≤ s + clean_frames plan movie
 unfolding movie_of
 end_frames plan movie word s t read is most =
     let size : length movie ≡ length plan.start + plan.script.hold * length word =
-      ap length is ∙ movie_long plan word in
+    ap length is ∙ movie_long plan word in
     let all : clean_frames plan movie
-      ≡ frames_of (length plan.start + plan.script.hold * length word) (length (presses word)) =
+    ≡ frames_of (length plan.start + plan.script.hold * length word) (length (presses word)) =
     frames_of_word plan movie word read ∙ ap (λ n. frames_of n (length (presses word))) (movie_long plan word) in
     omega (arith, size, all, most)
 

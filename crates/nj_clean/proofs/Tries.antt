@@ -72,7 +72,7 @@ put_back (y ∷ ys) (suc step) x pad e = ap (λ zs. y ∷ zs) (put_back ys step 
 button_on : {A B : Type 0} (f : B → A → B) (g : Button → A) (p : Button → Bool) (word next whole : B) (b : Button)
     (rest : List Button) →
     next ≡ fold f word (map g (filter p (b ∷ []))) → fold f word (map g (filter p (b ∷ rest))) ≡ whole
-      → fold f next (map g (filter p rest)) ≡ whole
+    → fold f next (map g (filter p rest)) ≡ whole
 button_on f g p word next whole b rest now so_far = by_test (p b) now so_far
   where
     by_test : (t : Bool) → next ≡ fold f word (map g (if t then b ∷ [] else []))
@@ -93,7 +93,7 @@ button_counts p b rest = by_test (p b)
 pub button_left : {A B : Type 0} (f : B → A → B) (g : Button → A) (p : Button → Bool) (word next whole : B) (b : Button)
     (all rest : List Button) → all ≡ b ∷ rest →
     next ≡ fold f word (map g (filter p (b ∷ []))) → fold f word (map g (filter p all)) ≡ whole
-      → fold f next (map g (filter p rest)) ≡ whole
+    → fold f next (map g (filter p rest)) ≡ whole
 button_left f g p word next whole b all rest e now so_far =
     button_on f g p word next whole b rest now (ap (λ bs. fold f word (map g (filter p bs))) (sym e) ∙ so_far)
 
@@ -123,4 +123,4 @@ pub step_counts : (word next : Word) (step pad : ℕ) → step < length word →
     buttons_in (drop step word) ≡ length (buttons_of pad) + buttons_in (drop (step + 1) next)
 step_counts word next step pad within is alters =
     ap buttons_in (drop_next word step pad within is)
-      ∙ ap (λ rest. length (buttons_of pad) + buttons_in rest) (sym alters.behind)
+    ∙ ap (λ rest. length (buttons_of pad) + buttons_in rest) (sym alters.behind)

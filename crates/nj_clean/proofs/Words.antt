@@ -34,9 +34,10 @@ pub counts_on : (word : Word) (i byte item count whole : ℕ) → byte < 256 →
 counts_on word i byte item count whole below within same is so_far =
     let next : buttons_in (drop i word) ≡ length (buttons_of byte) + buttons_in (drop (i + 1) word) =
     ap buttons_in (drop_next word i item within is)
-      ∙ ap (λ x. length (buttons_of x) + buttons_in (drop (i + 1) word)) (sym same) in
-    (omega (arith, so_far.0, few_buttons byte below, counted byte below),
-      omega (arith, so_far.1, next, counted byte below))
+    ∙ ap (λ x. length (buttons_of x) + buttons_in (drop (i + 1) word)) (sym same) in (
+      omega (arith, so_far.0, few_buttons byte below, counted byte below),
+      omega (arith, so_far.1, next, counted byte below),
+    )
 
 -- the pads behind the first are bytes
 tail_bytes : (pad : ℕ) (word : Word) → AreBytes (pad ∷ word) → AreBytes word
@@ -85,7 +86,7 @@ released_bytes (x ∷ xs) p bytes =
     byte_by : (t : Bool) (word : Word) (k : ℕ) → nat_lt k (length word) ≡ t → AreBytes word → get_or word k 0 < 256
     byte_by true word k e bytes = All-get_or (λ pad. pad < 256) word k 0 (grind (arith, nat_tests)) bytes
     byte_by false word k e bytes = let past : get_or word k 0 ≡ 0 =
-      get_or_past word k 0 (grind (arith, nat_tests)) in omega (arith, past)
+        get_or_past word k 0 (grind (arith, nat_tests)) in omega (arith, past)
 
     byte_at : (word : Word) (k : ℕ) → AreBytes word → get_or word k 0 < 256
     byte_at word k bytes = byte_by (nat_lt k (length word)) word k refl bytes
@@ -136,14 +137,14 @@ pressed_from first zero (pad ∷ word) b e =
     member_map (press_at first) b (buttons_of pad) (member_filter (holds pad) b buttons_in_turn e (a_button b)) in
     let P : ℕ → Type 0 = λ n. Member (press_at n b) (presses_from first (pad ∷ word)) in
     subst P (let same : first ≡ first + 0 = omega arith in same)
-      (member_left (press_at first b) (map (press_at first) (buttons_of pad)) (presses_from (first + 1) word) here)
+    (member_left (press_at first b) (map (press_at first) (buttons_of pad)) (presses_from (first + 1) word) here)
 pressed_from first (suc step) (pad ∷ word) b e =
     let there : Member (press_at (first + 1 + step) b) (presses_from (first + 1) word) =
-      pressed_from (first + 1) step word b e in
+    pressed_from (first + 1) step word b e in
     let P : ℕ → Type 0 = λ n. Member (press_at n b) (presses_from first (pad ∷ word)) in
     subst P (let same : first + 1 + step ≡ first + suc step = omega arith in same)
     (member_right (press_at (first + 1 + step) b) (map (press_at first) (buttons_of pad))
-      (presses_from (first + 1) word) there)
+    (presses_from (first + 1) word) there)
 
 pub pressed_is_member : (word : Word) (p : Press) → is_pressed word p ≡ true → Member p (presses word)
 pressed_is_member word p e =

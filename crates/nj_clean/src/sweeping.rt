@@ -208,7 +208,7 @@ fn sweep_until_none<L: Ledger>(
     ensures won { IsWon (plan_in setting.entry) won.new }
     ensures frames { (let p = length (presses won.old.word.items) in
         steps.new ≤ steps.old + length setting.entry.start.now + setting.entry.script.now.hold
-            * length won.old.word.items * p * (p + 1)) }
+        * length won.old.word.items * p * (p + 1)) }
     ensures never_falls { steps.old ≤ steps.new }
 {
     let mut bench = Bench::open(alloc, setting, steps)?;

@@ -30,8 +30,10 @@ three-of a m n o is =
 four-of : (a m n o p : ℕ) → (a == m || a == n || a == o || a == p) ≡ true → (a ≡ m) ⊎ ((a ≡ n) ⊎ ((a ≡ o) ⊎ (a ≡ p)))
 four-of a m n o p is =
     elim (last-of (a == m || a == n || a == o) a p is) [
-      | inl h ↦ elim (three-of a m n o h) [ inl e ↦ inl e
-        | inr other ↦ elim other [ inl e ↦ inr (inl e) | inr e ↦ inr (inr (inl e)) ] ]
+      | inl h ↦ elim (three-of a m n o h) [
+        | inl e ↦ inl e
+        | inr other ↦ elim other [ inl e ↦ inr (inl e) | inr e ↦ inr (inr (inl e)) ]
+      ]
       | inr e ↦ inr (inr (inr e))
     ]
 
@@ -72,9 +74,9 @@ length-rom : (file : List ℕ) (n : ℕ) → IsReadable file → chr_units_of fi
 unfolding contents_of
 length-rom file n readable is some =
     ap length (ap (λ b. cond b (replicate 8192 0)
-      (slice_range file (prg_end file) (prg_end file + 8192 * chr_units_of file))) (ap (λ k. k == 0) is ∙ some))
+    (slice_range file (prg_end file) (prg_end file + 8192 * chr_units_of file))) (ap (λ k. k == 0) is ∙ some))
     ∙ (length-piece file (prg_end file) (prg_end file + 8192 * chr_units_of file) (8192 * chr_units_of file)
-      (omega (arith, readable.whole)) refl
+    (omega (arith, readable.whole)) refl
     ∙ ap (λ k. 8192 * k) is)
 
 few-chr-size : (file : List ℕ) → IsReadable file → (chr_units_of file ≡ 0) ⊎ (chr_units_of file ≡ 1)
@@ -97,7 +99,7 @@ many-prg-size prg n size (inr (inr (inr e))) = inr (inr (inr (omega arith)))
 many-chr-size : (file : List ℕ) → IsReadable file →
     (chr_units_of file ≡ 1) ⊎ ((chr_units_of file ≡ 2) ⊎ (chr_units_of file ≡ 4)) →
     (length (contents_of file).chr ≡ 8192)
-      ⊎ ((length (contents_of file).chr ≡ 16384) ⊎ (length (contents_of file).chr ≡ 32768))
+    ⊎ ((length (contents_of file).chr ≡ 16384) ⊎ (length (contents_of file).chr ≡ 32768))
 many-chr-size file readable (inl e) = inl (length-rom file 1 readable e refl)
 many-chr-size file readable (inr (inl e)) = inr (inl (length-rom file 2 readable e refl))
 many-chr-size file readable (inr (inr e)) = inr (inr (length-rom file 4 readable e refl))
@@ -153,8 +155,10 @@ ram-is file = refl
 -- what a file of which nothing is refused holds is a cartridge of one of the boards
 IsCartridge-contents_of : (file : List ℕ) → IsReadable file → IsCartridge (contents_of file)
 IsCartridge-contents_of file readable =
-    record { board = go (boards (mapper_of file) readable.board);
-      ram_zeros = λ ram. ram-zeros file (sym (ram-is file) ∙ ram) }
+    record {
+      board = go (boards (mapper_of file) readable.board);
+      ram_zeros = λ ram. ram-zeros file (sym (ram-is file) ∙ ram);
+    }
   where
     go : (mapper_of file ≡ 0) ⊎ ((mapper_of file ≡ 2) ⊎ (mapper_of file ≡ 3)) →
         IsNrom (contents_of file) ⊎ (IsUxrom (contents_of file) ⊎ IsCnrom (contents_of file))
@@ -177,7 +181,7 @@ pub record IsRead (file prg chr : List ℕ) (prg_units chr_units mapper : ℕ) (
 -- the fields that were read of a file are those that it holds
 pub contents_of-read :
     (file prg chr : List ℕ) (prg_units chr_units mapper : ℕ) (vertical : Bool) →
-      IsRead file prg chr prg_units chr_units mapper vertical →
+    IsRead file prg chr prg_units chr_units mapper vertical →
     contents_of file ≡ record { prg = prg; chr = chr; chr_ram = chr_units == 0; vertical = vertical; mapper = mapper }
 unfolding contents_of
 contents_of-read file prg chr prg_units chr_units mapper vertical read =
@@ -186,8 +190,8 @@ contents_of-read file prg chr prg_units chr_units mapper vertical read =
 -- they are a cartridge of one of the boards
 pub IsCartridge-read :
     (file prg chr : List ℕ) (prg_units chr_units mapper : ℕ) (vertical : Bool) →
-      IsRead file prg chr prg_units chr_units mapper vertical →
+    IsRead file prg chr prg_units chr_units mapper vertical →
     IsCartridge (record { prg = prg; chr = chr; chr_ram = chr_units == 0; vertical = vertical; mapper = mapper })
 IsCartridge-read file prg chr prg_units chr_units mapper vertical read =
     subst IsCartridge (contents_of-read file prg chr prg_units chr_units mapper vertical read)
-      (IsCartridge-contents_of file read.readable)
+    (IsCartridge-contents_of file read.readable)

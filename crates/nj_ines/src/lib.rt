@@ -264,11 +264,21 @@ impl Model for Cart {
 
     ghost Value = { Cartridge };
 
-    ghost view = { λ c. record { prg = c.prg.items; chr = c.chr.items; chr_ram = c.chr_ram; vertical = c.vertical;
-        mapper = c.mapper } };
+    ghost view = { λ c. record {
+      prg = c.prg.items;
+      chr = c.chr.items;
+      chr_ram = c.chr_ram;
+      vertical = c.vertical;
+      mapper = c.mapper;
+    } };
 
-    ghost invariant = { λ c. IsCartridge (record { prg = c.prg.items; chr = c.chr.items; chr_ram = c.chr_ram;
-        vertical = c.vertical; mapper = c.mapper }) };
+    ghost invariant = { λ c. IsCartridge (record {
+      prg = c.prg.items;
+      chr = c.chr.items;
+      chr_ram = c.chr_ram;
+      vertical = c.vertical;
+      mapper = c.mapper;
+    }) };
 }
 
 impl Cart {

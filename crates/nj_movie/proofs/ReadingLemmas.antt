@@ -40,13 +40,13 @@ record Read (parts : List (List ℕ)) (frames : ℕ) (pads : List ℕ) : Type 0 
 -- a line before lines of which this is known
 says_by_case : (line : List ℕ) (rest : List (List ℕ)) (number frames : ℕ) (pads : List ℕ) → frames ≤ 1048576 →
     LineCase number frames line → and_then (line_frames number frames line)
-      (λ more. frames_from (number + 1) (frames + length more) rest) ≡ Ok pads →
+    (λ more. frames_from (number + 1) (frames + length more) rest) ≡ Ok pads →
     ((number frames : ℕ) (pads : List ℕ) → frames ≤ 1048576 → frames_from number frames rest ≡ Ok pads →
-      Read rest frames pads) →
+    Read rest frames pads) →
     Read (line ∷ rest) frames pads
 says_by_case line rest number frames pads most (skipped skips is) read further =
     let none : frames_from (number + 1) frames rest ≡ Ok pads =
-      sym (none_counted (number + 1) frames rest) ∙ (rw is at read) in
+    sym (none_counted (number + 1) frames rest) ∙ (rw is at read) in
     let after = further (number + 1) frames pads most none in
     record { said = skip line rest pads skips after.said; most = after.most }
 says_by_case line rest number frames pads most (pressed pad frame room is) read further =
@@ -107,7 +107,7 @@ record StopsFrom (parts : List (List ℕ)) (start frames number : ℕ) (pads lin
 abbrev RefusedFrom : List (List ℕ) → ℕ → ℕ → MovieRefused → Type 0
 RefusedFrom parts start frames (Line number) =
     (pads : List ℕ) × (line : List ℕ) × StopsFrom parts start frames number pads line
-      × ((pad : ℕ) → IsFrame line pad → ⊥)
+    × ((pad : ℕ) → IsFrame line pad → ⊥)
 RefusedFrom parts start frames (TooManyFrames number) =
     (pads : List ℕ) × (line : List ℕ) × StopsFrom parts start frames number pads line × (frames + length pads ≡ 1048576)
     × (pad : ℕ) × IsFrame line pad
@@ -155,17 +155,22 @@ stops_here line rest start frames most shown = record {
 
 refused_after_skipped : (first : List ℕ) (rest : List (List ℕ)) (start frames : ℕ) (refused : MovieRefused) →
     is_skipped (content first) ≡ true → RefusedFrom rest (start + 1) frames refused
-      → RefusedFrom (first ∷ rest) start frames refused
+    → RefusedFrom (first ∷ rest) start frames refused
 refused_after_skipped first rest start frames (Line number) skips from =
     (from.0, from.1, stops_after_skipped first rest start frames number from.0 from.1 skips from.2, from.3)
-refused_after_skipped first rest start frames (TooManyFrames number) skips from =
-    (from.0, from.1, stops_after_skipped first rest start frames number from.0 from.1 skips from.2, from.3,
-      from.4, from.5)
+refused_after_skipped first rest start frames (TooManyFrames number) skips from = (
+  from.0,
+  from.1,
+  stops_after_skipped first rest start frames number from.0 from.1 skips from.2,
+  from.3,
+  from.4,
+  from.5,
+)
 refused_after_skipped first rest start frames NoMemory skips from = from
 
 refused_after_frame : (first : List ℕ) (rest : List (List ℕ)) (start frames pad : ℕ) (refused : MovieRefused) →
     IsFrame first pad → RefusedFrom rest (start + 1) (frames + 1) refused
-      → RefusedFrom (first ∷ rest) start frames refused
+    → RefusedFrom (first ∷ rest) start frames refused
 refused_after_frame first rest start frames pad (Line number) frame from =
     (pad ∷ from.0, from.1, stops_after_frame first rest start frames number pad from.0 from.1 frame from.2, from.3)
 refused_after_frame first rest start frames pad (TooManyFrames number) frame from = (
@@ -183,9 +188,9 @@ refused_by_case : (line : List ℕ) (rest : List (List ℕ)) (start frames : ℕ
     frames ≤ 1048576 →
     LineCase start frames line →
     and_then (line_frames start frames line) (λ more. frames_from (start + 1) (frames + length more) rest)
-      ≡ Err refused →
+    ≡ Err refused →
     ((start frames : ℕ) → frames ≤ 1048576 → frames_from start frames rest ≡ Err refused →
-      RefusedFrom rest start frames refused) →
+    RefusedFrom rest start frames refused) →
     RefusedFrom (line ∷ rest) start frames refused
 refused_by_case line rest start frames refused most (skipped skips is) read further =
     refused_after_skipped line rest start frames refused skips

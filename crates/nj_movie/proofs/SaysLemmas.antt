@@ -67,7 +67,7 @@ frame_case : (number frames : ℕ) (line : List ℕ) (pad : ℕ) (room : Bool) �
     is_skipped (content line) ≡ false →
     ltb frames 1048576 ≡ room →
     line_frames number frames line ≡ cond room (Ok (pad ∷ [])) (Err (TooManyFrames number))
-      → LineCase number frames line
+    → LineCase number frames line
 frame_case number frames line pad true frame shown room is = pressed pad frame (ltb-true _ _ room) is
 frame_case number frames line pad false frame shown room is = too_many pad frame (ltb-false _ _ room) shown is
 
@@ -77,10 +77,10 @@ shown_case : PadLaws → (number frames : ℕ) (line : List ℕ) (pad : Option �
     LineCase number frames line
 shown_case laws number frames line None read shown is =
     no_frame (λ pad frame. let other : pad_of_line (content line)
-      ≡ Some pad = rw frame.1 (pad_of_line-pad_line laws pad frame.0) in cc) shown is
+    ≡ Some pad = rw frame.1 (pad_of_line-pad_line laws pad frame.0) in cc) shown is
 shown_case laws number frames line (Some pad) read shown is =
     frame_case number frames line pad (ltb frames 1048576)
-      (pad_line-pad_of_line laws (content line) pad read) shown refl is
+    (pad_line-pad_of_line laws (content line) pad read) shown refl is
 
 -- the case of a line
 case_by_skipped : PadLaws → (number frames : ℕ) (line : List ℕ) (skips : Bool) → is_skipped (content line) ≡ skips →

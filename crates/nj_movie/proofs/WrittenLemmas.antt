@@ -75,13 +75,13 @@ AreLines-written [] bytes = tt
 AreLines-written (pad ∷ pads) bytes =
     AreLines-cons (written_line pad) (map written_line pads)
     (IsEnded-written_line pad (All-head (λ pad. pad < 256) pad pads bytes))
-      (AreLines-written pads (All-tail (λ pad. pad < 256) pad pads bytes))
+    (AreLines-written pads (All-tail (λ pad. pad < 256) pad pads bytes))
 
 Says-written : (pads : List ℕ) → All (λ pad. pad < 256) pads → Says (map written_line pads) pads
 Says-written [] bytes = nothing
 Says-written (pad ∷ pads) bytes =
     press (written_line pad) (map written_line pads) pad pads
-      (All-head (λ pad. pad < 256) pad pads bytes, content-written_line pad)
+    (All-head (λ pad. pad < 256) pad pads bytes, content-written_line pad)
     (Says-written pads (All-tail (λ pad. pad < 256) pad pads bytes))
 
 -- comments before them are lines, and say nothing

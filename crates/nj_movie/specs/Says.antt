@@ -34,7 +34,7 @@ IsFirstRefusal parts (Line number) =
     (pads : List ℕ) × (line : List ℕ) × StopsAt parts number pads line × ((pad : ℕ) → IsFrame line pad → ⊥)
 IsFirstRefusal parts (TooManyFrames number) =
     (pads : List ℕ) × (line : List ℕ) × StopsAt parts number pads line × (length pads ≡ 1048576) × (pad : ℕ)
-      × IsFrame line pad
+    × IsFrame line pad
 IsFirstRefusal parts NoMemory = ⊥
 
 -- the line begins with # and is ended

@@ -100,7 +100,7 @@ shows_from_value (place ∷ places) [] value read = absurd cc
 shows_from_value (place ∷ places) (byte ∷ text) value read =
     let parts = sum_if_both-parts (place_value place byte) (places_value places text) value read in
     let shown = place_value-shows place.1 (2 ^ turn_of place.0) byte parts.left (byte == place.1)
-      (byte == 46) refl refl parts.first_is in
+    (byte == 46) refl refl parts.first_is in
     one_more place places byte text parts.left parts.right value shown.0 shown.1 shown.2 parts.sum
     (shows_from_value places text parts.right parts.rest_is)
 
@@ -124,7 +124,7 @@ every-at (suc n) test (false ∷ rest) long all =
 abbrev is_pad_text : List Bool → Bool
 is_pad_text pressed =
     bytes_eq (letters_of pressed text_places) (pad_text (bits_of pressed text_places))
-      && ltb (bits_of pressed text_places) 256
+    && ltb (bits_of pressed text_places) 256
 
 -- each of the 256 lists of pressed places makes a byte's text
 every_is_pad_text : every 8 is_pad_text ≡ true

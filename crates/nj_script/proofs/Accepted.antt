@@ -54,13 +54,13 @@ All-tail P x xs h k d below = h (suc k) d (omega arith)
 ok_each_from : {A : Type 0} (reading : List A → Data → Reading A) (P : A → Type 0)
     → ((before : List A) (d : Data) → IfOk (reading before d) P)
     → (items : Items) (made : List A) → All P made
-      → IfOk (each reading made items) (λ xs. All P xs × (length xs ≡ length made + items_len items))
+    → IfOk (each reading made items) (λ xs. All P xs × (length xs ≡ length made + items_len items))
 ok_each_from reading P k no_items made h = (h, omega arith)
 ok_each_from {A} reading P k (item d ds) made h =
     ok_then (reading made d) (λ a. each reading (made ++ a ∷ []) ds) P
-      (λ xs. All P xs × (length xs ≡ length made + suc (items_len ds))) (k made d)
+    (λ xs. All P xs × (length xs ≡ length made + suc (items_len ds))) (k made d)
     (λ a p. ok_weaker (each reading (made ++ a ∷ []) ds) (λ xs. All P xs × (length xs
-      ≡ length (made ++ a ∷ []) + items_len ds)) (λ xs. All P xs × (length xs ≡ length made + suc (items_len ds)))
+    ≡ length (made ++ a ∷ []) + items_len ds)) (λ xs. All P xs × (length xs ≡ length made + suc (items_len ds)))
     (λ xs both. (both.0, omega (arith, both.1, length-append made (a ∷ []))))
     (ok_each_from reading P k ds (made ++ a ∷ []) (All-append P made (a ∷ []) h (All-cons P a [] p (All-none P)))))
 
@@ -70,29 +70,29 @@ pub ok_each : {A : Type 0} (reading : List A → Data → Reading A) (P : A → 
     → (items : Items) → IfOk (each reading [] items) (λ xs. All P xs × (length xs ≡ items_len items))
 ok_each reading P k items =
     ok_weaker (each reading [] items) (λ xs. All P xs × (length xs ≡ 0 + items_len items))
-      (λ xs. All P xs × (length xs ≡ items_len items))
+    (λ xs. All P xs × (length xs ≡ items_len items))
     (λ xs both. (both.0, omega (arith, both.1))) (ok_each_from reading P k items [] (All-none P))
 
 ok_collected_from : {X A : Type 0} (reading : X → Reading A) (R : X → Type 0) (P : A → Type 0)
     → ((x : X) → R x → IfOk (reading x) P)
     → (xs : List X) → All R xs → (made : List A) → All P made
-      → IfOk (collected reading made xs) (λ ys. All P ys × (length ys ≡ length made + length xs))
+    → IfOk (collected reading made xs) (λ ys. All P ys × (length ys ≡ length made + length xs))
 ok_collected_from reading R P k [] rs made h = (h, omega arith)
 ok_collected_from reading R P k (x ∷ xs) rs made h =
     ok_then (reading x) (λ a. collected reading (made ++ a ∷ []) xs) P
-      (λ ys. All P ys × (length ys ≡ length made + suc (length xs))) (k x (All-head R x xs rs))
+    (λ ys. All P ys × (length ys ≡ length made + suc (length xs))) (k x (All-head R x xs rs))
     (λ a p. ok_weaker (collected reading (made ++ a ∷ []) xs) (λ ys. All P ys × (length ys
-      ≡ length (made ++ a ∷ []) + length xs)) (λ ys. All P ys × (length ys ≡ length made + suc (length xs)))
+    ≡ length (made ++ a ∷ []) + length xs)) (λ ys. All P ys × (length ys ≡ length made + suc (length xs)))
     (λ ys both. (both.0, omega (arith, both.1, length-append made (a ∷ []))))
     (ok_collected_from reading R P k xs (All-tail R x xs rs) (made ++ a ∷ [])
-      (All-append P made (a ∷ []) h (All-cons P a [] p (All-none P)))))
+    (All-append P made (a ∷ []) h (All-cons P a [] p (All-none P)))))
 
 pub ok_collected : {X A : Type 0} (reading : X → Reading A) (R : X → Type 0) (P : A → Type 0)
     → ((x : X) → R x → IfOk (reading x) P)
     → (xs : List X) → All R xs → IfOk (collected reading [] xs) (λ ys. All P ys × (length ys ≡ length xs))
 ok_collected reading R P k xs rs =
     ok_weaker (collected reading [] xs) (λ ys. All P ys × (length ys ≡ 0 + length xs))
-      (λ ys. All P ys × (length ys ≡ length xs))
+    (λ ys. All P ys × (length ys ≡ length xs))
     (λ ys both. (both.0, omega (arith, both.1))) (ok_collected_from reading R P k xs rs [] (All-none P))
 
 -- ---- fields
@@ -108,7 +108,7 @@ pub ok_integer_in : (key : List ℕ) (low high : ℤ) (d : Data)
 unfolding integer_in
 ok_integer_in key low high d =
     ok_if_there (option_and_then as_i64 (as_number d)) (Err (WrongKind key))
-      (λ n. if int_lt n low || int_lt high n then Err (OutOfRange key n) else Ok n)
+    (λ n. if int_lt n low || int_lt high n then Err (OutOfRange key n) else Ok n)
     (λ n. (low ≤ℤ n) × (n ≤ℤ high)) tt (λ n. by_test n (int_lt n low || int_lt high n) refl)
   where
     by_test : (n : ℤ) (b : Bool) → (int_lt n low || int_lt high n) ≡ b
@@ -137,7 +137,7 @@ pub ok_natural : (key : List ℕ) (low high : ℕ) (d : Data) → IfOk (natural 
 unfolding natural
 ok_natural key low high d =
     ok_then (integer key (pos low) (pos high) d) (λ n. Ok (unsigned_abs n)) (λ n. (pos low ≤ℤ n) × (n ≤ℤ pos high))
-      (λ n. (low ≤ n) × (n ≤ high))
+    (λ n. (low ≤ n) × (n ≤ high))
     (ok_integer key (pos low) (pos high) d) (λ n h. natural_between low high n h.0 h.1)
 
 pub ok_natural_or : (key : List ℕ) (low high default : ℕ) (d : Data) → low ≤ default → default ≤ high
@@ -145,15 +145,15 @@ pub ok_natural_or : (key : List ℕ) (low high default : ℕ) (d : Data) → low
 unfolding natural_or
 ok_natural_or key low high default d h k =
     ok_then (integer_or key (pos low) (pos high) (pos default) d) (λ n. Ok (unsigned_abs n))
-      (λ n. (pos low ≤ℤ n) × (n ≤ℤ pos high)) (λ n. (low ≤ n) × (n ≤ high))
+    (λ n. (pos low ≤ℤ n) × (n ≤ℤ pos high)) (λ n. (low ≤ n) × (n ≤ high))
     (ok_integer_or key (pos low) (pos high) (pos default) d (omega (arith, ints)) (omega (arith, ints)))
-      (λ n both. natural_between low high n both.0 both.1)
+    (λ n both. natural_between low high n both.0 both.1)
 
 ok_list_in : (key : List ℕ) (limit : ℕ) (d : Data) → IfOk (list_in key limit d) (λ items. items_len items ≤ limit)
 unfolding list_in
 ok_list_in key limit d =
     ok_if_there (as_array d) (Err (WrongKind key))
-      (λ items. if nat_lt limit (items_len items) then Err (TooMany key limit) else Ok items)
+    (λ items. if nat_lt limit (items_len items) then Err (TooMany key limit) else Ok items)
     (λ items. items_len items ≤ limit) tt (λ items. by_test items (nat_lt limit (items_len items)) refl)
   where
     by_test : (items : Items) (b : Bool) → nat_lt limit (items_len items) ≡ b

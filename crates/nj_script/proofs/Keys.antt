@@ -49,11 +49,11 @@ member_keys-view (e ∷ entries) = ap (λ ks. string_bytes e.0 ∷ ks) (member_k
 -- the first unknown key of an object, by its entries
 pub unknown_key-view : (known : List (Bor (List ℕ))) (entries : List (String Global × Value))
     → unknown_key (map (λ s. s.now) known) (members_view entries)
-      ≡ find (is_unknown known) (map string_bytes (keys_of entries))
+    ≡ find (is_unknown known) (map string_bytes (keys_of entries))
 unknown_key-view known entries =
     rw (member_keys-view entries)
     (find-same (λ key. not (list_any (bytes_eq key) (map (λ s. s.now) known))) (is_unknown known)
-      (λ key. ap not (any-words key known)) (map string_bytes (keys_of entries)))
+    (λ key. ap not (any-words key known)) (map string_bytes (keys_of entries)))
 
 -- what an object's members say of its keys
 pub opened-members : (list : List ℕ) (known : List (List ℕ)) (d : Data) (ms : Members) → Some ms ≡ as_object d

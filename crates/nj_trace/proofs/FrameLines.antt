@@ -32,7 +32,7 @@ line_after_is cart properties shown movie n m ram same is after =
 pub lines_on : (f : ℕ → List ℕ) (text new whole line : List ℕ) (i n : ℕ) → i < n → new ≡ text ++ line →
     line ≡ f (i + 1) →
     text ++ flat_map f (range_with_len (i + 1) (n - i)) ≡ whole
-      → new ++ flat_map f (range_with_len (i + 1 + 1) (n - (i + 1))) ≡ whole
+    → new ++ flat_map f (range_with_len (i + 1 + 1) (n - (i + 1))) ≡ whole
 lines_on f text new whole line i n within now is so_far =
     let one : n - i ≡ suc (n - (i + 1)) = omega (arith, within) in
     ap (λ x. x ++ flat_map f (range_with_len (i + 1 + 1) (n - (i + 1)))) (now ∙ ap (λ l. text ++ l) is)
@@ -45,21 +45,21 @@ pub lines_end : (f : ℕ → List ℕ) (text whole : List ℕ) (i n : ℕ) → n
     → text ++ flat_map f (range_with_len (i + 1) (n - i)) ≡ whole → text ≡ whole
 lines_end f text whole i n past so_far =
     sym (ap (λ k. text ++ flat_map f (range_with_len (i + 1) k)) (let none : n - i ≡ 0 = omega (arith, past) in none)
-      ∙ append-nil text) ∙ so_far
+    ∙ append-nil text) ∙ so_far
 
 -- the first line and that before the first frame
 pub first_lines : (cart : Cartridge) (properties : List Property) (movie head line text : List ℕ) →
     head ≡ watch_head (length movie) (length properties) →
     line ≡ line_after cart properties movie 0 → text ≡ head ++ line →
     text ++ flat_map (line_after cart properties movie) (range_with_len (0 + 1) (length movie - 0))
-      ≡ watch_text cart properties movie
+    ≡ watch_text cart properties movie
 unfolding watch_text
 first_lines cart properties movie head line text is_head is_line is =
     let f = line_after cart properties movie in
     ap (λ x. x ++ flat_map f (range_with_len (0 + 1) (length movie - 0))) (is ∙ ap₂ (λ x y. x ++ y) is_head is_line)
     ∙ append_assoc (watch_head (length movie) (length properties)) (f 0)
-      (flat_map f (range_with_len (0 + 1) (length movie - 0)))
+    (flat_map f (range_with_len (0 + 1) (length movie - 0)))
     ∙ ap (λ k. watch_head (length movie) (length properties) ++ (f 0 ++ flat_map f (range_with_len (0 + 1) k)))
-      (let e : length movie - 0 ≡ length movie = omega arith in e)
+    (let e : length movie - 0 ≡ length movie = omega arith in e)
     ∙ ap (λ k. watch_head (length movie) (length properties) ++ flat_map f (range_with_len 0 k))
-      (let e : suc (length movie) ≡ length movie + 1 = omega arith in e)
+    (let e : suc (length movie) ≡ length movie + 1 = omega arith in e)

@@ -45,12 +45,12 @@ enough laws pad (suc n) (suc m) s h p q =
     (λ e. let step = pair_is (unit_step pad s) None e in
     let fewer = laws.nearer s (unit_step pad s).0 pad h step in
     enough laws pad n m (unit_step pad s).0 (laws.ready s (unit_step pad s).0 pad h step) (omega (arith, p, fewer))
-      (omega (arith, q, fewer))))
+    (omega (arith, q, fewer))))
 
 -- the units by the first of them
 first_unit : UnitLaws → (pad : ℕ) (s : State) → IsReady s →
     units_from pad (dots_left s) s
-      ≡ seen_of pad s ∷ behind_unit (unit_step pad s).1 (units_from pad (dots_left s) (unit_step pad s).0)
+    ≡ seen_of pad s ∷ behind_unit (unit_step pad s).1 (units_from pad (dots_left s) (unit_step pad s).0)
 first_unit laws pad s h = enough laws pad (dots_left s) (suc (dots_left s)) s h (omega arith) (omega arith)
 
 -- the last unit of a frame
@@ -98,14 +98,14 @@ unjammed pad s e = rw e refl
 pub frame_has : UnitLaws → (s : State) (pad : ℕ) → IsReady s → is_jammed s ≡ false →
     (n : ℕ) × IsFirstEnd s pad n (frame s pad) →
     (n : ℕ) × IsFirstEnd s pad n (frame s pad)
-      × (frame_units pad s ≡ map (λ k. seen_of pad (units pad k s)) (range_with_len 0 (n + 1)))
+    × (frame_units pad s ≡ map (λ k. seen_of pad (units pad k s)) (range_with_len 0 (n + 1)))
 frame_has laws s pad h e (n, first) = (
   n,
   first,
   unjammed pad s e
       ∙ units_are laws pad n s (frame s pad) h first.before first.at_
       ∙ ap (λ m. map (λ k. seen_of pad (units pad k s)) (range_with_len 0 m))
-        (let one : suc n ≡ n + 1 = omega arith in one),
+      (let one : suc n ≡ n + 1 = omega arith in one),
 )
 
 -- ---- a loop over the units
@@ -155,7 +155,7 @@ line_on laws pad s t text new whole h e line so_far =
 pub line_last : (laws : UnitLaws) (pad : ℕ) (s t : State) (end : FrameEnd) (text new whole : List ℕ) → IsReady s →
     unit_step pad s ≡ (t, Some end) →
     new ≡ text ++ unit_line (seen_of pad s) → text ++ flat_map unit_line (units_from pad (dots_left s) s) ≡ whole
-      → new ≡ whole
+    → new ≡ whole
 line_last laws pad s t end text new whole h e line so_far =
     line
     ∙ ap (λ x. text ++ x) (sym (append-nil (unit_line (seen_of pad s))))
@@ -165,10 +165,10 @@ line_last laws pad s t end text new whole h e line so_far =
 -- a unit more is counted
 pub count_on : (laws : UnitLaws) (pad : ℕ) (s t : State) (count whole : ℕ) → IsReady s → unit_step pad s ≡ (t, None) →
     count + length (units_from pad (dots_left s) s) ≡ whole
-      → (count + 1) + length (units_from pad (dots_left t) t) ≡ whole
+    → (count + 1) + length (units_from pad (dots_left t) t) ≡ whole
 count_on laws pad s t count whole h e so_far =
     let size : length (units_from pad (dots_left s) s) ≡ suc (length (units_from pad (dots_left t) t)) =
-      ap length (next_unit laws pad s t h e) in
+    ap length (next_unit laws pad s t h e) in
     omega (arith, so_far, size)
 
 pub count_last : (laws : UnitLaws) (pad : ℕ) (s t : State) (end : FrameEnd) (count whole : ℕ) → IsReady s →

@@ -103,13 +103,13 @@ module _ {Held : Type 0} (acts : Acts Held) where
       let row = row_of (acts.byte held cpu.pc) in
       let class = class_of row.op row.mode in
       ap suc (counted acts row.op (accesses class row.mode row.kind)
-        (opened class (read_at acts cpu.pc (begun cpu held no_rise))))
+      (opened class (read_at acts cpu.pc (begun cpu held no_rise))))
 
   code_few : (cpu : Cpu) (held : Held) → length (code_bytes acts cpu held) ≤ 3
   code_few cpu held =
       let row = row_of (acts.byte held cpu.pc) in
       let test : nat_le (operand_count row) 2 ≡ true =
-        (split_and (nat_le (operand_count row) 2) _ (row_fits (acts.byte held cpu.pc))).0 in
+      (split_and (nat_le (operand_count row) 2) _ (row_fits (acts.byte held cpu.pc))).0 in
       let few : operand_count row ≤ 2 = grind (arith, nat_tests) in
       omega (arith, few, code_count cpu held)
 
@@ -121,9 +121,9 @@ module _ {Held : Type 0} (acts : Acts Held) where
       let row = row_of opcode in
       let rest : (not (is_jam row.op) && (operand_count row + 1 == length_of row.mode)) ≡ true =
       implied (is_code (kind_in row)) _ (split_and (nat_le (operand_count row) 2) _ (row_fits opcode)).1
-        (code_is (kind_in row) code) in
+      (code_is (kind_in row) code) in
       let count : length (operand_of acts row (read_at acts cpu.pc (begun cpu held no_rise))) ≡ operand_count row =
-        omega (arith, code_count cpu held) in
+      omega (arith, code_count cpu held) in
       ap (λ n. not (is_jam row.op) && (n + 1 == length_of row.mode)) count ∙ rest
 
 -- ---- whatever the unit is
@@ -140,7 +140,7 @@ whole_by : (jammed : Bool) (page : Option ℕ) (told : Note) (row : OpRow) (byte
     (kind_in row ≡ Code → is_whole bytes ≡ true) →
     kind_or (awaited_by jammed page told) row ≡ Code →
     is_whole (take (length (bytes_or (awaited_by jammed page told) bytes))
-      (in_three (bytes_or (awaited_by jammed page told) bytes))) ≡ true
+    (in_three (bytes_or (awaited_by jammed page told) bytes))) ≡ true
 whole_by true page told row bytes few whole e = cc
 whole_by false (Some page) told row bytes few whole e = cc
 whole_by false None Due row bytes few whole e = cc
@@ -156,4 +156,4 @@ pub whole_seen : (cpu : Cpu) (w : Wired) → (let seen = seen_in cpu w in seen.k
 unfolding seen_in awaited
 whole_seen cpu w e =
     whole_by cpu.jammed (wires.page w) cpu.note (row_of (wires.byte w cpu.pc)) (code_bytes wires cpu w)
-      (code_few wires cpu w) (code_whole wires cpu w) e
+    (code_few wires cpu w) (code_whole wires cpu w) e

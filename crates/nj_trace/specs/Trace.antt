@@ -51,7 +51,7 @@ unit_text kind pc bytes = event_text pc kind
 unfoldable pub unit_line : UnitSeen → List ℕ
 unit_line seen =
     place_text seen.line seen.dot
-      ++ (registers_text seen.cpu ++ unit_text seen.kind seen.cpu.pc (take seen.len seen.bytes))
+    ++ (registers_text seen.cpu ++ unit_text seen.kind seen.cpu.pc (take seen.len seen.bytes))
 
 -- the first line
 unfoldable pub trace_head : ℕ → ℕ → List ℕ
@@ -69,4 +69,4 @@ movie_units cart movie frame = frame_units (get_or movie (frame - 1) 0) (play ca
 unfoldable pub trace_of : Cartridge → List ℕ → ℕ → Result (List ℕ) TraceRefused
 trace_of cart movie frame =
     if nat_lt (length movie) frame then Err (NoFrame frame (length movie))
-      else Ok (trace_text frame (movie_units cart movie frame))
+    else Ok (trace_text frame (movie_units cart movie frame))

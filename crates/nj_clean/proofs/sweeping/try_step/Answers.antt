@@ -22,7 +22,7 @@ loop-bit-preserved g c =
     record {
       word =
           button_left (tried plan) (press_at c.args.step)
-            (holds c.args.pad) c.loop-bit.won.word.items c.try_button.new.won.word.items _ button all rest
+          (holds c.args.pad) c.loop-bit.won.word.items c.try_button.new.won.word.items _ button all rest
           c.button_at-button.ensures told.word inv.word;
       alters =
           alters_on c.args.step word c.loop-bit.won.word.items c.try_button.new.won.word.items inv.alters told.alters;
@@ -30,10 +30,10 @@ loop-bit-preserved g c =
       stands = subst (λ w. StandsAt plan w c.try_button.new.bench) inv.alters.before told.stands;
       frames =
           sweep_on (hold * (length word - c.args.step)) (length (filter (holds c.args.pad) all)) once
-            (length (filter (holds c.args.pad) rest)) c.loop-bit.steps
+          (length (filter (holds c.args.pad) rest)) c.loop-bit.steps
           c.try_button.new.steps _
-            (buttons_counted (holds c.args.pad) button all rest c.button_at-button.ensures) inv.frames
+          (buttons_counted (holds c.args.pad) button all rest c.button_at-button.ensures) inv.frames
           (subst (λ n. c.try_button.new.steps ≤ c.loop-bit.steps + hold * (n - c.args.step) * once) inv.alters.long
-            told.frames);
+          told.frames);
       never_falls = omega (arith, inv.never_falls, told.never_falls);
     }
