@@ -42,7 +42,7 @@ unfolding pool_again
 pool_more before base limit kept i d image old new lt shown was pushed =
     let images : map (image_again before) (take i kept) ++ image ∷ [] ≡ map (image_again before) (take (i + 1) kept) =
     ap (λ x. map (image_again before) (take i kept) ++ x ∷ []) shown
-        ∙ sym (map_more (image_again before) kept i d lt) in
+    ∙ sym (map_more (image_again before) kept i d lt) in
     let born : map birth_of (take i kept) ++ birth_of (get_or kept i d) ∷ [] ≡ map birth_of (take (i + 1) kept) =
     sym (map_more birth_of kept i d lt) in
     pushed ∙ ap (with_birth image (birth_of (get_or kept i d))) was

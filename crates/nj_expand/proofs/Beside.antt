@@ -26,7 +26,7 @@ flips x y =
 apart_moved : (xs ys : List ℕ) → IsPermutation xs ys → AllPairs (λ a b. a ≢ b) xs → AllPairs (λ a b. a ≢ b) ys
 apart_moved xs ys moved apart =
     AllPairs-from_IsDistinct Decides-eqb ys
-        (IsDistinct-IsPermutation (λ a b. a == b) flips xs ys moved (IsDistinct-from_AllPairs Decides-eqb xs apart))
+    (IsDistinct-IsPermutation (λ a b. a == b) flips xs ys moved (IsDistinct-from_AllPairs Decides-eqb xs apart))
 
 -- what can be added can be added in any order
 pub can_add_moved : (words keys others : List ℕ) → IsPermutation keys others → CanAdd words keys → CanAdd words others
@@ -54,14 +54,14 @@ pub owned_fresh : (h : Held) (left : SeenKeys) (words claims : List ℕ) (rows f
     → HoldsSeen words h.state.seen h.state.step → IsRising (live_rows h) → AreRowsOf h rows → IsClosedFor h claims
     → fresh ≡ filter (is_owned_unseen claims words left.oldest) rows
     → ((words opening closed : List ℕ) (seen : Seen) (step from older : ℕ) (rows : List Row) (claims : List (ℕ × ℕ))
-        → HoldsSeen words seen step
+    → HoldsSeen words seen step
     → HoldsSeen opening (drop older (drop (from - oldest_step step seen) seen)) step → step < first_claim
     → AreClaims rows claims
     → ((key : ℕ) → owner_in closed key ≡ owner_after key (owner_in opening key) claims)
     → All (λ row. is_owned_unseen closed words from row
-            ≡ is_fresh_row (drop (from - oldest_step step seen) seen) rows row) rows)
+    ≡ is_fresh_row (drop (from - oldest_step step seen) seen) rows row) rows)
     → ((some rows : List Row) (test : Row → Bool) (seen : Seen) → AllPairs (λ a b. a.number ≢ b.number) some
-        → IsRising rows → All (Contains rows) some
+    → IsRising rows → All (Contains rows) some
     → All (λ row. test row ≡ is_fresh_row seen rows row) rows
     → All (λ row. is_fresh_row seen rows row ≡ true → Contains some row) rows
     → IsPermutation (filter test some) (fresh_rows seen rows))
@@ -70,12 +70,12 @@ owned_fresh h left words claims rows fresh is low holds rising are closed found 
     let from : ℕ = left.oldest in
     let some : drop (from - oldest_step h.state.step h.state.seen) h.state.seen ≡ seen_of h.bounds h.state = is.gone in
     let owned : All (λ row. is_owned_unseen claims words from row
-            ≡ is_fresh_row (seen_of h.bounds h.state) (live_rows h) row) (live_rows h) =
+    ≡ is_fresh_row (seen_of h.bounds h.state) (live_rows h) row) (live_rows h) =
     subst (λ (seen : Seen). All (λ row. is_owned_unseen claims words from row ≡ is_fresh_row seen (live_rows h) row)
-            (live_rows h)) some
+    (live_rows h)) some
     (owns words closed.opening claims h.state.seen h.state.step from closed.older (live_rows h) closed.claims holds
     (subst (λ (seen : Seen). HoldsSeen closed.opening (drop closed.older seen) h.state.step) (sym some) closed.seen) low
-        closed.claimed closed.owners) in
+    closed.claimed closed.owners) in
     subst (λ (xs : List Row). IsPermutation xs (fresh_rows_in h)) (sym found)
     (order rows (live_rows h) (is_owned_unseen claims words from) (seen_of h.bounds h.state) are.once rising
-        are.live owned are.fresh)
+    are.live owned are.fresh)

@@ -62,5 +62,5 @@ pub bucket_is : (script : Record) (s : State) (a b c d : ℤ) → length script.
     → (a ∷ b ∷ c ∷ d ∷ []) ≡ row_bucket (values_at script s)
 bucket_is script s a b c d few first second third fourth =
     let count : length (values_at script s) ≡ length script.bucket =
-        length-map script.bucket (λ property. value_of property (ram_of s)) in
+    length-map script.bucket (λ property. value_of property (ram_of s)) in
     (λ i. first i ∷ second i ∷ third i ∷ fourth i ∷ []) ∙ four (values_at script s) (omega (arith, count, few))

@@ -28,7 +28,7 @@ pub live_rows_rise : (held : Held) → AreFew held → IsRising (live_rows held)
 unfolding live_rows
 live_rows_rise held few =
     rows_rise (game_of held.plan) (lives_of (game_of held.plan) held.state)
-        (lives_rise (game_of held.plan) held.state few)
+    (lives_rise (game_of held.plan) held.state few)
 
 fresh_rise : (held : Held) → AreFew held → AreRising (fresh_of (game_of held.plan) held.bounds held.state)
 unfolding fresh_of fresh
@@ -41,7 +41,7 @@ pub winner_in : (held : Held) → AreFew held → Prefers → winner_row (live_r
 unfolding live_rows
 winner_in held few law =
     winner-map (game_of held.plan) law (lives_of (game_of held.plan) held.state)
-        (lives_rise (game_of held.plan) held.state few)
+    (lives_rise (game_of held.plan) held.state few)
 
 -- the fresh rows are the rows of the fresh
 fresh_in : (held : Held) → fresh_rows (seen_of held.bounds held.state) (live_rows held)
@@ -58,14 +58,14 @@ unfolding kept_in kept_of
 kept_rows_in held few law =
     ap (kept_rows held.bounds.most held.bounds.quota) (fresh_in held)
     ∙ kept-map (game_of held.plan) law (even_buckets held.plan) held.bounds.most held.bounds.quota
-        (fresh_of (game_of held.plan) held.bounds held.state) (fresh_rise held few)
+    (fresh_of (game_of held.plan) held.bounds held.state) (fresh_rise held few)
 
 -- the rows' new generation is the candidates'
 pub generation_in : (held : Held) → generation_rows (fresh_rows (seen_of held.bounds held.state) (live_rows held))
     ≡ generation (game_of held.plan) (fresh_of (game_of held.plan) held.bounds held.state)
 generation_in held =
     ap generation_rows (fresh_in held)
-        ∙ generation-map (game_of held.plan) (fresh_of (game_of held.plan) held.bounds held.state)
+    ∙ generation-map (game_of held.plan) (fresh_of (game_of held.plan) held.bounds held.state)
 
 -- ---- the three ends
 
@@ -80,7 +80,7 @@ unfolding IsStep next_in next
 won_step held row few law e =
     let game = game_of held.plan in
     won_by held row (exhausted_or (kept_of game held.bounds held.state) (state_after game held.bounds held.state))
-        (winner game (lives_of game held.state))
+    (winner game (lives_of game held.state))
     (sym (winner_in held few law) ∙ e)
 
 exhausted_by : (held : Held) (goes : List Candidate → State) (w : Option Candidate) (ks : List Candidate)
@@ -97,7 +97,7 @@ unfolding IsStep next_in next kept_in
 exhausted_step held few law e f =
     let game = game_of held.plan in
     exhausted_by held (state_after game held.bounds held.state) (winner game (lives_of game held.state))
-        (kept_of game held.bounds held.state)
+    (kept_of game held.bounds held.state)
     (sym (winner_in held few law) ∙ e) (sym (kept_rows_in held few law) ∙ f)
 
 goes_by : (held new : Held) (goes : List Candidate → State) (w : Option Candidate) (ks : List Candidate)
@@ -115,7 +115,7 @@ unfolding IsStep next_in next kept_in
 goes_step held new few law e some is =
     let game = game_of held.plan in
     goes_by held new (state_after game held.bounds held.state) (winner game (lives_of game held.state))
-        (kept_of game held.bounds held.state)
+    (kept_of game held.bounds held.state)
     (sym (winner_in held few law) ∙ e) some is
 
 -- the rows that are kept are as many as the candidates
@@ -130,7 +130,7 @@ pub kept_few : (h : Held) → length (kept_in h) ≤ h.bounds.most
 unfolding kept_in kept_of kept
 kept_few h =
     limited_few (is_alike (game_of h.plan)) h.bounds.most h.bounds.quota
-        (in_order (is_before (game_of h.plan)) (fresh_of (game_of h.plan) h.bounds h.state))
+    (in_order (is_before (game_of h.plan)) (fresh_of (game_of h.plan) h.bounds h.state))
 
 -- the kept of a search are candidates of its front, no more than its bound
 pub are_kept : (h : Held) (rows : List Row) → AreFew h → Prefers
@@ -178,4 +178,4 @@ pub frames_held : (h now : Held) (kept rows : List Row) (steps old : ℕ) → h 
 frames_held h now kept rows steps old same few law is are ran =
     let count : length rows ≡ length (kept_in now) = kept_count now rows (are ∙ is.kept ∙ kept_rows_in now few law) in
     subst (λ n. steps ≤ old + now.plan.script.hold * n) count
-        (subst (λ (x : Held). steps ≤ old + x.plan.script.hold * length rows) same ran)
+    (subst (λ (x : Held). steps ≤ old + x.plan.script.hold * length rows) same ran)

@@ -35,7 +35,7 @@ forgotten_fits : (slots room : ℕ) (seen : Seen) → room ≤ slots → key_cou
 forgotten_fits slots room [] le = omega (arith, le)
 forgotten_fits slots room (oldest ∷ rest) le =
     elim (nat_le (key_count (oldest ∷ rest) + room) slots) as (λ b. nat_le (key_count (oldest ∷ rest) + room) slots ≡ b
-        → key_count (cond b (oldest ∷ rest) (forgotten slots room rest)) + room ≤ slots) [
+    → key_count (cond b (oldest ∷ rest) (forgotten slots room rest)) + room ≤ slots) [
       | true ↦ λ e. leb-true (key_count (oldest ∷ rest) + room) slots e
       | false ↦ λ e. forgotten_fits slots room rest le
     ] refl
@@ -56,7 +56,7 @@ live_few law h few =
     let short = filter_short (is_live_row h.state.mark (h.state.step + 1)) all in
     let same = length-map (candidates_in h) (row_of (game_of h.plan)) in
     let e : length (live_rows h) ≡ length (filter (is_live_row h.state.mark (h.state.step + 1)) all) =
-        ap length (law h) in
+    ap length (law h) in
     omega (arith, short, same, e, few)
 
 -- as many images as words
@@ -80,8 +80,8 @@ pub record AreKeyLaws (h : Held) : Type 0 where
   pub added : (before after : List ℕ) (seen : Seen) (step : ℕ) (rows : List Row) → HoldsSeen before seen step
       → IsRising rows
       → ((key : ℕ) → owner_in after key
-          ≡ (if list_any (λ k. k == key) (keys_in_rows (fresh_rows seen rows)) then Some
-          (step + 1) else owner_in before key))
+      ≡ (if list_any (λ k. k == key) (keys_in_rows (fresh_rows seen rows)) then Some
+      (step + 1) else owner_in before key))
       → HoldsSeen after (seen ++ generation_rows (fresh_rows seen rows) ∷ []) (step + 1)
 
 fresh_named : (seen : Seen) (rows : List Row) → All (λ (row : Row). row.key ≢ 0) rows
@@ -89,7 +89,7 @@ fresh_named : (seen : Seen) (rows : List Row) → All (λ (row : Row). row.key �
 unfolding fresh_rows
 fresh_named seen rows all =
     All-map (λ (key : ℕ). key ≢ 0) (λ (row : Row). row.key) (fresh_rows seen rows)
-        (All-filter _ (λ (row : Row). row.key ≢ 0) rows all)
+    (All-filter _ (λ (row : Row). row.key ≢ 0) rows all)
 
 pub can_add : (h : Held) → AreKeyLaws h → LiveRowsAreLive → length (candidates_in h) ≤ room_of h
     → room_of h ≤ h.bounds.slots
@@ -102,9 +102,9 @@ can_add h laws live few within words holds = record {
   room =
       let seen : Seen = seen_of h.bounds h.state in
       let count : length (entries_in words) ≡ key_count seen =
-          laws.count words seen h.state.step holds.table holds.seen in
+      laws.count words seen h.state.step holds.table holds.seen in
       let keys : length (keys_in_rows (fresh_rows_in h)) ≡ length (fresh_rows_in h) =
-          length-map (fresh_rows_in h) (λ (row : Row). row.key) in
+      length-map (fresh_rows_in h) (λ (row : Row). row.key) in
       let fresh : length (fresh_rows_in h) ≤ length (live_rows h) = laws.few seen (live_rows h) in
       let lives : length (live_rows h) ≤ room_of h = live_few live h few in
       let fits : key_count seen + room_of h ≤ h.bounds.slots = left_fits h within in
@@ -130,11 +130,17 @@ pub own_keys : (h : Held) (left : SeenKeys) (oldest : ℕ) (keys : List ℕ) →
 own_keys h left oldest keys is first same can adds =
     let none : left.oldest - oldest_step h.state.step h.state.seen ≡ 0 = omega (arith, first, same) in
     let stay : h.state.seen ≡ seen_of h.bounds h.state = ap (λ n. drop n h.state.seen) (sym none) ∙ is.gone in record {
-      can = λ words t. can words (record { table = t.table; slots = t.slots;
-              seen = subst (λ (seen : Seen). HoldsSeen words seen h.state.step) stay t.seen });
+      can = λ words t. can words (record {
+        table = t.table;
+        slots = t.slots;
+        seen = subst (λ (seen : Seen). HoldsSeen words seen h.state.step) stay t.seen;
+      });
       adds = λ before after t added.
-          adds before after (record { table = t.table; slots = t.slots;
-              seen = subst (λ (seen : Seen). HoldsSeen before seen h.state.step) stay t.seen }) added;
+          adds before after (record {
+            table = t.table;
+            slots = t.slots;
+            seen = subst (λ (seen : Seen). HoldsSeen before seen h.state.step) stay t.seen;
+          }) added;
     }
 
 -- ---- the table that is put
@@ -156,13 +162,13 @@ pub record IsAfter (h : Held) (words : List ℕ) (keys : SeenKeys) (exponent : �
 
 pub after_step : (h : Held) (words : List ℕ) (keys : SeenKeys) (exponent : ℕ)
     → ((words : List ℕ) (seen : Seen) (step : ℕ) → IsTable words → HoldsSeen words seen step
-        → seen ≡ seen_in words step (oldest_step step seen))
+    → seen ≡ seen_in words step (oldest_step step seen))
     → h.bounds.slots ≡ 2 ^ exponent → h.state.step < 16777215 → IsMade h words → AreNextKeys h keys
     → IsAfter h words keys exponent
 after_step h words keys exponent law slots lt made next =
     let told : seen_next h ≡ seen_in words (h.state.step + 1) keys.oldest =
     law words (seen_next h) (h.state.step + 1) made.table made.seen
-        ∙ ap (seen_in words (h.state.step + 1)) (sym next.oldest) in record {
+    ∙ ap (seen_in words (h.state.step + 1)) (sym next.oldest) in record {
       told = sym told;
       at = record {
         table = made.table;
@@ -200,11 +206,11 @@ pub next_keys : (h : Held) (left keys : SeenKeys) (fresh : List Row) → IsLeft 
 next_keys h left keys fresh is same oldest count = record {
   oldest =
       let long : length (seen_next h) ≡ length (seen_of h.bounds h.state) + 1 =
-          length_push (seen_of h.bounds h.state) (generation_rows (fresh_rows_in h)) in
+      length_push (seen_of h.bounds h.state) (generation_rows (fresh_rows_in h)) in
       let first = is.oldest in omega (arith, long, first, oldest);
   count =
       let many : length fresh ≡ length (fresh_rows_in h) =
-          sym (in_order_long is_row_before fresh) ∙ ap length same ∙ in_order_long is_row_before (fresh_rows_in h) in
+      sym (in_order_long is_row_before fresh) ∙ ap length same ∙ in_order_long is_row_before (fresh_rows_in h) in
       let all = sum_by-append length (seen_of h.bounds h.state) (generation_rows (fresh_rows_in h) ∷ []) in
       let one = generation_long (fresh_rows_in h) in
       let before = is.count in
@@ -221,16 +227,16 @@ pub left_is : (h : Held) (keys left : SeenKeys) (slots room : ℕ) → slots ≡
 unfolding seen_of
 left_is h keys left slots room same_slots same_room within most first oldest gone count =
     let same : forgotten slots room h.state.seen ≡ forgotten h.bounds.slots (room_of h) h.state.seen =
-        λ i. forgotten (same_slots i) (same_room i) h.state.seen in
+    λ i. forgotten (same_slots i) (same_room i) h.state.seen in
     record {
       oldest = oldest ∙ ap (oldest_step h.state.step) same;
       gone = ap (λ n. drop (left.oldest - n) h.state.seen) (sym first) ∙ gone ∙ same;
       count = count ∙ ap key_count same;
       few =
           let fits : key_count (forgotten h.bounds.slots (room_of h) h.state.seen) + room_of h ≤ h.bounds.slots =
-              forgotten_fits h.bounds.slots (room_of h) h.state.seen within in
+          forgotten_fits h.bounds.slots (room_of h) h.state.seen within in
           let is : left.count ≡ key_count (forgotten h.bounds.slots (room_of h) h.state.seen) =
-              count ∙ ap key_count same in
+          count ∙ ap key_count same in
           omega (arith, fits, is, most);
     }
 
@@ -238,7 +244,7 @@ left_is h keys left slots room same_slots same_room within most first oldest gon
 pub holds_left : (h : Held) (words rest : List ℕ) (room : ℕ) → IsTableOf h words → room ≡ room_of h → IsTable rest
     → length rest ≡ length words
     → ((seen : Seen) (step : ℕ) → HoldsSeen words seen step
-            → HoldsSeen rest (forgotten (slot_count words) room seen) step) → HoldsLeft h rest
+    → HoldsSeen rest (forgotten (slot_count words) room seen) step) → HoldsLeft h rest
 unfolding seen_of
 holds_left h words rest room is same table size seen = record {
   table = table;
@@ -266,7 +272,7 @@ pub first_table : ((words : List ℕ) (seen : Seen) (step : ℕ) → IsTable wor
 first_table law words key exponent table slots holds =
     let zeroth : oldest_step 0 ((key ∷ []) ∷ []) ≡ 0 = omega arith in
     let told : ((key ∷ []) ∷ []) ≡ seen_in words 0 0 =
-        law words ((key ∷ []) ∷ []) 0 table holds ∙ ap (seen_in words 0) zeroth in
+    law words ((key ∷ []) ∷ []) 0 table holds ∙ ap (seen_in words 0) zeroth in
     record {
       told = sym told;
       at = record {
@@ -283,6 +289,6 @@ first_table law words key exponent table slots holds =
 pub found_fresh : (h : Held) (left : SeenKeys) (words : List ℕ) (rows fresh : List Row) → IsLeft h left
     → HoldsSeen words h.state.seen h.state.step → rows ≡ live_rows h
     → ((seen : Seen) (step : ℕ) → HoldsSeen words seen step
-            → fresh ≡ fresh_rows (drop (left.oldest - oldest_step step seen) seen) rows) → fresh ≡ fresh_rows_in h
+    → fresh ≡ fresh_rows (drop (left.oldest - oldest_step step seen) seen) rows) → fresh ≡ fresh_rows_in h
 found_fresh h left words rows fresh is holds are finds =
     finds h.state.seen h.state.step holds ∙ (λ i. fresh_rows (is.gone i) (are i))

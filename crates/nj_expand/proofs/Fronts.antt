@@ -39,7 +39,7 @@ by_words held i (word ∷ words) =
     let rest : List Candidate = candidates_from game (i + 1) words in
     ap (live_among held) (map-append (row_of game) first rest)
     ∙ filter-append (is_live_row held.state.mark (held.state.step + 1))
-        (map (row_of game) first) (map (row_of game) rest)
+    (map (row_of game) first) (map (row_of game) rest)
     ∙ ap (λ rows. live_among held (map (row_of game) first) ++ rows) (by_words held (i + 1) words)
 
 -- the rows of live candidates are the live among the rows of all
@@ -58,7 +58,7 @@ count_by_words plan i [] = refl
 count_by_words plan i (word ∷ words) =
     length-append (extensions (256 * i) word (allowed_of plan word)) (candidates_from (game_of plan) (i + 1) words)
     ∙ ap (λ n. n + length (candidates_from (game_of plan) (i + 1) words))
-        (length-extensions (256 * i) word (allowed_of plan word))
+    (length-extensions (256 * i) word (allowed_of plan word))
     ∙ ap (λ n. length (allowed_of plan word) + n) (count_by_words plan (i + 1) words)
     ∙ sym (sum_by-cons (λ word. length (allowed_of plan word)) word words)
 
@@ -92,7 +92,7 @@ pub word_keys : NoneIsZero → (held : Held) (place : ℕ) (word : Word)
 unfolding word_rows
 word_keys law held place word =
     All-filter (is_live_row held.state.mark (held.state.step + 1)) (λ (row : Row). row.key ≢ 0)
-        (map (row_of (game_of held.plan)) (extensions (256 * place) word (allowed_of held.plan word)))
+    (map (row_of (game_of held.plan)) (extensions (256 * place) word (allowed_of held.plan word)))
     (some_keys law held.plan (extensions (256 * place) word (allowed_of held.plan word)))
 
 -- numbers of candidates are below those of the word behind the last
@@ -102,10 +102,10 @@ numbers_below game few i [] = All-nil (λ c. c.number < 256 * (i + 0))
 numbers_below game few i (word ∷ words) =
     let most : length (game.allowed word) ≤ 256 = few word in
     All-append (λ c. c.number < 256 * (i + length (word ∷ words))) (extensions (256 * i) word (game.allowed word))
-        (candidates_from game (i + 1) words)
+    (candidates_from game (i + 1) words)
     (below (256 * i) (256 * (i + length (word ∷ words))) word (game.allowed word) (omega (arith, most)))
     (All-weaker (λ c. c.number < 256 * (i + 1 + length words)) (λ c. c.number < 256 * (i + length (word ∷ words)))
-        (λ c h. omega (arith, h)) (candidates_from game (i + 1) words) (numbers_below game few (i + 1) words))
+    (λ c h. omega (arith, h)) (candidates_from game (i + 1) words) (numbers_below game few (i + 1) words))
 
 rows_below : (game : Game) (m : ℕ) (cs : List Candidate) → All (λ c. c.number < m) cs
     → All (λ (row : Row). row.number < m) (map (row_of game) cs)
@@ -118,9 +118,9 @@ unfolding live_rows lives_of live candidates
 live_numbers held few =
     rows_below (game_of held.plan) (256 * length held.state.front) (lives_of (game_of held.plan) held.state)
     (All-filter _ (λ c. c.number < 256 * length held.state.front)
-        (candidates_from (game_of held.plan) 0 held.state.front)
+    (candidates_from (game_of held.plan) 0 held.state.front)
     (All-weaker (λ c. c.number < 256 * (0 + length held.state.front)) (λ c. c.number < 256 * length held.state.front)
-        (λ c h. omega (arith, h)) (candidates_from (game_of held.plan) 0 held.state.front)
+    (λ c h. omega (arith, h)) (candidates_from (game_of held.plan) 0 held.state.front)
     (numbers_below (game_of held.plan) few 0 held.state.front)))
 
 -- ---- one word
@@ -152,7 +152,7 @@ unfolding word_rows
 word_few law held place word inputs =
     let cs : List Candidate = extensions (256 * place) word (allowed_of held.plan word) in
     let short =
-        filter_short (is_live_row held.state.mark (held.state.step + 1)) (map (row_of (game_of held.plan)) cs) in
+    filter_short (is_live_row held.state.mark (held.state.step + 1)) (map (row_of (game_of held.plan)) cs) in
     let same = length-map cs (row_of (game_of held.plan)) in
     let count = length-extensions (256 * place) word (allowed_of held.plan word) in
     let few = few_after law held word inputs in
@@ -165,7 +165,7 @@ unfolding word_rows
 word_numbers law held place word inputs most =
     let n = few_after law held word inputs in
     All-filter (is_live_row held.state.mark (held.state.step + 1)) (λ (row : Row). row.number < 256 * (place + 1))
-        (map (row_of (game_of held.plan)) (extensions (256 * place) word (allowed_of held.plan word)))
+    (map (row_of (game_of held.plan)) (extensions (256 * place) word (allowed_of held.plan word)))
     (rows_below (game_of held.plan) (256 * (place + 1)) (extensions (256 * place) word (allowed_of held.plan word))
     (below (256 * place) (256 * (place + 1)) word (allowed_of held.plan word) (omega (arith, n, most))))
 
@@ -194,8 +194,8 @@ unfolding word_rows allowed_of
 word_is told held place word status state script pads rows new is_state is_status is_script are is =
     is
     ∙ (λ i. rows ++ live_among held
-        (child_rows held.plan.script (is_status i) (is_state i) (256 * place)
-        ((are ∙ (λ j. allowed_pads (is_script j).inputs.sets (ram_of (is_state j)))) i)))
+    (child_rows held.plan.script (is_status i) (is_state i) (256 * place)
+    ((are ∙ (λ j. allowed_pads (is_script j).inputs.sets (ram_of (is_state j)))) i)))
     ∙ ap (λ xs. rows ++ live_among held xs) (rows_are told held.plan word (256 * place) (allowed_of held.plan word))
 
 -- a word has as many pads as are allowed after it

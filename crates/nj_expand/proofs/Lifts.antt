@@ -29,7 +29,7 @@ filter-map : {X Y : Type 0} (p : Y → Bool) (f : X → Y) (xs : List X)
 filter-map p f [] = refl
 filter-map p f (x ∷ xs) =
     elim (p (f x)) as (λ b. cond b (f x ∷ filter p (map f xs)) (filter p (map f xs))
-        ≡ map f (cond b (x ∷ filter (λ x. p (f x)) xs) (filter (λ x. p (f x)) xs))) [
+    ≡ map f (cond b (x ∷ filter (λ x. p (f x)) xs) (filter (λ x. p (f x)) xs))) [
       | true ↦ ap (λ l. f x ∷ l) (filter-map p f xs)
       | false ↦ filter-map p f xs
     ]
@@ -66,7 +66,7 @@ unfolding row_of
 live_same game mark step c =
     let j = judged_of game c in
     ap (λ v. is_live_judged mark step (record { verdict = v; reward = j.reward; level = j.level }))
-        (verdict_same j.verdict)
+    (verdict_same j.verdict)
 
 -- the live rows are the rows of the live
 pub live-map : (game : Game) (mark : Mark) (step : ℕ) (cs : List Candidate)
@@ -75,7 +75,7 @@ unfolding live
 live-map game mark step cs =
     filter-map (is_live_row mark step) (row_of game) cs
     ∙ ap (map (row_of game)) (filter_agree (λ c. is_live_row mark step (row_of game c))
-            (λ c. is_live_judged mark step (judged_of game c)) (live_same game mark step) cs)
+    (λ c. is_live_judged mark step (judged_of game c)) (live_same game mark step) cs)
 
 -- the same of a search
 pub rows_of_lives : (held : Held) → live_rows held
@@ -101,10 +101,10 @@ module _ (game : Game) (law : Prefers) where
   put-map c (d ∷ ds) differ =
       let row = row_of game in
       ap (λ b. cond b (row c ∷ row d ∷ map row ds) (row d ∷ put_in is_row_before (row c) (map row ds)))
-          (before_same c d (All-head (λ d. c.number ≢ d.number) d ds differ))
+      (before_same c d (All-head (λ d. c.number ≢ d.number) d ds differ))
       ∙ elim (is_before game c d) as (λ b.
-          cond b (row c ∷ row d ∷ map row ds) (row d ∷ put_in is_row_before (row c) (map row ds))
-          ≡ map row (cond b (c ∷ d ∷ ds) (d ∷ put_in (is_before game) c ds))) [
+      cond b (row c ∷ row d ∷ map row ds) (row d ∷ put_in is_row_before (row c) (map row ds))
+      ≡ map row (cond b (c ∷ d ∷ ds) (d ∷ put_in (is_before game) c ds))) [
         | true ↦ refl
         | false ↦ ap (λ l. row d ∷ l) (put-map c ds (All-tail (λ d. c.number ≢ d.number) d ds differ))
       ]
@@ -118,7 +118,7 @@ module _ (game : Game) (law : Prefers) where
       ∙ put-map c (in_order (is_before game) cs)
       (All-in_order (is_before game) (λ d. c.number ≢ d.number) cs
       (All-weaker (λ later. c.number < later.number) (λ d. c.number ≢ d.number)
-          (λ d less same. absurd (omega (arith, less, same))) cs up.0))
+      (λ d less same. absurd (omega (arith, less, same))) cs up.0))
 
   wins-map : (cs : List Candidate) → filter is_win_row (map (row_of game) cs)
       ≡ map (row_of game) (filter (λ c. is_win (judged_of game c).verdict) cs)
@@ -126,7 +126,7 @@ module _ (game : Game) (law : Prefers) where
   wins-map cs =
       filter-map is_win_row (row_of game) cs
       ∙ ap (map (row_of game)) (filter_agree (λ c. is_win_row (row_of game c)) (λ c. is_win (judged_of game c).verdict)
-              (λ c. win_same (judged_of game c).verdict) cs)
+      (λ c. win_same (judged_of game c).verdict) cs)
 
   -- the winner's row is the winner among rows
   pub winner-map : (cs : List Candidate) → AreRising cs
@@ -135,7 +135,7 @@ module _ (game : Game) (law : Prefers) where
   winner-map cs up =
       ap (λ l. slice_get (in_order is_row_before l) 0) (wins-map cs)
       ∙ ap (λ l. slice_get l 0) (order-map (filter (λ c. is_win (judged_of game c).verdict) cs)
-              (filter_rises (λ c. is_win (judged_of game c).verdict) cs up))
+      (filter_rises (λ c. is_win (judged_of game c).verdict) cs up))
       ∙ slice_get-map (row_of game) (in_order (is_before game) (filter (λ c. is_win (judged_of game c).verdict) cs))
 
   -- rows have the same bucket where their candidates have it
@@ -150,7 +150,7 @@ module _ (game : Game) (law : Prefers) where
   kept-map even most quota cs up =
       ap (limited is_alike_row most quota) (order-map cs up)
       ∙ limited-map (row_of game) (is_alike game) is_alike_row most quota (alike_same even)
-          (in_order (is_before game) cs)
+      (in_order (is_before game) cs)
 
 module _ (game : Game) where
   fresh_same : (seen : Seen) (cs : List Candidate) (c : Candidate)
@@ -167,7 +167,7 @@ module _ (game : Game) where
   fresh-map seen cs =
       filter-map (is_fresh_row seen (map (row_of game) cs)) (row_of game) cs
       ∙ ap (map (row_of game)) (filter_agree (λ c. is_fresh_row seen (map (row_of game) cs) (row_of game c))
-              (is_fresh game seen cs) (fresh_same seen cs) cs)
+      (is_fresh game seen cs) (fresh_same seen cs) cs)
 
   -- the keys of rows, in order, are the candidates' generation
   pub generation-map : (cs : List Candidate) → generation_rows (map (row_of game) cs) ≡ generation game cs

@@ -29,13 +29,21 @@ use Rattle.nj_expand.proofs.Lifts.{map-map, top-map}
 -- the front's words, states and judgements, as the run of the kept reads them
 abbrev pub before_of : Plan → List Word → Before
 before_of plan words =
-    record { rom = rom_in plan; script = plan.script; images = map (image_at plan) words;
-        statuses = map (status_of plan) words }
+    record {
+      rom = rom_in plan;
+      script = plan.script;
+      images = map (image_at plan) words;
+      statuses = map (status_of plan) words;
+    }
 
 pub before_is : (plan : Plan) (machine : State) (most : ℕ) (pool : Front) (judged shown : List Judged)
     → machine ≡ power_on plan.cartridge → IsFront plan most pool judged → shown ≡ judged
-    → (let b : Before = record { rom = rom_of machine; script = plan.script; images = pool.images;
-            statuses = statuses_of shown } in b) ≡ before_of plan pool.words
+    → (let b : Before = record {
+      rom = rom_of machine;
+      script = plan.script;
+      images = pool.images;
+      statuses = statuses_of shown;
+    } in b) ≡ before_of plan pool.words
 unfolding rom_in judged_of
 before_is plan machine most pool judged shown on front same =
     let statuses : statuses_of shown ≡ map (status_of plan) pool.words =
@@ -51,13 +59,13 @@ pub record AreLawful (plan : Plan) : Type 0 where
       → state_of plan (word ++ pad ∷ []) ≡ held plan.script.hold pad (state_of plan word)
   pub judged : (word : Word) (pad : ℕ) → judged_of plan (word ++ pad ∷ [])
       ≡ judged_in plan.script.rules.rules (ram_of (state_of plan (word ++ pad ∷ []))) (status_of plan word)
-          (is_jammed (state_of plan (word ++ pad ∷ [])))
+      (is_jammed (state_of plan (word ++ pad ∷ [])))
 
 pub laws_of : (plan : Plan) → IsCartridge plan.cartridge
     → ((p : Plan) (word : Word) (pad : ℕ) → state_of p (word ++ pad ∷ []) ≡ held p.script.hold pad (state_of p word))
     → ((p : Plan) (word : Word) (pad : ℕ) → judged_of p (word ++ pad ∷ [])
     ≡ judged_in p.script.rules.rules (ram_of (state_of p (word ++ pad ∷ []))) (status_of p word)
-        (is_jammed (state_of p (word ++ pad ∷ []))))
+    (is_jammed (state_of p (word ++ pad ∷ []))))
     → ((p : Plan) (word : Word) → IsCartridge p.cartridge → of_image (rom_in p) (image_at p word) ≡ state_of p word)
     → AreLawful plan
 laws_of plan nrom state judged again =
@@ -70,7 +78,7 @@ module _ (plan : Plan) (laws : AreLawful plan) (words : List Word) where
   state_here c placed =
       let st = stands words (c.number / 256) c.parent placed in
       ap (λ x. held plan.script.hold c.pad (of_image (rom_in plan) x))
-          (get_or-map (image_at plan) words (c.number / 256) [] [] st.within ∙ ap (image_at plan) st.here)
+      (get_or-map (image_at plan) words (c.number / 256) [] [] st.within ∙ ap (image_at plan) st.here)
       ∙ ap (held plan.script.hold c.pad) (laws.again c.parent)
       ∙ sym (laws.state c.parent c.pad)
 
@@ -119,7 +127,7 @@ module _ (plan : Plan) (laws : AreLawful plan) (words : List Word) (ks : List Ca
   images_next =
       map-map (image_again (before_of plan words)) (row_of (game_of plan)) ks
       ∙ map_agree (λ c. image_again (before_of plan words) (row_of (game_of plan) c)) (λ c. image_at plan (word_of c))
-          (IsPlaced words) (image_here plan laws words) ks placed
+      (IsPlaced words) (image_here plan laws words) ks placed
       ∙ sym (map-map (image_at plan) word_of ks)
 
   judged_next : map (judged_again (before_of plan words)) (map (row_of (game_of plan)) ks)
@@ -127,7 +135,7 @@ module _ (plan : Plan) (laws : AreLawful plan) (words : List Word) (ks : List Ca
   judged_next =
       map-map (judged_again (before_of plan words)) (row_of (game_of plan)) ks
       ∙ map_agree (λ c. judged_again (before_of plan words) (row_of (game_of plan) c)) (λ c. judged_of plan (word_of c))
-          (IsPlaced words) (judged_here plan laws words) ks placed
+      (IsPlaced words) (judged_here plan laws words) ks placed
       ∙ sym (map-map (judged_of plan) word_of ks)
 
   words_next : child_words words (map birth_of (map (row_of (game_of plan)) ks)) ≡ map word_of ks
@@ -135,7 +143,7 @@ module _ (plan : Plan) (laws : AreLawful plan) (words : List Word) (ks : List Ca
       ap (map (child_word words)) (map-map birth_of (row_of (game_of plan)) ks)
       ∙ map-map (child_word words) (λ c. birth_of (row_of (game_of plan) c)) ks
       ∙ map_agree (λ c. child_word words (birth_of (row_of (game_of plan) c))) word_of (IsPlaced words)
-          (word_here plan laws words) ks placed
+      (word_here plan laws words) ks placed
 
 -- the pool of the next front
 abbrev pool_next : Plan → List ℕ → ℕ → ℕ → List Word → Front
@@ -152,8 +160,14 @@ module _ (plan : Plan) (laws : AreLawful plan) (most : ℕ) (pool : Front) (judg
   new_pool before limit other new was is next =
       next
       ∙ ap (next_front pool) (is ∙ ap₂ (λ b rs. pool_again b pool.base limit rs) was kept.rows_are)
-      ∙ (λ i. record { base = pool.base; limit = limit; images = images_next plan laws pool.words ks kept.placed i;
-              words = words_next plan laws pool.words ks kept.placed i; depth = pool.depth + 1; born = [] })
+      ∙ (λ i. record {
+        base = pool.base;
+        limit = limit;
+        images = images_next plan laws pool.words ks kept.placed i;
+        words = words_next plan laws pool.words ks kept.placed i;
+        depth = pool.depth + 1;
+        born = [];
+      })
 
   pub new_words : (before : Before) (limit : ℕ) (other new : Front) → before ≡ before_of plan pool.words
       → other ≡ pool_again before pool.base limit rows → new ≡ next_front pool other
@@ -171,7 +185,7 @@ module _ (plan : Plan) (laws : AreLawful plan) (most : ℕ) (pool : Front) (judg
         images = refl;
         judged_are =
             are ∙ ap₂ (λ b rs. map (judged_again b) rs) was kept.rows_are
-                ∙ judged_next plan laws pool.words ks kept.placed;
+            ∙ judged_next plan laws pool.words ks kept.placed;
         some = omega (arith, length-map ks word_of, some);
         few = omega (arith, length-map ks word_of, kept.few);
         base = front.base;
@@ -191,7 +205,7 @@ module _ (plan : Plan) (laws : AreLawful plan) (most : ℕ) (pool : Front) (judg
       subst (All (λ row. parent_of row < length pool.words)) (sym kept.rows_are)
       (All-map (λ row. parent_of row < length pool.words) (row_of (game_of plan)) ks
       (All-weaker (IsPlaced pool.words) (λ c. parent_of (row_of (game_of plan) c) < length pool.words)
-          placed_within ks kept.placed))
+      placed_within ks kept.placed))
 
   pub parents_within : All (λ row. parent_of row < length pool.images) rows
   parents_within = subst (λ n. All (λ row. parent_of row < n) rows) (sym image_count) rows_within
@@ -211,7 +225,7 @@ module _ (plan : Plan) (laws : AreLawful plan) (most : ℕ) (pool : Front) (judg
       let count : length rows ≡ length ks = ap length kept.rows_are ∙ length-map ks (row_of (game_of plan)) in
       let same : length pool.base ≡ len = front.size ∙ sym long in
       subst (λ n. length rows * (n + 16) ≤ most * (len + 16)) (sym same)
-          (mul-le-mul_right (len + 16) (omega (arith, count, kept.few)))
+      (mul-le-mul_right (len + 16) (omega (arith, count, kept.few)))
 
 -- ---- the machine
 
@@ -228,7 +242,7 @@ all_images plan machine most pool judged on front law =
     subst (λ m. All (IsImage (rom_of m)) pool.images) (sym on)
     (subst (All (IsImage (rom_of (power_on plan.cartridge)))) (sym front.images)
     (All-map (IsImage (rom_of (power_on plan.cartridge))) (image_at plan) pool.words
-        (λ k d lt. law (get_or pool.words k d))))
+    (λ k d lt. law (get_or pool.words k d))))
 
 -- ---- the state
 
@@ -241,12 +255,16 @@ pub mark_next : (game : Game) (ks : List Candidate) (rows : List Row) (mark : Ma
 unfolding raised
 mark_next game ks rows mark step tolerance top level until are is levels untils =
     let same : top ≡ top_level game ks = is ∙ ap top_of_rows are ∙ top-map game ks in
-    let made : (t : ℕ) (b : Bool) → (let m : Mark = record { level = cond b t mark.level;
-            until = cond b (step + tolerance) mark.until } in m)
-        ≡ cond b (record { level = t; until = step + tolerance }) mark =
-    λ t b. elim b as (λ b. (let m : Mark = record { level = cond b t mark.level;
-            until = cond b (step + tolerance) mark.until } in m)
-        ≡ cond b (record { level = t; until = step + tolerance }) mark) [
+    let made : (t : ℕ) (b : Bool) → (let m : Mark = record {
+      level = cond b t mark.level;
+      until = cond b (step + tolerance) mark.until;
+    } in m)
+    ≡ cond b (record { level = t; until = step + tolerance }) mark =
+    λ t b. elim b as (λ b. (let m : Mark = record {
+      level = cond b t mark.level;
+      until = cond b (step + tolerance) mark.until;
+    } in m)
+    ≡ cond b (record { level = t; until = step + tolerance }) mark) [
       | true ↦ refl
       | false ↦ refl
     ] in

@@ -50,9 +50,9 @@ module _ (plan : Plan) (laws : AreLawful plan) where
   unfolding stepped judged_at
   one_pad word pad =
       let state : held plan.script.hold pad (state_of plan word) ≡ state_of plan (word ++ pad ∷ []) =
-          sym (laws.state word pad) in
+      sym (laws.state word pad) in
       let judged : judged_at plan.script (let j : Judged = judged_of plan word in j.status.0)
-          (held plan.script.hold pad (state_of plan word)) ≡ judged_of plan (word ++ pad ∷ []) =
+      (held plan.script.hold pad (state_of plan word)) ≡ judged_of plan (word ++ pad ∷ []) =
       ap₂ (judged_at plan.script) (told_status plan word) state ∙ sym (laws.judged word pad) in
       λ i. record { state = state i; judged = judged i }
 
@@ -85,8 +85,14 @@ module _ (plan : Plan) (laws : AreLawful plan) where
   pool_is from base limit room words pool start same room_is is =
       is
       ∙ (λ i. pool_replayed plan.script (start i) (same i) (room_is i) words)
-      ∙ (λ i. record { base = image_at plan []; limit = room; images = images_are words i; words = words; depth = 0;
-              born = [] })
+      ∙ (λ i. record {
+        base = image_at plan [];
+        limit = room;
+        images = images_are words i;
+        words = words;
+        depth = 0;
+        born = [];
+      })
 
   -- and its judgements are theirs
   pub judged_is : (from : Reached) (words : List Word) (judged : List Judged) → from ≡ reached plan []
@@ -99,16 +105,20 @@ module _ (plan : Plan) (laws : AreLawful plan) where
       → from ≡ reached plan [] → base ≡ image_at plan [] → limit ≡ room
       → AreReplayed plan.script from base limit words again → AreRunAgain plan room words again
   run_again_is from base limit room words again start same room_is are =
-      record { pool = pool_is from base limit room words again.pool start same room_is are.pool;
-          judged = judged_is from words again.judged.items start are.judged }
+      record {
+        pool = pool_is from base limit room words again.pool start same room_is are.pool;
+        judged = judged_is from words again.judged.items start are.judged;
+      }
 
   -- the state and judgement of the start
   pub start_reached : (begun : Begun) → IsBegun plan begun
-      → (let r : Reached = record { state = of_image (rom_of begun.machine) begun.image.items;
-              judged = begun.judged } in r) ≡ reached plan []
+      → (let r : Reached = record {
+        state = of_image (rom_of begun.machine) begun.image.items;
+        judged = begun.judged;
+      } in r) ≡ reached plan []
   start_reached begun is =
       let state : of_image (rom_of begun.machine) begun.image.items ≡ state_of plan [] =
-          ap₂ of_image is.cartridge is.image ∙ laws.again [] in
+      ap₂ of_image is.cartridge is.image ∙ laws.again [] in
       λ i. record { state = state i; judged = is.judged i }
 
 -- ---- the words of a saved front
@@ -177,7 +187,7 @@ pub all_words : (task : Task) (place : ℕ) (again : Again) (room : ℕ) (machin
     → AreReplayed task.script task.from task.base task.limit (front_in task.saved) again
 all_words task place again room machine steps le run =
     let all : take place (front_in task.saved) ≡ front_in task.saved =
-        take_all place (front_in task.saved) (omega (arith, le, front_count task.saved)) in
+    take_all place (front_in task.saved) (omega (arith, le, front_count task.saved)) in
     record {
       pool = run.held ∙ ap (pool_replayed task.script task.from task.base task.limit) all;
       judged = run.told ∙ ap (map (judged_replayed task.script task.from)) all;
@@ -192,11 +202,11 @@ pool_push : (script : Record) (from : Reached) (base : List ℕ) (limit i : ℕ)
 unfolding pool_replayed
 pool_push script from base limit i words word image old new lt here shown was pushed =
     let images : map (image_replayed script from) (take i words) ++ image ∷ []
-        ≡ map (image_replayed script from) (take (i + 1) words) =
+    ≡ map (image_replayed script from) (take (i + 1) words) =
     ap (λ x. map (image_replayed script from) (take i words) ++ x ∷ []) (shown ∙ ap (image_replayed script from) here)
-        ∙ sym (map_more (image_replayed script from) words i [] lt) in
+    ∙ sym (map_more (image_replayed script from) words i [] lt) in
     let all : take i words ++ word ∷ [] ≡ take (i + 1) words =
-        ap (λ w. take i words ++ w ∷ []) here ∙ sym (take_more words i [] lt) in
+    ap (λ w. take i words ++ w ∷ []) here ∙ sym (take_more words i [] lt) in
     pushed ∙ ap (with_word image word) was
     ∙ (λ j. record { base = base; limit = limit; images = images j; words = all j; depth = 0; born = [] })
 
@@ -232,15 +242,15 @@ one_word task place pool pushed judged more room long machine moved steps after 
     let within : place < length (front_in task.saved) = omega (arith, lt, front_count task.saved) in
     let here : word ≡ get_or (front_in task.saved) place [] = is ∙ sym (front_at task.saved place lt) in
     let one : after ≤ steps + task.script.hold * task.saved.step =
-        subst (λ n. after ≤ steps + task.script.hold * n) len takes in
+    subst (λ n. after ≤ steps + task.script.hold * n) len takes in
     record {
       held =
           pool_push task.script task.from task.base task.limit place (front_in task.saved) word
-              image pool pushed within here
+          image pool pushed within here
           (shown ∙ ap (λ (r : Reached). image_of r.state) reaches) run.held pushes;
       told =
           judged_push (judged_replayed task.script task.from) (front_in task.saved) place word
-              told judged more within here
+          told judged more within here
           (ap (λ (r : Reached). r.judged) reaches) run.told adds;
       bytes = bytes_more place (length task.base) (length image) (bytes_held pool)
           (bytes_held pushed) bytes run.bytes size;

@@ -30,8 +30,16 @@ pub front_of : (plan : Plan) (most : ℕ) (words : List Word) (pool : Front) (ju
 unfolding pool_at
 front_of plan most words pool judged nrom some few long is are =
     subst (λ (p : Front). IsFront plan most p judged) (sym is)
-    (record { nrom = nrom; images = refl; judged_are = are; some = some; few = few; base = refl; size = long;
-        limit = refl })
+    (record {
+      nrom = nrom;
+      images = refl;
+      judged_are = are;
+      some = some;
+      few = few;
+      base = refl;
+      size = long;
+      limit = refl;
+    })
 
 -- a table that holds seen keys tells them
 pub told_table : ((words : List ℕ) (seen : Seen) (step : ℕ) → IsTable words → HoldsSeen words seen step
@@ -69,13 +77,29 @@ seen_from bounds saved =
 pub resumed_is : (plan : Plan) (bounds : Bounds) (saved : Saved) (words : List Word) (seen : Seen)
     → words ≡ front_in saved
     → forgotten bounds.slots (words_of saved * bounds.inputs) saved.generations ≡ seen
-    → (let h : Held = record { plan = plan; bounds = bounds;
-            state = record { step = saved.step; front = words; seen = seen;
-            mark = record { level = saved.level; until = saved.until } }; spent = false } in h)
-        ≡ resumed plan bounds saved
+    → (let h : Held = record {
+      plan = plan;
+      bounds = bounds;
+      state = record {
+        step = saved.step;
+        front = words;
+        seen = seen;
+        mark = record { level = saved.level; until = saved.until };
+      };
+      spent = false;
+    } in h)
+    ≡ resumed plan bounds saved
 unfolding resumed state_from state_in
 resumed_is plan bounds saved words seen are told =
     let keys : seen ≡ seen_of bounds (state_in saved) = sym told ∙ seen_from bounds saved in
-    λ i. record { plan = plan; bounds = bounds;
-            state = record { step = saved.step; front = are i; seen = keys i;
-            mark = record { level = saved.level; until = saved.until } }; spent = false }
+    λ i. record {
+      plan = plan;
+      bounds = bounds;
+      state = record {
+        step = saved.step;
+        front = are i;
+        seen = keys i;
+        mark = record { level = saved.level; until = saved.until };
+      };
+      spent = false;
+    }

@@ -16,7 +16,7 @@ concat_long n [] long = sym (zero-mul n)
 concat_long n (word ∷ words) long =
     let here : length word ≡ n = All-head (λ w. length w ≡ n) word words long in
     let rest : length (concat words) ≡ length words * n =
-        concat_long n words (All-tail (λ w. length w ≡ n) word words long) in
+    concat_long n words (All-tail (λ w. length w ≡ n) word words long) in
     let both = length-append word (concat words) in
     let more : suc (length words) * n ≡ length words * n + n = suc-mul (length words) n in
     omega (arith, here, rest, both, more)
@@ -32,7 +32,7 @@ later_word n k word rest long =
     let first : suc k * n ≡ n + k * n = omega (arith, suc-mul k n) in
     let skipped : drop (suc k * n) (word ++ rest) ≡ drop (k * n) rest =
     ap (λ m. drop m (word ++ rest)) first ∙ sym (drop-drop (k * n) n (word ++ rest))
-        ∙ ap (drop (k * n)) (drop_at word rest n long) in
+    ∙ ap (drop (k * n)) (drop_at word rest n long) in
     ap (take n) (sym skipped)
 
 -- the word at a place of these
@@ -56,10 +56,10 @@ pub front_again : (state : State) → CanBeSaved state → front_in (saved_of st
 unfolding front_in saved_of
 front_again state can =
     let count : length (concat state.front) / state.step ≡ length state.front =
-        count_words state.step state.front can.some can.long in
+    count_words state.step state.front can.some can.long in
     ap (λ n. map (word_at (concat state.front) state.step) (range_with_len 0 n)) count
     ∙ sym (fill_by_all (word_at (concat state.front) state.step) state.front (length state.front) [] refl
-        (word_here state.step state.front can.long))
+    (word_here state.step state.front can.long))
 
 pub state_again : (state : State) → CanBeSaved state → state_in (saved_of state) ≡ state
 unfolding state_in saved_of

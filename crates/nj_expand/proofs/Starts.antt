@@ -51,7 +51,7 @@ pub start_pool : (plan : Plan) (most : ℕ) (image : List ℕ) (pool : Front) �
     → pool ≡ one_state (most * (size_in plan + 16)) (image_at plan [])
 start_pool plan most image pool is long e =
     e ∙ ap (λ x. one_state (most * (length x + 16)) x) is
-        ∙ ap (λ n. one_state (most * (n + 16)) (image_at plan [])) long
+    ∙ ap (λ n. one_state (most * (n + 16)) (image_at plan [])) long
 
 -- the front of one state
 pub first_front : (plan : Plan) (most : ℕ) (pool : Front) (judged : List Judged) → IsCartridge plan.cartridge → 1 ≤ most
@@ -61,18 +61,37 @@ pub first_front : (plan : Plan) (most : ℕ) (pool : Front) (judged : List Judge
 unfolding one_state
 first_front plan most pool judged nrom some long is are =
     subst (λ (p : Front). IsFront plan most p judged) (sym is)
-        (record { nrom = nrom; images = refl; judged_are = are; some = omega arith; few = some; base = refl;
-        size = long; limit = refl })
+    (record {
+      nrom = nrom;
+      images = refl;
+      judged_are = are;
+      some = omega arith;
+      few = some;
+      base = refl;
+      size = long;
+      limit = refl;
+    })
 
 -- the search before its first step
 pub opened_is : (plan : Plan) (bounds : Bounds) (pool : Front) (seen : Seen) (level limit : ℕ)
     → pool ≡ one_state limit (image_at plan [])
     → seen ≡ (key_of plan [] ∷ []) ∷ [] → level ≡ (let j = judged_of plan [] in j.level)
-    → (let h : Held = record { plan = plan; bounds = bounds;
-            state = record { step = 0; front = pool.words; seen = seen; mark = record { level = level; until = 0 } };
-            spent = false } in h) ≡ opened plan bounds
+    → (let h : Held = record {
+      plan = plan;
+      bounds = bounds;
+      state = record { step = 0; front = pool.words; seen = seen; mark = record { level = level; until = 0 } };
+      spent = false;
+    } in h) ≡ opened plan bounds
 unfolding opened opening game_of one_state
 opened_is plan bounds pool seen level limit is told levels =
-    λ i. record { plan = plan; bounds = bounds;
-            state = record { step = 0; front = (let p : Front = is i in p.words); seen = told i;
-            mark = record { level = levels i; until = 0 } }; spent = false }
+    λ i. record {
+      plan = plan;
+      bounds = bounds;
+      state = record {
+        step = 0;
+        front = (let p : Front = is i in p.words);
+        seen = told i;
+        mark = record { level = levels i; until = 0 };
+      };
+      spent = false;
+    }

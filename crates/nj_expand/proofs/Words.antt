@@ -75,7 +75,7 @@ row_told_word plan word number pad = row_told plan.script number pad (state_of p
 same_row : (plan : Plan) (parent : Word) (number pad : ℕ) →
     let c : Candidate = record { number = number; parent = parent; pad = pad } in
     row_told plan.script number pad (state_of plan (parent ++ pad ∷ [])) (judged_of plan (parent ++ pad ∷ []))
-        ≡ row_of (game_of plan) c
+    ≡ row_of (game_of plan) c
 unfolding row_told row_of game_of key_at key_of judged_of bucket_of
 same_row plan parent number pad =
     let word = parent ++ pad ∷ [] in
@@ -95,11 +95,11 @@ same_row plan parent number pad =
 pub told_row : (plan : Plan) (word : Word) (pad number : ℕ) →
     state_of plan (word ++ pad ∷ []) ≡ held plan.script.hold pad (state_of plan word) →
     status_of plan (word ++ pad ∷ [])
-        ≡ status_after plan.script.rules.rules (ram_of (state_of plan (word ++ pad ∷ []))) (status_of plan word) →
+    ≡ status_after plan.script.rules.rules (ram_of (state_of plan (word ++ pad ∷ []))) (status_of plan word) →
     judged_of plan (word ++ pad ∷ []) ≡ judged_in plan.script.rules.rules (ram_of (state_of plan (word ++ pad ∷ [])))
-        (status_of plan word) (is_jammed (state_of plan (word ++ pad ∷ []))) →
+    (status_of plan word) (is_jammed (state_of plan (word ++ pad ∷ []))) →
     row_at plan.script (status_of plan word) (state_of plan word) pad number
-        ≡ row_of (game_of plan) (record { number = number; parent = word; pad = pad })
+    ≡ row_of (game_of plan) (record { number = number; parent = word; pad = pad })
 unfolding row_at judged_at
 told_row plan word pad number state status judged =
     ap (λ s. row_told plan.script number pad s (judged_at plan.script (status_of plan word) s)) (sym state)
@@ -120,7 +120,7 @@ sum_map : (f : List ℕ → ℕ) (g : Word → List ℕ) (words : List Word)
 sum_map f g [] = refl
 sum_map f g (word ∷ words) =
     sum_by-cons f (g word) (map g words)
-        ∙ (ap (λ n. f (g word) + n) (sum_map f g words) ∙ sym (sum_by-cons (λ w. f (g w)) word words))
+    ∙ (ap (λ n. f (g word) + n) (sum_map f g words) ∙ sym (sum_by-cons (λ w. f (g w)) word words))
 
 -- what the states of a front need
 pub front_needs : (plan : Plan) (base : List ℕ) (images words : List (List ℕ)) → images ≡ map (image_at plan) words

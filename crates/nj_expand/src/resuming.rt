@@ -47,7 +47,7 @@ fn replay<L: Ledger>(
 ) -> Judged
     requires image { IsImage (rom_of machine.old) image.now }
     ensures reached { let from : Reached =
-            record { state = of_image (rom_of machine.old) image.now; judged = judged } in
+        record { state = of_image (rom_of machine.old) image.now; judged = judged } in
         let to : Reached = record { state = machine.new; judged = result } in
         to ≡ replayed script.now from word.now }
     ensures cartridge { rom_of machine.new ≡ rom_of machine.old }
@@ -250,7 +250,7 @@ impl Search {
         requires front { let plan = plan_of cart script start in
             AreRunAgain plan (bounds.front * (size_in plan + 16)) (front_in saved.now) front }
         requires table { let seen =
-                forgotten (2 ^ bounds.exponent) (words_of saved.now * bounds.inputs) saved.now.generations in
+            forgotten (2 ^ bounds.exponent) (words_of saved.now * bounds.inputs) saved.now.generations in
             IsSeenTable table.0.items table.1 seen saved.now.step bounds.exponent }
         ensures { result ≡ resumed (plan_of cart script start) (bounds_of bounds script) saved.now }
     {

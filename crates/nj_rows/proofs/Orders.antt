@@ -50,7 +50,7 @@ module _ {X : Type 0} (before : X → X → Bool) where
           | true ↦ λ e. (
             All-cons (λ z. before z x ≡ false) y ys (order.one_way x y e)
                 (All-weaker (λ z. before z y ≡ false) (λ z. before z x ≡ false)
-                    (λ z h. order.chain z y x h (order.one_way x y e)) ys up.0),
+                (λ z h. order.chain z y x h (order.one_way x y e)) ys up.0),
             up,
           )
           | false ↦ λ e. (All-put_in before (λ z. before z y ≡ false) x ys e up.0, put_ascends x ys up.1)

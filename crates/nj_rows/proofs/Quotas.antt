@@ -23,10 +23,10 @@ pub not_kept : (most quota count : ℕ) (done : List Row) (row : Row) → count 
 not_kept most quota count done row counts full =
     ⊎_elim
     (λ (m : most ≤ length done). sym (ap (λ b. cond (b && nat_lt (count_by (is_alike_row row) done) quota)
-            (done ++ row ∷ []) done) (le-ltb (length done) most m)))
+    (done ++ row ∷ []) done) (le-ltb (length done) most m)))
     (λ (q : quota ≤ count). let over : quota ≤ count_by (is_alike_row row) done = omega (arith, q, counts) in
     elim (nat_lt (length done) most) as (λ b. done
-        ≡ cond (b && nat_lt (count_by (is_alike_row row) done) quota) (done ++ row ∷ []) done) [
+    ≡ cond (b && nat_lt (count_by (is_alike_row row) done) quota) (done ++ row ∷ []) done) [
       | true ↦ sym (ap (λ b. cond b (done ++ row ∷ []) done) (le-ltb (count_by (is_alike_row row) done) quota over))
       | false ↦ refl
     ]) full
@@ -38,7 +38,7 @@ pub is_kept : (most quota count : ℕ) (done : List Row) (row : Row) → count �
 is_kept most quota count done row counts room few =
     let below : count_by (is_alike_row row) done < quota = omega (arith, few, counts) in
     sym (ap (λ b. cond (b && nat_lt (count_by (is_alike_row row) done) quota) (done ++ row ∷ []) done)
-        (lt-ltb (length done) most room)
+    (lt-ltb (length done) most room)
     ∙ ap (λ b. cond b (done ++ row ∷ []) done) (lt-ltb (count_by (is_alike_row row) done) quota below))
 
 -- ---- the counts
@@ -51,8 +51,8 @@ same_back : (a b : List ℤ) → same_values a b ≡ false → same_values b a �
 same_back a b differ =
     false_from_ne_true (same_values b a) (λ t.
     both_ways (same_values a b) differ
-        ((slice_eq-Decides Decides-int_eq a b (same_values a b) refl).1
-        (sym ((slice_eq-Decides Decides-int_eq b a (same_values b a) refl).0 t))))
+    ((slice_eq-Decides Decides-int_eq a b (same_values a b) refl).1
+    (sym ((slice_eq-Decides Decides-int_eq b a (same_values b a) refl).0 t))))
 
 same_as : (a b : List ℤ) → same_values a b ≡ true → a ≡ b
 same_as a b t = (slice_eq-Decides Decides-int_eq a b (same_values a b) refl).0 t
@@ -61,26 +61,34 @@ module _ {S : Type 0} (counts after : HashMap (List ℤ) ℕ S) (rows : List Row
     (inside : kept < length rows) where
   more_counted : AreCounted rows counts n kept → count ≡ count_by (is_alike_row row) (take kept rows)
       → (bucket : List ℤ) → unwrap_or
-          (cond (same_values row.bucket bucket) (Some (count + 1)) (get same_values counts bucket)) 0
+      (cond (same_values row.bucket bucket) (Some (count + 1)) (get same_values counts bucket)) 0
       ≡ count_by (λ r. same_values bucket r.bucket) (take kept rows ++ row ∷ [])
   more_counted are is bucket =
       elim (same_values row.bucket bucket) as (λ b. same_values row.bucket bucket ≡ b
-          → unwrap_or (cond b (Some (count + 1)) (get same_values counts bucket)) 0
-          ≡ count_by (λ r. same_values bucket r.bucket) (take kept rows ++ row ∷ [])) [
+      → unwrap_or (cond b (Some (count + 1)) (get same_values counts bucket)) 0
+      ≡ count_by (λ r. same_values bucket r.bucket) (take kept rows ++ row ∷ [])) [
         | true ↦ λ t. (
             let same : row.bucket ≡ bucket = same_as row.bucket bucket t in
             let one : ◌≡◌ {A = ℕ} (cond (same_values bucket row.bucket) 1 0) 1 =
-                ap (λ b. cond {A = ℕ} b 1 0) (subst (λ (b : List ℤ). same_values b row.bucket ≡ true) same
-                    (subst (λ (b : List ℤ). same_values row.bucket b ≡ true) (sym same) t)) in
+            ap (λ b. cond {A = ℕ} b 1 0) (subst (λ (b : List ℤ). same_values b row.bucket ≡ true) same
+            (subst (λ (b : List ℤ). same_values row.bucket b ≡ true) (sym same) t)) in
             let old : count ≡ count_by (λ r. same_values bucket r.bucket) (take kept rows) =
-                is ∙ ap (λ (b : List ℤ). count_by (λ r. same_values b r.bucket) (take kept rows)) same in
-            omega (arith, sum_by_push (λ (r : Row). cond (same_values bucket r.bucket) 1 0) (take kept rows) row, one,
-                old))
+            is ∙ ap (λ (b : List ℤ). count_by (λ r. same_values b r.bucket) (take kept rows)) same in
+            omega (
+              arith,
+              sum_by_push (λ (r : Row). cond (same_values bucket r.bucket) 1 0) (take kept rows) row,
+              one,
+              old,
+            ))
         | false ↦ λ f. (
             let none : ◌≡◌ {A = ℕ} (cond (same_values bucket row.bucket) 1 0) 0 =
-                ap (λ b. cond {A = ℕ} b 1 0) (same_back row.bucket bucket f) in
-            omega (arith, sum_by_push (λ (r : Row). cond (same_values bucket r.bucket) 1 0) (take kept rows) row, none,
-                are.counted bucket))
+            ap (λ b. cond {A = ℕ} b 1 0) (same_back row.bucket bucket f) in
+            omega (
+              arith,
+              sum_by_push (λ (r : Row). cond (same_values bucket r.bucket) 1 0) (take kept rows) row,
+              none,
+              are.counted bucket,
+            ))
       ] refl
 
   -- with the row counted
@@ -126,7 +134,7 @@ module _ {S : Type 0} (all rows : List Row) (counts : HashMap (List ℤ) ℕ S) 
   pub one_gathered : {T : Type 0} (place kept : ℕ) (rows' : List Row) (counts' : HashMap (List ℤ) ℕ T) (kept' : ℕ)
       → place < length rows → AreGathered all rows counts n quota place kept
       → ((default : Row) → take kept' rows'
-          ≡ kept_with is_alike_row n quota (take kept rows) (get_or rows place default))
+      ≡ kept_with is_alike_row n quota (take kept rows) (get_or rows place default))
       → drop (place + 1) rows' ≡ drop (place + 1) rows → length rows' ≡ length rows → kept' ≤ place + 1
       → AreCounted rows' counts' n kept'
       → AreGathered all rows' counts' n quota (place + 1) kept'
@@ -135,7 +143,7 @@ module _ {S : Type 0} (all rows : List Row) (counts : HashMap (List ℤ) ℕ S) 
       let within : place < length all = omega (arith, inside, are.long) in
       let read : get_or rows place blank ≡ get_or all place blank =
       ap (λ i. get_or rows i blank) (sym at)
-          ∙ (sym (get_or-drop place rows 0 blank) ∙ (ap (λ l. get_or l 0 blank) are.rest
+      ∙ (sym (get_or-drop place rows 0 blank) ∙ (ap (λ l. get_or l 0 blank) are.rest
       ∙ (get_or-drop place all 0 blank ∙ ap (λ i. get_or all i blank) at))) in
       record {
         kept_are = keeps blank ∙ ap₂ (kept_with is_alike_row n quota) are.kept_are read

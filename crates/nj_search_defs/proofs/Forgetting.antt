@@ -27,7 +27,7 @@ module _ (slots room : ℕ) where
   All-forgotten P [] all = all
   All-forgotten P (keys ∷ rest) all =
       elim (nat_le (key_count (keys ∷ rest) + room) slots) as (λ b.
-          All P (cond b (keys ∷ rest) (forgotten slots room rest))) [
+      All P (cond b (keys ∷ rest) (forgotten slots room rest))) [
         | true ↦ all
         | false ↦ All-forgotten P rest (All-tail P keys rest all)
       ]
@@ -38,7 +38,7 @@ module _ (slots room : ℕ) where
   forgotten_once [] once = once
   forgotten_once (keys ∷ rest) once =
       elim (nat_le (key_count (keys ∷ rest) + room) slots) as (λ b.
-          AllPairs (λ a b. a ≢ b) (concat (cond b (keys ∷ rest) (forgotten slots room rest)))) [
+      AllPairs (λ a b. a ≢ b) (concat (cond b (keys ∷ rest) (forgotten slots room rest)))) [
         | true ↦ once
         | false ↦ forgotten_once rest (AllPairs-right (λ a b. a ≢ b) keys (concat rest) once)
       ]
@@ -48,7 +48,7 @@ module _ (slots room : ℕ) where
   forgotten_few (keys ∷ rest) =
       let less : length (forgotten slots room rest) ≤ length rest = forgotten_few rest in
       elim (nat_le (key_count (keys ∷ rest) + room) slots) as (λ b.
-          length (cond b (keys ∷ rest) (forgotten slots room rest)) ≤ length (keys ∷ rest)) [
+      length (cond b (keys ∷ rest) (forgotten slots room rest)) ≤ length (keys ∷ rest)) [
         | true ↦ omega arith
         | false ↦ omega (arith, less)
       ]
@@ -76,7 +76,7 @@ unfolding next kept_of fresh_of state_after lives_of
 same_step game bounds state =
     ap (λ (seen : Seen). won_or (winner game (lives_of game state))
     (exhausted_or (kept game bounds.most bounds.quota (fresh game seen (lives_of game state)))
-        (λ (ks : List Candidate). record {
+    (λ (ks : List Candidate). record {
       step = state.step + 1;
       front = map word_of ks;
       seen = seen ++ generation game (fresh game seen (lives_of game state)) ∷ [];

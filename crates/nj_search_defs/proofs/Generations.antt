@@ -34,7 +34,7 @@ module _ (game : Game) (seen : Seen) (lives : List Candidate) where
       not-true (list_any q lives) (and_parts (not (is_seen seen (key_of game d))) (not (list_any q lives)) is).1 in
       let here : q c ≡ true =
       ap (λ b. b && (key_of game c == key_of game d)) (lt-ltb c.number d.number less)
-          ∙ eq-eqb (key_of game c) (key_of game d) same in
+      ∙ eq-eqb (key_of game c) (key_of game d) same in
       both_ways (list_any q lives) none (list_any_at q lives stood.0 c stood.1 (ap q stood.2 ∙ here))
 
   fresh_apart : (cs : List Candidate) → All (Contains lives) cs → AreRising cs
@@ -42,14 +42,14 @@ module _ (game : Game) (seen : Seen) (lives : List Candidate) where
   fresh_apart [] stood up = AllPairs-nil (λ a b. a ≢ b)
   fresh_apart (c ∷ cs) stood up =
       let rest : AllPairs (λ a b. a ≢ b) (map (key_of game) (filter (is_fresh game seen lives) cs)) =
-          fresh_apart cs (All-tail (Contains lives) c cs stood) up.1 in
+      fresh_apart cs (All-tail (Contains lives) c cs stood) up.1 in
       elim (is_fresh game seen lives c) as (λ b.
-          AllPairs (λ a b. a ≢ b) (map (key_of game)
-              (cond b (c ∷ filter (is_fresh game seen lives) cs) (filter (is_fresh game seen lives) cs)))) [
+      AllPairs (λ a b. a ≢ b) (map (key_of game)
+      (cond b (c ∷ filter (is_fresh game seen lives) cs) (filter (is_fresh game seen lives) cs)))) [
         | true ↦ AllPairs-cons (λ a b. a ≢ b) (key_of game c) (map (key_of game) (filter (is_fresh game seen lives) cs))
             (All-map (λ k. key_of game c ≢ k) (key_of game) (filter (is_fresh game seen lives) cs)
             (λ k e lt. first_differs c (get_or (filter (is_fresh game seen lives) cs) k e)
-                (All-head (Contains lives) c cs stood)
+            (All-head (Contains lives) c cs stood)
             (All-filter (is_fresh game seen lives) (λ later. c.number < later.number) cs up.0 k e lt)
             (filter_passes (is_fresh game seen lives) cs k e lt))) rest
         | false ↦ rest
@@ -62,7 +62,7 @@ module _ (game : Game) (seen : Seen) (lives : List Candidate) where
       All-weaker (λ c. is_fresh game seen lives c ≡ true) (λ c. is_seen seen (key_of game c) ≡ false)
       (λ c is. not-true (is_seen seen (key_of game c))
       (and_parts (not (is_seen seen (key_of game c)))
-          (not (list_any (λ d. nat_lt d.number c.number && (key_of game d == key_of game c)) lives)) is).0)
+      (not (list_any (λ d. nat_lt d.number c.number && (key_of game d == key_of game c)) lives)) is).0)
       (filter (is_fresh game seen lives) cs) (filter_passes (is_fresh game seen lives) cs)
 
 -- a key that is not seen is none of the seen keys
@@ -71,7 +71,7 @@ not_among seen key none =
     All-concat (λ k. k ≢ key) seen
     (All-weaker (λ keys. list_any (λ k. k == key) keys ≡ false) (All (λ k. k ≢ key))
     (λ keys no. All-weaker (λ k. (k == key) ≡ false) (λ k. k ≢ key)
-        (λ k e same. both_ways (k == key) e (eq-eqb k key same)) keys (none_passes (λ k. k == key) keys no))
+    (λ k e same. both_ways (k == key) e (eq-eqb k key same)) keys (none_passes (λ k. k == key) keys no))
     seen (none_passes (list_any (λ k. k == key)) seen none))
 
 -- ---- how many candidates there are
@@ -86,12 +86,12 @@ few_candidates : (game : Game) (inputs : ℕ) → ((word : Word) → length (gam
 few_candidates game inputs few i [] = omega arith
 few_candidates game inputs few i (word ∷ words) =
     let own : length (extensions (256 * i) word (game.allowed word)) ≡ length (game.allowed word) =
-        length-extensions (256 * i) word (game.allowed word) in
+    length-extensions (256 * i) word (game.allowed word) in
     let most : length (game.allowed word) ≤ inputs = few word in
     let rest : length (candidates_from game (i + 1) words) ≤ length words * inputs =
-        few_candidates game inputs few (i + 1) words in
+    few_candidates game inputs few (i + 1) words in
     let both : length (candidates_from game i (word ∷ words)) ≡ length (extensions (256 * i) word (game.allowed word))
-        + length (candidates_from game (i + 1) words) =
+    + length (candidates_from game (i + 1) words) =
     length-append (extensions (256 * i) word (game.allowed word)) (candidates_from game (i + 1) words) in
     let times : length (word ∷ words) * inputs ≡ length words * inputs + inputs = suc-mul (length words) inputs in
     omega (arith, own, most, rest, both, times)
@@ -120,15 +120,15 @@ module _ (game : Game) (bounds : Bounds) (state : State) where
   unfolding generation
   All-generation P every =
       All-in_order nat_lt P (map (key_of game) (fresh_of game bounds state))
-          (All-map P (key_of game) (fresh_of game bounds state)
-          (λ k d lt. every (word_of (get_or (fresh_of game bounds state) k d))))
+      (All-map P (key_of game) (fresh_of game bounds state)
+      (λ k d lt. every (word_of (get_or (fresh_of game bounds state) k d))))
 
   keys_differ : ((word : Word) → length (game.allowed word) ≤ 256)
       → AllPairs (λ a b. a ≢ b) (map (key_of game) (fresh_of game bounds state))
   unfolding fresh_of fresh
   keys_differ few =
       fresh_apart game (seen_of bounds state) (lives_of game state) (lives_of game state)
-          (All-contains_itself (lives_of game state)) (lives_rise game state few)
+      (All-contains_itself (lives_of game state)) (lives_rise game state few)
 
   -- each key of the generation is below all later ones
   pub generation_up : ((word : Word) → length (game.allowed word) ≤ 256)
@@ -142,12 +142,12 @@ module _ (game : Game) (bounds : Bounds) (state : State) where
   unfolding generation fresh_of fresh
   generation_new =
       let new : List Candidate =
-          filter (is_fresh game (seen_of bounds state) (lives_of game state)) (lives_of game state) in
+      filter (is_fresh game (seen_of bounds state) (lives_of game state)) (lives_of game state) in
       let each : All (λ b. All (λ a. a ≢ b) (concat (seen_of bounds state))) (in_order nat_lt (map (key_of game) new)) =
       All-in_order nat_lt (λ b. All (λ a. a ≢ b) (concat (seen_of bounds state))) (map (key_of game) new)
       (All-map (λ b. All (λ a. a ≢ b) (concat (seen_of bounds state))) (key_of game) new
       (All-weaker (λ c. is_seen (seen_of bounds state) (key_of game c) ≡ false)
-          (λ c. All (λ a. a ≢ key_of game c) (concat (seen_of bounds state)))
+      (λ c. All (λ a. a ≢ key_of game c) (concat (seen_of bounds state)))
       (λ c e. not_among (seen_of bounds state) (key_of game c) e) new
       (fresh_unseen game (seen_of bounds state) (lives_of game state) (lives_of game state)))) in
       λ k d kl j e jl. each j e jl k d kl
@@ -156,18 +156,18 @@ module _ (game : Game) (bounds : Bounds) (state : State) where
   unfolding generation
   length-generation =
       length-in_order nat_lt (map (key_of game) (fresh_of game bounds state))
-          ∙ length-map (fresh_of game bounds state) (key_of game)
+      ∙ length-map (fresh_of game bounds state) (key_of game)
 
   fresh_few : (inputs : ℕ) → ((word : Word) → length (game.allowed word) ≤ inputs)
       → length (fresh_of game bounds state) ≤ length state.front * inputs
   unfolding fresh_of fresh lives_of live candidates
   fresh_few inputs few =
       let all : length (candidates game state.front) ≤ length state.front * inputs =
-          few_candidates game inputs few 0 state.front in
+      few_candidates game inputs few 0 state.front in
       let some : length (lives_of game state) ≤ length (candidates game state.front) =
-          filter_few _ (candidates game state.front) in
+      filter_few _ (candidates game state.front) in
       let fewer : length (fresh_of game bounds state) ≤ length (lives_of game state) =
-          filter_few _ (lives_of game state) in
+      filter_few _ (lives_of game state) in
       omega (arith, all, some, fewer)
 
   -- its keys are no more than the pads that may follow the front's words
@@ -181,5 +181,5 @@ module _ (game : Game) (bounds : Bounds) (state : State) where
   unfolding kept_of
   generation_some some =
       let fresh_some : 1 ≤ length (fresh_of game bounds state) =
-          kept_from game bounds.most bounds.quota (fresh_of game bounds state) some in
+      kept_from game bounds.most bounds.quota (fresh_of game bounds state) some in
       omega (arith, length-generation, fresh_some)

@@ -58,7 +58,7 @@ unfolding seen_of
 forgetting_is_sound bounds slots levels latest state sound =
     let seen : AreSound bounds.slots state.step (seen_of bounds state) =
     left_sound bounds.slots (length state.front * bounds.inputs) slots state.step state.seen
-        (of_state bounds.most slots levels latest state sound) in
+    (of_state bounds.most slots levels latest state sound) in
     record {
       some = sound.some;
       few = sound.few;
@@ -85,7 +85,7 @@ module _ (slots step : ℕ) (seen : Seen) (keys : List ℕ) (sound : AreSound sl
         (All-cons (λ ks. 1 ≤ length ks) keys [] some (All-nil (λ ks. 1 ≤ length ks)));
     rising = All-append (λ ks. IsStrictlyIncreasing (0 ∷ ks)) seen (keys ∷ []) sound.rising
         (All-cons (λ ks. IsStrictlyIncreasing (0 ∷ ks)) keys [] (up_from_0 keys up keyed)
-            (All-nil (λ ks. IsStrictlyIncreasing (0 ∷ ks))));
+        (All-nil (λ ks. IsStrictlyIncreasing (0 ∷ ks))));
     once = subst (AllPairs (λ a b. a ≢ b)) (sym (concat_push seen keys))
         (AllPairs-append (λ a b. a ≢ b) (concat seen) keys sound.once (up_differ keys up) new);
     fit = All-append (All (λ key. key < 2 ^ 64)) seen (keys ∷ []) sound.fit
@@ -107,7 +107,7 @@ module _ (game : Game) (levels latest step tolerance : ℕ) (cs : List Candidate
   unfolding raised
   mark_level few low =
       elim (nat_lt mark.level (top_level game cs)) as (λ b.
-          (cond b (record { level = top_level game cs; until = step + tolerance }) mark).level ≤ levels) [
+      (cond b (record { level = top_level game cs; until = step + tolerance }) mark).level ≤ levels) [
         | true ↦ top_within game levels few cs
         | false ↦ low
       ]
@@ -116,7 +116,7 @@ module _ (game : Game) (levels latest step tolerance : ℕ) (cs : List Candidate
   unfolding raised
   mark_until within low =
       elim (nat_lt mark.level (top_level game cs)) as (λ b.
-          (cond b (record { level = top_level game cs; until = step + tolerance }) mark).until ≤ latest) [
+      (cond b (record { level = top_level game cs; until = step + tolerance }) mark).until ≤ latest) [
         | true ↦ within
         | false ↦ low
       ]
@@ -136,19 +136,19 @@ module _ (game : Game) (bounds : Bounds) (levels latest : ℕ) (made : IsWellMad
   seen_after : (state new : State) → IsSound bounds.most bounds.slots levels latest state
       → next game bounds state ≡ Goes new
       → AreSound bounds.slots (state.step + 1)
-          (seen_of bounds state ++ generation game (fresh_of game bounds state) ∷ [])
+      (seen_of bounds state ++ generation game (fresh_of game bounds state) ∷ [])
   unfolding seen_of
   seen_after state new sound goes =
       let room : ℕ = length state.front * bounds.inputs in
       let few : length (generation game (fresh_of game bounds state)) ≤ length state.front * bounds.inputs =
-          generation_few game bounds state bounds.inputs made.allowed in
+      generation_few game bounds state bounds.inputs made.allowed in
       let fits : key_count (seen_of bounds state) + length (generation game (fresh_of game bounds state))
-          ≤ bounds.slots =
+      ≤ bounds.slots =
       forgotten_fits bounds.slots room (length (generation game (fresh_of game bounds state))) few
-          (omega (arith, few, candidates_fit state.front sound.few)) state.seen in
+      (omega (arith, few, candidates_fit state.front sound.few)) state.seen in
       with_generation bounds.slots state.step (seen_of bounds state) (generation game (fresh_of game bounds state))
       (left_sound bounds.slots room bounds.slots state.step state.seen
-          (of_state bounds.most bounds.slots levels latest state sound))
+      (of_state bounds.most bounds.slots levels latest state sound))
       (generation_some game bounds state (some_kept game bounds state new goes))
       (generation_up game bounds state few_bytes)
       (All-generation game bounds state (λ key. key ≢ 0) made.keyed)
@@ -162,7 +162,7 @@ module _ (game : Game) (bounds : Bounds) (levels latest : ℕ) (made : IsWellMad
   step_is_sound state new within sound goes =
       let to : state_after game bounds state (kept_of game bounds state) ≡ new = goes_to game bounds state new goes in
       let seen : AreSound bounds.slots new.step new.seen =
-          subst (λ (s : State). AreSound bounds.slots s.step s.seen) to (seen_after state new sound goes) in
+      subst (λ (s : State). AreSound bounds.slots s.step s.seen) to (seen_after state new sound goes) in
       record {
         some = some_word game bounds state new goes;
         few = front_is_bounded game bounds state new goes;
@@ -224,9 +224,9 @@ openings_are_sound game bounds levels latest made =
     let keys : List ℕ = game.key [] ∷ [] in
     let up : AllPairs (λ a b. a < b) (game.key [] ∷ []) = λ i j d lt within. absurd (omega (arith, lt, within)) in
     let keyed : All (λ key. key ≢ 0) (game.key [] ∷ []) =
-        All-cons (λ key. key ≢ 0) (game.key []) [] (made.keyed []) (All-nil (λ key. key ≢ 0)) in
+    All-cons (λ key. key ≢ 0) (game.key []) [] (made.keyed []) (All-nil (λ key. key ≢ 0)) in
     let fit : All (λ key. key < 2 ^ 64) (game.key [] ∷ []) =
-        All-cons (λ key. key < 2 ^ 64) (game.key []) [] (made.fit []) (All-nil (λ key. key < 2 ^ 64)) in
+    All-cons (λ key. key < 2 ^ 64) (game.key []) [] (made.fit []) (All-nil (λ key. key < 2 ^ 64)) in
     record {
       some = omega arith;
       few = omega (arith, made.some);

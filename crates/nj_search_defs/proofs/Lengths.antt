@@ -43,7 +43,7 @@ unfolding next
 some_kept game bounds state new h =
     exhausted_or-some (kept_of game bounds state) (state_after game bounds state) new
     (won_or-Goes (winner game (lives_of game state))
-        (exhausted_or (kept_of game bounds state) (state_after game bounds state)) new h)
+    (exhausted_or (kept_of game bounds state) (state_after game bounds state)) new h)
 
 -- so its front has some word
 pub some_word : (game : Game) (bounds : Bounds) (state new : State) → next game bounds state ≡ Goes new
@@ -115,11 +115,14 @@ ends : (game : Game) (bounds : Bounds) (limit left : ℕ) (state : State) → st
 unfolding Ends searched
 ends game bounds limit zero state all even =
     let e : state.step ≡ limit = omega arith in
-    record { step = e; some = even.some;
-        long = subst (λ (n : ℕ). All (λ word. length word ≡ n) state.front) e even.long }
+    record {
+      step = e;
+      some = even.some;
+      long = subst (λ (n : ℕ). All (λ word. length word ≡ n) state.front) e even.long;
+    }
 ends game bounds limit (suc left) state all even =
     ends_by limit left state (next game bounds state) (searched game bounds left) all
-        (leads game bounds state (next game bounds state) even refl)
+    (leads game bounds state (next game bounds state) even refl)
     (λ s rest even'. ends game bounds limit left s rest even')
 
 opens_even : (game : Game) → IsEven (opening game)

@@ -17,8 +17,8 @@ module _ {X : Type 0} (alike : X → X → Bool) (most quota : ℕ) where
       elim (has_room done x) as (λ b. has_room done x ≡ b → length (cond b (done ++ x ∷ []) done) ≤ most) [
         | true ↦ λ room. (
             let below : length done < most =
-                ltb-true (length done) most (and_parts (nat_lt (length done) most)
-                    (nat_lt (count_by (alike x) done) quota) room).0 in
+            ltb-true (length done) most (and_parts (nat_lt (length done) most)
+            (nat_lt (count_by (alike x) done) quota) room).0 in
             let more : length (done ++ x ∷ []) ≡ length done + 1 = length_push done x in
             omega (arith, below, more))
         | false ↦ λ full. few
@@ -44,7 +44,7 @@ module _ {X : Type 0} (alike : X → X → Bool) (most quota : ℕ) where
   holds_from P done [] all rest = all
   holds_from P done (x ∷ xs) all rest =
       holds_from P (kept_with alike most quota done x) xs
-          (one_holds P done x all (All-head P x xs rest)) (All-tail P x xs rest)
+      (one_holds P done x all (All-head P x xs rest)) (All-tail P x xs rest)
 
   -- what holds of each member holds of each that is kept
   pub All-limited : (P : X → Type 0) (xs : List X) → All P xs → All P (limited alike most quota xs)
@@ -58,7 +58,7 @@ module _ {X : Type 0} (alike : X → X → Bool) (most quota : ℕ) where
         let counted : count_by (alike x) done ≤ length done = count_by-le-length (alike x) done in
         let below : count_by (alike x) done < quota = omega (arith, room, large, counted) in
         ap (λ b. cond (b && nat_lt (count_by (alike x) done) quota) (done ++ x ∷ []) done)
-            (lt-ltb (length done) most room)
+        (lt-ltb (length done) most room)
         ∙ ap (λ b. cond b (done ++ x ∷ []) done) (lt-ltb (count_by (alike x) done) quota below)
 
     kept_full : (done : List X) (x : X) → most ≤ length done → kept_with alike most quota done x ≡ done
@@ -95,12 +95,12 @@ module _ {X : Type 0} (alike : X → X → Bool) (most quota : ℕ) where
     same_count a is (z ∷ zs) =
         sum_by-cons (λ w. cond (alike y w) 1 0) z zs
         ∙ (ap₂ (λ b n. cond b 1 0 + n) (same y a is z) (same_count a is zs)
-            ∙ sym (sum_by-cons (λ w. cond (alike a w) 1 0) z zs))
+        ∙ sym (sum_by-cons (λ w. cond (alike a w) 1 0) z zs))
 
     by_like : (done : List X) (x : X) (b : Bool) → alike y x ≡ b → count_by (alike x) done < quota
         → count_by (alike y) done ≤ quota →
         count_by (alike y) (done ++ x ∷ []) ≡ count_by (alike y) done + cond (alike y x) 1 0
-            → count_by (alike y) (done ++ x ∷ []) ≤ quota
+        → count_by (alike y) (done ++ x ∷ []) ≤ quota
     by_like done x true is below few more =
         let one : ◌≡◌ {A = ℕ} (cond (alike y x) 1 0) 1 = ap (λ b. cond {A = ℕ} b 1 0) is in
         let count : count_by (alike y) done ≡ count_by (alike x) done = same_count x is done in
@@ -113,10 +113,10 @@ module _ {X : Type 0} (alike : X → X → Bool) (most quota : ℕ) where
         → count_by (alike y) (kept_with alike most quota done x) ≤ quota
     one_within done x few =
         elim (has_room done x) as (λ b. has_room done x ≡ b
-            → count_by (alike y) (cond b (done ++ x ∷ []) done) ≤ quota) [
+        → count_by (alike y) (cond b (done ++ x ∷ []) done) ≤ quota) [
           | true ↦ λ room. by_like done x (alike y x) refl
               (ltb-true (count_by (alike x) done) quota
-                      (and_parts (nat_lt (length done) most) (nat_lt (count_by (alike x) done) quota) room).1) few
+              (and_parts (nat_lt (length done) most) (nat_lt (count_by (alike x) done) quota) room).1) few
               (sum_by_push (λ z. cond (alike y z) 1 0) done x)
           | false ↦ λ full. few
         ] refl
@@ -144,9 +144,9 @@ module _ {X Y : Type 0} (f : X → Y) (alike : X → X → Bool) (alike' : Y →
       → kept_with alike' most quota (map f done) (f x) ≡ map f (kept_with alike most quota done x)
   one-map done x =
       ap₂ (λ n m. cond (nat_lt n most && nat_lt m quota) (map f done ++ f x ∷ []) (map f done))
-          (length-map done f) (count-map x done)
+      (length-map done f) (count-map x done)
       ∙ elim (nat_lt (length done) most && nat_lt (count_by (alike x) done) quota) as (λ b.
-          cond b (map f done ++ f x ∷ []) (map f done) ≡ map f (cond b (done ++ x ∷ []) done)) [
+      cond b (map f done ++ f x ∷ []) (map f done) ≡ map f (cond b (done ++ x ∷ []) done)) [
         | true ↦ sym (map_push f done x)
         | false ↦ refl
       ]
@@ -156,7 +156,7 @@ module _ {X Y : Type 0} (f : X → Y) (alike : X → X → Bool) (alike' : Y →
   from-map [] done = refl
   from-map (x ∷ xs) done =
       ap (λ d. fold (kept_with alike' most quota) d (map f xs)) (one-map done x)
-          ∙ from-map xs (kept_with alike most quota done x)
+      ∙ from-map xs (kept_with alike most quota done x)
 
   -- what is kept of the images are the images of what is kept
   pub limited-map : (xs : List X) → limited alike' most quota (map f xs) ≡ map f (limited alike most quota xs)

@@ -27,16 +27,16 @@ from : (n : ℕ) (word : Word) (pads : List ℕ) → All (λ c. n ≤ c.number) 
 from n word [] = All-nil (λ c. n ≤ c.number)
 from n word (pad ∷ pads) =
     All-cons (λ c. n ≤ c.number) (record { number = n; parent = word; pad = pad })
-        (extensions (n + 1) word pads) (omega arith)
+    (extensions (n + 1) word pads) (omega arith)
     (All-weaker (λ c. n + 1 ≤ c.number) (λ c. n ≤ c.number) (λ c h. omega (arith, h)) (extensions (n + 1) word pads)
-        (from (n + 1) word pads))
+    (from (n + 1) word pads))
 
 pub below : (n m : ℕ) (word : Word) (pads : List ℕ) → n + length pads ≤ m
     → All (λ c. c.number < m) (extensions n word pads)
 below n m word [] h = All-nil (λ c. c.number < m)
 below n m word (pad ∷ pads) h =
     All-cons (λ c. c.number < m) (record { number = n; parent = word; pad = pad })
-        (extensions (n + 1) word pads) (omega (arith, h))
+    (extensions (n + 1) word pads) (omega (arith, h))
     (below (n + 1) m word pads (omega (arith, h)))
 
 extensions_rise : (n : ℕ) (word : Word) (pads : List ℕ) → AreRising (extensions n word pads)
@@ -52,10 +52,10 @@ candidates_start : (game : Game) (i : ℕ) (words : List Word)
 candidates_start game i [] = All-nil (λ c. 256 * i ≤ c.number)
 candidates_start game i (word ∷ words) =
     All-append (λ c. 256 * i ≤ c.number) (extensions (256 * i) word (game.allowed word))
-        (candidates_from game (i + 1) words)
+    (candidates_from game (i + 1) words)
     (from (256 * i) word (game.allowed word))
     (All-weaker (λ c. 256 * (i + 1) ≤ c.number) (λ c. 256 * i ≤ c.number) (λ c h. omega (arith, h))
-        (candidates_from game (i + 1) words) (candidates_start game (i + 1) words))
+    (candidates_from game (i + 1) words) (candidates_start game (i + 1) words))
 
 candidates_rise : (game : Game) → ((word : Word) → length (game.allowed word) ≤ 256) → (i : ℕ) (words : List Word)
     → AreRising (candidates_from game i words)

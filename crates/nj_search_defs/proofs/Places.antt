@@ -37,7 +37,7 @@ made game front i (word ∷ words) most rest =
     let here : slice_get front i ≡ Some word = ap (slice_get front) (omega arith) ∙ rest 0 in
     All-append (IsPlaced front) (extensions (256 * i) word (game.allowed word)) (candidates_from game (i + 1) words)
     (extended front i 0 (256 * i) word (game.allowed word) here (omega arith)
-        (let m : length (game.allowed word) ≤ 256 = most word in omega arith))
+    (let m : length (game.allowed word) ≤ 256 = most word in omega arith))
     (made game front (i + 1) words most (λ j. ap (slice_get front) (omega arith) ∙ rest (suc j)))
 
 lives_are_placed : (game : Game) (state : State) → ((word : Word) → length (game.allowed word) ≤ 256)

@@ -32,7 +32,7 @@ since_none : (from : ℕ) (x : Option ℕ) → owner_since from x ≡ None → i
 since_none from None e = refl
 since_none from (Some o) e =
     false_from_ne_true (is_owner_since from (Some o))
-        (λ t. let f : Some o ≡ None = sym (ap (λ b. if b then Some o else None) t) ∙ e in absurd (cc))
+    (λ t. let f : Some o ≡ None = sym (ap (λ b. if b then Some o else None) t) ∙ e in absurd (cc))
 
 pub since_seen : (words : List ℕ) (seen : Seen) (step from key : ℕ) → HoldsSeen words seen step
     → is_owner_since from (owner_in words key) ≡ is_seen (drop (from - oldest_step step seen) seen) key
@@ -52,27 +52,27 @@ since_seen words seen step from key holds = go (owner_since from (owner_in words
       since_none from (owner_in words key) e
       ∙ sym (false_from_ne_true (is_seen (drop (from - oldest_step step seen) seen) key) (λ t.
       let h = has_some first (drop (from - oldest_step step seen) seen) key
-          (in_seen key (drop (from - oldest_step step seen) seen) t) in
+      (in_seen key (drop (from - oldest_step step seen) seen) t) in
       let f : None ≡ Some h.0 = sym e ∙ (owners_since words seen step from holds key ∙ h.1) in absurd (cc)))
   go (Some o) e =
       since_some from o (owner_in words key) e
       ∙ sym (is_seen_in key (drop (from - oldest_step step seen) seen)
-          (some_has first (drop (from - oldest_step step seen) seen) key o
-          (sym (owners_since words seen step from holds key) ∙ e)))
+      (some_has first (drop (from - oldest_step step seen) seen) key o
+      (sym (owners_since words seen step from holds key) ∙ e)))
 
 -- one row more of those whose keys are looked up
 pub one_unseen : (words : List ℕ) (seen : Seen) (step from : ℕ) → HoldsSeen words seen step
     → (rows : List Row) (i : ℕ) (default : Row) (has has' : ℕ → Bool) (fresh fresh' : List Row) (first : Bool)
     → i < length rows → IsRising rows → IsMet (drop (from - oldest_step step seen) seen) rows i has fresh
     → first ≡ (not (has (get_or rows i default).key)
-            && not (is_owner_since from (owner_in words (get_or rows i default).key)))
+    && not (is_owner_since from (owner_in words (get_or rows i default).key)))
     → ((key : ℕ) → has' key ≡ (has key || ((get_or rows i default).key == key)))
     → fresh' ≡ fresh ++ (if first then get_or rows i default ∷ [] else [])
     → IsMet (drop (from - oldest_step step seen) seen) rows (i + 1) has' fresh'
 one_unseen words seen step from holds rows i default has has' fresh fresh' first lt rises met tells adds pushed =
     one_met (drop (from - oldest_step step seen) seen) rows i default has has' fresh fresh' first lt rises met
     (tells ∙ ap (λ b. not (has (get_or rows i default).key) && not b)
-            (since_seen words seen step from (get_or rows i default).key holds)) adds pushed
+    (since_seen words seen step from (get_or rows i default).key holds)) adds pushed
 
 -- ---- the keys of the fresh rows
 
@@ -93,21 +93,21 @@ fresh_unowned words seen step rows key holds i = go (owner_in words key) refl wh
   go (Some o) e =
       let f = of_fresh_key seen rows key i in
       absurd (both_ways (is_seen seen key) (ap (is_seen seen) (sym f.3) ∙ fresh_unseen seen rows f.0 f.2)
-              (owner_seen words seen step key o holds e))
+      (owner_seen words seen step key o holds e))
 
 pub all_unowned : (words : List ℕ) (seen : Seen) (step : ℕ) (rows : List Row) → HoldsSeen words seen step
     → All (λ key. owner_in words key ≡ None) (keys_in_rows (fresh_rows seen rows))
 all_unowned words seen step rows holds k d lt =
     let keys : List ℕ = keys_in_rows (fresh_rows seen rows) in
     fresh_unowned words seen step rows (get_or keys k d) holds
-        (in_list (get_or keys k d) keys (Contains-get_or keys k d lt))
+    (in_list (get_or keys k d) keys (Contains-get_or keys k d lt))
 
 pub fresh_differ : (seen : Seen) (rows : List Row) → IsRising rows
     → AllPairs (λ a b. a ≢ b) (keys_in_rows (fresh_rows seen rows))
 unfolding fresh_rows
 fresh_differ seen rows rises =
     differ (keys_of (filter (is_fresh_row seen rows) rows))
-        (distinct_fresh rows (is_fresh_row seen rows) (fresh_first seen rows) rows (λ r i. i) rises)
+    (distinct_fresh rows (is_fresh_row seen rows) (fresh_first seen rows) rows (λ r i. i) rises)
 
 filter_few : (p : Row → Bool) (rows : List Row) → length (filter p rows) ≤ length rows
 filter_few p [] = omega arith
@@ -131,22 +131,22 @@ same_keys seen rows key =
     ⊎_elim
     (λ (t : list_any (λ k. k == key) (keys_in_rows (fresh_rows seen rows)) ≡ true).
     t ∙ sym (key_is key (in_order nat_lt (keys_in_rows (fresh_rows seen rows)))
-            (ordered_has nat_lt key (keys_in_rows (fresh_rows seen rows))
-        (is_key key (keys_in_rows (fresh_rows seen rows)) t))))
+    (ordered_has nat_lt key (keys_in_rows (fresh_rows seen rows))
+    (is_key key (keys_in_rows (fresh_rows seen rows)) t))))
     (λ (f : list_any (λ k. k == key) (keys_in_rows (fresh_rows seen rows)) ≡ false).
     f ∙ sym (false_from_ne_true (list_any (λ k. k == key) (in_order nat_lt (keys_in_rows (fresh_rows seen rows)))) (λ t.
     both_ways (list_any (λ k. k == key) (keys_in_rows (fresh_rows seen rows))) f
     (key_is key (keys_in_rows (fresh_rows seen rows))
-        (in_ordered nat_lt key (keys_in_rows (fresh_rows seen rows))
-        (is_key key (in_order nat_lt (keys_in_rows (fresh_rows seen rows))) t))))))
+    (in_ordered nat_lt key (keys_in_rows (fresh_rows seen rows))
+    (is_key key (in_order nat_lt (keys_in_rows (fresh_rows seen rows))) t))))))
     (cases_Bool (list_any (λ k. k == key) (keys_in_rows (fresh_rows seen rows))))
 
 -- with them the table holds the seen keys and the new generation
 pub holds_added : (before after : List ℕ) (seen : Seen) (step : ℕ) (rows : List Row) → HoldsSeen before seen step
     → IsRising rows
     → ((key : ℕ) → owner_in after key
-        ≡ (if list_any (λ k. k == key) (keys_in_rows (fresh_rows seen rows)) then Some
-        (step + 1) else owner_in before key))
+    ≡ (if list_any (λ k. k == key) (keys_in_rows (fresh_rows seen rows)) then Some
+    (step + 1) else owner_in before key))
     → HoldsSeen after (seen ++ newest seen rows ∷ []) (step + 1)
 holds_added before after seen step rows holds rises adds = holds_with before after seen step rows holds rises each where
   last_step : oldest_step step seen + length seen ≡ step + 1
@@ -159,13 +159,13 @@ holds_added before after seen step rows holds rises adds = holds_with before aft
     go None e =
         adds key ∙ (λ i. if same_keys seen rows key i then Some (step + 1) else e i)
         ∙ sym (step_push_new (oldest_step step seen) (step + 1) seen (newest seen rows) key last_step
-            (sym (holds.owners key) ∙ e))
+        (sym (holds.owners key) ∙ e))
     go (Some o) e =
         let lacks : list_any (λ k. k == key) (keys_in_rows (fresh_rows seen rows)) ≡ false =
         false_from_ne_true (list_any (λ k. k == key) (keys_in_rows (fresh_rows seen rows))) (λ t.
         let f : None ≡ Some o =
-            sym (fresh_unowned before seen step rows key holds (is_key key (keys_in_rows (fresh_rows seen rows)) t))
-            ∙ e in
+        sym (fresh_unowned before seen step rows key holds (is_key key (keys_in_rows (fresh_rows seen rows)) t))
+        ∙ e in
         absurd (cc)) in
         adds key ∙ (λ i. if lacks i then Some (step + 1) else e i)
         ∙ sym (step_push (oldest_step step seen) seen (newest seen rows) key o (sym (holds.owners key) ∙ e))
@@ -189,14 +189,14 @@ not_before : (keys : List ℕ) (i d : ℕ) → i < length keys → AllPairs (λ 
 not_before keys i d lt differs =
     false_from_ne_true (list_any (λ k. k == get_or keys i d) (take i keys))
     (λ t. apart keys i d lt differs (is_key (get_or keys i d) (take i keys) t)) where
-  apart : (keys : List ℕ) (i d : ℕ) → i < length keys → AllPairs (λ a b. a ≢ b) keys
-      → In (get_or keys i d) (take i keys) → ⊥
-  apart [] i d lt differs m = absurd (omega arith)
-  apart (key ∷ keys) zero d lt differs m = m
-  apart (key ∷ keys) (suc i) d lt differs m =
-      ⊎_elim (λ (e : key ≡ get_or keys i d). differs 0 (suc i) d (omega arith) (omega arith) e)
-      (λ (r : In (get_or keys i d) (take i keys)).
-              apart keys i d (omega arith) (λ a b e l h. differs (suc a) (suc b) e (omega arith) (omega arith)) r) m
+      apart : (keys : List ℕ) (i d : ℕ) → i < length keys → AllPairs (λ a b. a ≢ b) keys
+          → In (get_or keys i d) (take i keys) → ⊥
+      apart [] i d lt differs m = absurd (omega arith)
+      apart (key ∷ keys) zero d lt differs m = m
+      apart (key ∷ keys) (suc i) d lt differs m =
+          ⊎_elim (λ (e : key ≡ get_or keys i d). differs 0 (suc i) d (omega arith) (omega arith) e)
+          (λ (r : In (get_or keys i d) (take i keys)).
+          apart keys i d (omega arith) (λ a b e l h. differs (suc a) (suc b) e (omega arith) (omega arith)) r) m
 
 -- so it has no owner yet
 pub next_new : (before keys : List ℕ) (step i d : ℕ) (words : List ℕ) → i < length keys → AllPairs (λ a b. a ≢ b) keys
@@ -204,7 +204,7 @@ pub next_new : (before keys : List ℕ) (step i d : ℕ) (words : List ℕ) → 
     → AreAdded before keys step i words → owner_in words (get_or keys i d) ≡ None
 next_new before keys step i d words lt differs new added =
     added.owners (get_or keys i d) ∙ ap (λ b. if b then Some step else owner_in before (get_or keys i d))
-        (not_before keys i d lt differs) ∙ new i d lt
+    (not_before keys i d lt differs) ∙ new i d lt
 
 pub next_room : (before keys : List ℕ) (step i : ℕ) (words : List ℕ) → i < length keys
     → length (entries_in before) + length keys ≤ slot_count before
@@ -242,4 +242,4 @@ pub all_added : (before keys : List ℕ) (step i : ℕ) (words : List ℕ) → l
     → (key : ℕ) → owner_in words key ≡ (if list_any (λ k. k == key) keys then Some step else owner_in before key)
 all_added before keys step i words le added key =
     added.owners key ∙ ap (λ xs. if list_any (λ k. k == key) xs then Some step else owner_in before key)
-        (take_all i keys le)
+    (take_all i keys le)

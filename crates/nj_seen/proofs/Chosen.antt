@@ -38,7 +38,7 @@ of_kind p q some rows ds dr within same has =
     filtered q row rows r (sym (of_member (λ (x : Row). p x ≡ q x) rows row same r) ∙ s.1))
     (λ row i. let s = in_filter q row rows i in
     filtered p row some (in_list row some (of_member (λ (x : Row). q x ≡ true → Contains some x) rows row has s.0 s.1))
-        (of_member (λ (x : Row). p x ≡ q x) rows row same s.0 ∙ s.1))
+    (of_member (λ (x : Row). p x ≡ q x) rows row same s.0 ∙ s.1))
 
 pub same_winner : HaveOneOrder → (some rows : List Row) → AllPairs (λ a b. a.number ≢ b.number) some → IsRising rows
     → All (Contains rows) some
@@ -47,7 +47,7 @@ unfolding winner_row
 same_winner law some rows once rises within wins =
     ap (λ xs. slice_get xs 0) (law (filter is_win_row some) (filter is_win_row rows)
     (of_kind is_win_row is_win_row some rows (differ_by some once) (rising_differ rows rises)
-        within (λ k d lt. refl) wins))
+    within (λ k d lt. refl) wins))
 
 pub same_fresh : (some rows : List Row) (test : Row → Bool) (seen : Seen) → AllPairs (λ a b. a.number ≢ b.number) some
     → IsRising rows

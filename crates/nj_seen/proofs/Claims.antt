@@ -28,7 +28,7 @@ stays : (key most owner : ℕ) (claims : Claimed) → owner ≤ most
 stays key most owner [] le = (owner, refl, le)
 stays key most owner (c ∷ cs) le =
     elim (c.0 == key) as (λ b. (last : ℕ)
-        × (owner_after key (if b then lowered (Some owner) c.1 else Some owner) cs ≡ Some last) × (last ≤ most)) [
+    × (owner_after key (if b then lowered (Some owner) c.1 else Some owner) cs ≡ Some last) × (last ≤ most)) [
       | true ↦ stays key most (min owner c.1) cs (omega arith)
       | false ↦ stays key most owner cs le
     ]
@@ -41,7 +41,7 @@ at_most key number first (c ∷ cs) i =
     ⊎_elim
     (λ (e : c ≡ (key, number)). let at : c.1 ≡ number = ap (λ (z : ℕ × ℕ). z.1) e in
     subst (λ b. (last : ℕ) × (owner_after key (if b then lowered first c.1 else first) cs ≡ Some last)
-        × (last ≤ number))
+    × (last ≤ number))
     (sym (eq-eqb c.0 key (ap (λ (z : ℕ × ℕ). z.0) e))) (start first (omega arith)))
     (λ (r : In (key, number) cs). at_most key number (if c.0 == key then lowered first c.1 else first) cs r) i where
       start : (first : Option ℕ) → c.1 ≤ number
@@ -58,11 +58,11 @@ source key owner first (c ∷ cs) e =
     (λ (t : ((c.0 == key) ≡ true) × (c.0 ≡ key)).
     ⊎_elim (λ (l : lowered first c.1 ≡ Some owner). low first t.1 l) (λ (r : In (key, owner) cs). inr (inr r))
     (source key owner (lowered first c.1) cs
-        (subst (λ b. owner_after key (if b then lowered first c.1 else first) cs ≡ Some owner) t.0 e)))
+    (subst (λ b. owner_after key (if b then lowered first c.1 else first) cs ≡ Some owner) t.0 e)))
     (λ (t : ((c.0 == key) ≡ false) × (c.0 ≢ key)).
     ⊎_elim (λ (l : first ≡ Some owner). inl l) (λ (r : In (key, owner) cs). inr (inr r))
     (source key owner first cs (subst (λ b. owner_after key (if b then lowered first c.1 else first) cs ≡ Some owner)
-            t.0 e)))
+    t.0 e)))
     (eqb_tells c.0 key) where
       low : (first : Option ℕ) → c.0 ≡ key → lowered first c.1 ≡ Some owner
           → (first ≡ Some owner) ⊎ In (key, owner) (c ∷ cs)
@@ -81,7 +81,7 @@ kept_owner key owner (c ∷ cs) all =
       | true ↦ let le : owner ≤ c.1 = All-head (λ (claim : ℕ × ℕ). owner ≤ claim.1) c cs all in
           let same : min owner c.1 ≡ owner = omega arith in
           ap (λ x. owner_after key (Some x) cs) same
-              ∙ kept_owner key owner cs (All-tail (λ (claim : ℕ × ℕ). owner ≤ claim.1) c cs all)
+          ∙ kept_owner key owner cs (All-tail (λ (claim : ℕ × ℕ). owner ≤ claim.1) c cs all)
       | false ↦ kept_owner key owner cs (All-tail (λ (claim : ℕ × ℕ). owner ≤ claim.1) c cs all)
     ]
 
@@ -125,7 +125,7 @@ pub none_seen : (words : List ℕ) (seen : Seen) (step key : ℕ) → HoldsSeen 
     → is_seen seen key ≡ false
 none_seen words seen step key holds e =
     false_from_ne_true (is_seen seen key)
-        (λ t. let h = has_some (oldest_step step seen) seen key (in_seen key seen t) in
+    (λ t. let h = has_some (oldest_step step seen) seen key (in_seen key seen t) in
     let f : None ≡ Some h.0 = sym e ∙ (holds.owners key ∙ h.1) in absurd (cc))
 
 -- a table of seen keys, closed after the claims of rows
@@ -147,8 +147,8 @@ pub made_by : (rows : List Row) (claims : Claimed) (key number : ℕ) → AreCla
     → MadeBy rows key number
 made_by rows claims key number are i =
     let m = in_map claim_of (key, number) rows
-        (in_list (key, number) (map claim_of rows)
-        (of_member (Contains (map claim_of rows)) claims (key, number) are.only i)) in
+    (in_list (key, number) (map claim_of rows)
+    (of_member (Contains (map claim_of rows)) claims (key, number) are.only i)) in
     record { row = m.0; member = m.1; key_is = ap (λ (z : ℕ × ℕ). z.0) m.2; number_is = ap (λ (z : ℕ × ℕ). z.1) m.2 }
 
 pub claim_in : (rows : List Row) (claims : Claimed) (row : Row) → AreClaims rows claims → In row rows
@@ -160,7 +160,7 @@ pub claims_high : (rows : List Row) (claims : Claimed) (least : ℕ) → AreClai
     → All (λ claim. least ≤ claim.1) claims
 claims_high rows claims least are le k d lt =
     high (made_by rows claims (get_or claims k d).0 (get_or claims k d).1 are
-            (in_list (get_or claims k d) claims (Contains-get_or claims k d lt))) where
+    (in_list (get_or claims k d) claims (Contains-get_or claims k d lt))) where
       high : MadeBy rows (get_or claims k d).0 (get_or claims k d).1 → least ≤ (get_or claims k d).1
       high m = let at : first_claim + m.row.number ≡ (get_or claims k d).1 = m.number_is in omega arith
 
@@ -176,7 +176,7 @@ module _ (opening closed : List ℕ) (seen : Seen) (step : ℕ) (rows : List Row
       let le : owner ≤ step = step_within opening seen step key owner is.holds e in
       let below : step < first_claim = is.below in
       is.closes key ∙ (ap (λ x. owner_after key x claims) e
-              ∙ kept_owner key owner claims (claims_high rows claims owner is.claims_are (omega arith)))
+      ∙ kept_owner key owner claims (claims_high rows claims owner is.claims_are (omega arith)))
 
   seen_row : (row : Row) (owner : ℕ) → owner_in opening row.key ≡ Some owner
       → is_owned closed row ≡ is_fresh_row seen rows row
@@ -199,7 +199,7 @@ module _ (opening closed : List ℕ) (seen : Seen) (step : ℕ) (rows : List Row
       → (last : ℕ) × (owner_in closed row.key ≡ Some last) × (last ≤ first_claim + row.number)
   closed_most row i =
       let m = at_most row.key (first_claim + row.number) (owner_in opening row.key) claims
-          (claim_in rows claims row is.claims_are i) in
+      (claim_in rows claims row is.claims_are i) in
       (m.0, is.closes row.key ∙ m.1, m.2)
 
   beaten_row : (row : Row) → is_beaten rows row ≡ true → is_owned closed row ≡ false
@@ -221,7 +221,7 @@ module _ (opening closed : List ℕ) (seen : Seen) (step : ℕ) (rows : List Row
       (λ (lt : made.row.number < row.number). absurd (both_ways (is_beaten rows row) f
       (member_any (λ other. nat_lt other.number row.number && (other.key == row.key)) made.row rows made.member
       (and_from (nat_lt made.row.number row.number) (made.row.key == row.key) (lt-ltb made.row.number row.number lt)
-          (eq-eqb made.row.key row.key made.key_is)))))
+      (eq-eqb made.row.key row.key made.key_is)))))
       (λ (ge : row.number ≤ made.row.number). omega arith) (cases_lt made.row.number row.number))
 
   new_row : (row : Row) → In row rows → owner_in opening row.key ≡ None
@@ -259,12 +259,12 @@ none_full law opening closed keys (key ∷ full) claims is is' size room closes 
     )
     (λ k i. ⊎_elim
     (λ (e : key ≡ k). in_right k (keys_in opening) keys
-        (subst (λ x. In x keys) e (in_list key keys (All-head (Contains keys) key full among))))
+    (subst (λ x. In x keys) e (in_list key keys (All-head (Contains keys) key full among))))
     (λ (r : In k (keys_in closed)). stood k (in_map (λ (e : ℕ × ℕ). e.0) k (entries_in closed) r)) i) in
     let n : length (keys_in closed) ≡ length (entries_in closed) =
-        length-map (entries_in closed) (λ (e : ℕ × ℕ). e.0) in
+    length-map (entries_in closed) (λ (e : ℕ × ℕ). e.0) in
     let m : length (keys_in opening) ≡ length (entries_in opening) =
-        length-map (entries_in opening) (λ (e : ℕ × ℕ). e.0) in
+    length-map (entries_in opening) (λ (e : ℕ × ℕ). e.0) in
     let a : length all ≡ length (keys_in opening) + length keys = length-append (keys_in opening) keys in
     let f : length (entries_in closed) ≡ slot_count closed = h.full in
     let s : slot_count closed ≡ slot_count opening = ap (λ x. x / 2) size in
@@ -274,10 +274,10 @@ none_full law opening closed keys (key ∷ full) claims is is' size room closes 
           ⊎_elim
           (λ (o : owner_in opening x.0 ≡ Some x.1). in_left k (keys_in opening) keys
           (subst (λ y. In y (keys_in opening)) e
-              (mapped (λ (e : ℕ × ℕ). e.0) x (entries_in opening) (is.entry x.0 x.1 o))))
+          (mapped (λ (e : ℕ × ℕ). e.0) x (entries_in opening) (is.entry x.0 x.1 o))))
           (λ (c : In (x.0, x.1) claims). in_right k (keys_in opening) keys
           (subst (λ y. In y keys) e (in_list x.0 keys
-                  (of_member (λ (claim : ℕ × ℕ). Contains keys claim.0) claims (x.0, x.1) asked c))))
+          (of_member (λ (claim : ℕ × ℕ). Contains keys claim.0) claims (x.0, x.1) asked c))))
           (source x.0 x.1 (owner_in opening x.0) claims (sym (closes x.0) ∙ is'.owner x.0 x.1 i))
 
 -- all entries are since step 0
@@ -285,7 +285,7 @@ pub all_since : (es : List (ℕ × ℕ)) → filter (λ (e : ℕ × ℕ). nat_le
 all_since [] = refl
 all_since (e ∷ es) =
     ap (λ b. if b then e ∷ filter (λ (e : ℕ × ℕ). nat_le 0 e.1) es else filter (λ (e : ℕ × ℕ). nat_le 0 e.1) es)
-        (le-leb 0 e.1 (omega arith))
+    (le-leb 0 e.1 (omega arith))
     ∙ ap (λ xs. e ∷ xs) (all_since es)
 
 -- a table of seen keys has as many entries as there are keys
@@ -294,7 +294,7 @@ pub entries_count : NumbersFit → (words : List ℕ) (seen : Seen) (step : ℕ)
 entries_count law words seen step is holds =
     let none : 0 - oldest_step step seen ≡ 0 = omega arith in
     ap length (sym (all_since (entries_in words)))
-        ∙ (count_since_is law words seen step 0 is holds ∙ ap (λ n. key_count (drop n seen)) none)
+    ∙ (count_since_is law words seen step 0 is holds ∙ ap (λ n. key_count (drop n seen)) none)
 
 -- its owners are steps up to the last
 pub owners_within : (words : List ℕ) (seen : Seen) (step : ℕ) → IsMap words → HoldsSeen words seen step
@@ -302,7 +302,7 @@ pub owners_within : (words : List ℕ) (seen : Seen) (step : ℕ) → IsMap word
 owners_within words seen step is holds k d lt =
     let e : ℕ × ℕ = get_or (entries_in words) k d in
     step_within words seen step e.0 e.1 holds
-        (is.owner e.0 e.1 (in_list e (entries_in words) (Contains-get_or (entries_in words) k d lt)))
+    (is.owner e.0 e.1 (in_list e (entries_in words) (Contains-get_or (entries_in words) k d lt)))
 
 -- a table of one key
 pub holds_one : (words : List ℕ) (key : ℕ)

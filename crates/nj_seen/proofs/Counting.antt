@@ -45,7 +45,7 @@ is_map once owners words table = record {
 pub fits_in : NumbersFit → (xs ys : List ℕ) → Distinct xs → ((k : ℕ) → In k xs → In k ys) → length xs ≤ length ys
 fits_in law xs ys d inside = law xs ys (differ xs d)
     (λ i e l. contained (get_or xs i e) ys
-        (inside (get_or xs i e) (in_list (get_or xs i e) xs (Contains-get_or xs i e l))))
+    (inside (get_or xs i e) (in_list (get_or xs i e) xs (Contains-get_or xs i e l))))
 
 -- the keys of some entries are different where those of all are
 pub distinct_keys : (p : ℕ × ℕ → Bool) (es : List (ℕ × ℕ)) → Distinct (map (λ (e : ℕ × ℕ). e.0) es)
@@ -56,7 +56,7 @@ distinct_keys p (e ∷ es) d =
       | true ↦ (
         λ i. let s = in_map (λ (e : ℕ × ℕ). e.0) e.0 (filter p es) i in
             d.0 (subst (λ k. In k (map (λ (e : ℕ × ℕ). e.0) es)) s.2
-                    (mapped (λ (e : ℕ × ℕ). e.0) s.0 es (in_filter p s.0 es s.1).0)),
+            (mapped (λ (e : ℕ × ℕ). e.0) s.0 es (in_filter p s.0 es s.1).0)),
         distinct_keys p es d.1,
       )
       | false ↦ distinct_keys p es d.1
@@ -74,7 +74,7 @@ pub since_entry : (words : List ℕ) (from key owner : ℕ) → IsMap words
 since_entry words from key owner is e =
     let s = since_is from owner (owner_in words key) e in
     filtered (λ (e : ℕ × ℕ). nat_le from e.1) (key, owner) (entries_in words)
-        (is.entry key owner s.0) (le-leb from owner s.1)
+    (is.entry key owner s.0) (le-leb from owner s.1)
 
 -- the entries since a step are as many as the keys of the generations that have these owners
 pub same_count : NumbersFit → (words : List ℕ) (from first : ℕ) (some : Seen) → IsMap words → Distinct (concat some)
@@ -86,22 +86,22 @@ same_count law words from first some is d same =
     (distinct_keys (λ (e : ℕ × ℕ). nat_le from e.1) (entries_in words) is.once)
     (λ k i. let s = in_map (λ (e : ℕ × ℕ). e.0) k (entries_since from words) i in
     subst (λ x. In x (concat some)) s.2
-        (some_has first some s.0.0 s.0.1 (sym (same s.0.0) ∙ entry_since words from s.0 is s.1))) in
+    (some_has first some s.0.0 s.0.1 (sym (same s.0.0) ∙ entry_since words from s.0 is s.1))) in
     let down : length (concat some) ≤ length keys = fits_in law (concat some) keys d
     (λ k i. let h = has_some first some k i in
     mapped (λ (e : ℕ × ℕ). e.0) (k, h.0) (entries_since from words) (since_entry words from k h.0 is (same k ∙ h.1))) in
     let count : length keys ≡ length (entries_since from words) =
-        length-map (entries_since from words) (λ (e : ℕ × ℕ). e.0) in
+    length-map (entries_since from words) (λ (e : ℕ × ℕ). e.0) in
     let all = count_is some in
     omega arith
 
 -- the owners since a step are those of the generations behind so many
 pub owners_since : (words : List ℕ) (seen : Seen) (step from : ℕ) → HoldsSeen words seen step → (key : ℕ)
     → owner_since from (owner_in words key) ≡ step_of (oldest_step step seen + (from - oldest_step step seen))
-        (drop (from - oldest_step step seen) seen) key
+    (drop (from - oldest_step step seen) seen) key
 owners_since words seen step from holds key =
     ap (owner_since from) (holds.owners key)
-        ∙ since_step (oldest_step step seen) from seen key (distinct (concat seen) holds.once)
+    ∙ since_step (oldest_step step seen) from seen key (distinct (concat seen) holds.once)
 
 pub count_since_is : NumbersFit → (words : List ℕ) (seen : Seen) (step from : ℕ) → IsMap words
     → HoldsSeen words seen step
@@ -122,7 +122,7 @@ forgets law words seen step room from is holds oldest =
     up_to (slot_count words) room seen (from - first) (inl (subst (λ n. n + room ≤ slot_count words) count fits))
     (λ before e.
     let over : slot_count words < length (entries_since (first + before) words) + room =
-        oldest.over (first + before) (omega arith) in
+    oldest.over (first + before) (omega arith) in
     let back : first + before - first ≡ before = omega arith in
     let less = count_since_is law words seen step (first + before) is holds in
     subst (λ n. slot_count words < n + room) (less ∙ ap (λ n. key_count (drop n seen)) back) over)
@@ -134,7 +134,7 @@ oldest_dropped step n seen key few =
     ⊎_elim
     (λ (lt : length seen < n). let none : drop n seen ≡ [] = drop_all n seen (omega arith) in
     ap (λ some. step_of (oldest_step step seen + n) some key) none
-        ∙ sym (ap (λ some. step_of (oldest_step step some) some key) none))
+    ∙ sym (ap (λ some. step_of (oldest_step step some) some key) none))
     (λ (le : n ≤ length seen). let long : length (drop n seen) ≡ length seen - n = length-drop n seen in
     let at : oldest_step step seen + n ≡ oldest_step step (drop n seen) = omega arith in
     ap (λ first. step_of first (drop n seen) key) at)
@@ -147,13 +147,13 @@ pub holds_rest : NumbersFit → (words rest : List ℕ) (seen : Seen) (step room
     → HoldsSeen rest (forgotten (slot_count words) room seen) step
 holds_rest law words rest seen step room from is oldest kept holds =
     subst (λ (some : Seen). HoldsSeen rest some step) (sym (forgets law words seen step room from is holds oldest))
-        (record {
+    (record {
       few = let long : length (drop n seen) ≡ length seen - n = length-drop n seen in let few : length seen ≤ step + 1 =
           holds.few in omega arith;
       in_order = All-drop AreInOrder n seen holds.in_order;
       once = differ (concat (drop n seen)) (distinct_drop n seen (distinct (concat seen) holds.once));
       owners = λ key. kept key ∙ (owners_since words seen step from holds key
-              ∙ oldest_dropped step n seen key holds.few);
+          ∙ oldest_dropped step n seen key holds.few);
     }) where
       n : ℕ
       n = from - oldest_step step seen
@@ -166,7 +166,7 @@ kept_since words rest from is is' moved key =
     same_owner (owner_in rest key) (owner_since from (owner_in words key))
     (λ o e. entry_since words from (key, o) is
     (in_list (key, o) (entries_since from words)
-        (Contains-permutation (entries_in rest) (entries_since from words) (key, o)
+    (Contains-permutation (entries_in rest) (entries_since from words) (key, o)
     (IsPermutation-sym (entries_since from words) (entries_in rest) moved)
     (contained (key, o) (entries_in rest) (is'.entry key o e)))))
     (λ o e. is'.owner key o (in_list (key, o) (entries_in rest)

@@ -26,9 +26,9 @@ one_emptied words rest i l a =
       size = length-set rest (2 * i) 0 ∙ a.size;
       empty = λ j m. ⊎_elim
           (λ (t : ((j == i) ≡ true) × (j ≡ i)). ap (key_at (set rest (2 * i) 0)) t.1
-              ∙ get_or-set_same rest (2 * i) 0 0 (omega arith))
+          ∙ get_or-set_same rest (2 * i) 0 0 (omega arith))
           (λ (t : ((j == i) ≡ false) × (j ≢ i)). let other : j ≢ i = t.1 in
-              get_or-set_other rest (2 * i) (2 * j) 0 0 (λ e. other (omega arith)) ∙ a.empty j (omega arith))
+          get_or-set_other rest (2 * i) (2 * j) 0 0 (λ e. other (omega arith)) ∙ a.empty j (omega arith))
           (eqb_tells j i);
       bare = λ j m. get_or-set_other rest (2 * i) (2 * j + 1) 0 0 (λ e. omega arith) ∙ a.bare j m;
     }

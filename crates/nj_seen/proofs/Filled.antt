@@ -30,7 +30,7 @@ at_new (keys ∷ later) zero d key within once i older = older
 at_new (keys ∷ later) (suc k) d key within once i older =
     ⊎_elim (λ (a : In key keys). apart keys (concat later) once key a (at_in later k d key (omega (arith, within)) i))
     (λ (b : In key (concat (take k later))).
-        at_new later k d key (omega (arith, within)) (distinct_right keys (concat later) once) i b)
+    at_new later k d key (omega (arith, within)) (distinct_right keys (concat later) once) i b)
     (in_either key keys (concat (take k later)) older)
 
 -- and they differ
@@ -46,7 +46,7 @@ pub at_place : (seen : Seen) (first place : ℕ) (keys told : List ℕ) → firs
 at_place seen first place keys told le same is =
     let at : place ≡ first + (place - first) = omega (arith, le) in
     same ∙ (is ∙ (ap (get_or seen place) (sym same)
-            ∙ (ap (λ n. get_or seen n keys) at ∙ sym (get_or-drop first seen (place - first) keys))))
+    ∙ (ap (λ n. get_or seen n keys) at ∙ sym (get_or-drop first seen (place - first) keys))))
 
 pub in_rest : (seen : Seen) (first place : ℕ) → first ≤ place → place < length seen
     → place - first < length (drop first seen)
@@ -107,9 +107,9 @@ module _ (slots : ℕ) (seen : Seen) (base k : ℕ) (words keys : List ℕ) (wit
   each new owner at adds key (Some o) e =
       let lacks : list_any (λ x. x == key) keys ≡ false =
       false_from_ne_true (list_any (λ x. x == key) keys)
-          (λ t. let f : None ≡ Some o = sym (next_unowned key (is_key key keys t)) ∙ e in absurd (cc)) in
+      (λ t. let f : None ≡ Some o = sym (next_unowned key (is_key key keys t)) ∙ e in absurd (cc)) in
       adds key ∙ ((λ i. if lacks i then Some owner else e i)
-              ∙ sym (step_push base (take k seen) keys key o (sym (filled.owners key) ∙ e)))
+      ∙ sym (step_push base (take k seen) keys key o (sym (filled.owners key) ∙ e)))
 
   pub one_filled : (new : List ℕ) (owner : ℕ) → owner ≡ base + k → IsTable new → length new ≡ length words
       → length (entries_in new) ≡ length (entries_in words) + length keys

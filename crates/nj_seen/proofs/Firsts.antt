@@ -26,15 +26,15 @@ before_it [] row behind rises =
     list_any_none (λ other. nat_lt other.number row.number && (other.key == row.key)) (row ∷ behind)
     (All-cons (λ other. (nat_lt other.number row.number && (other.key == row.key)) ≡ false) row behind
     (later row (omega arith)) (All-weaker (λ other. row.number < other.number)
-            (λ other. (nat_lt other.number row.number && (other.key == row.key)) ≡ false)
-        (λ other lt. later other (omega arith)) behind rises.0)) where
+    (λ other. (nat_lt other.number row.number && (other.key == row.key)) ≡ false)
+    (λ other lt. later other (omega arith)) behind rises.0)) where
       later : (other : Row) → row.number ≤ other.number
           → (nat_lt other.number row.number && (other.key == row.key)) ≡ false
       later other le = ap (λ b. b && (other.key == row.key)) (le-ltb other.number row.number le)
 before_it (first ∷ before) row behind rises =
     let lt : first.number < row.number =
     subst (λ (later : Row). first.number < later.number) (get_or-append_seam before row behind row)
-        (rises.0 (length before) row (omega (arith, length-append before (row ∷ behind)))) in
+    (rises.0 (length before) row (omega (arith, length-append before (row ∷ behind)))) in
     (λ i. (lt-ltb first.number row.number lt i && (first.key == row.key)) || before_it before row behind rises.1 i)
 
 -- so a row is fresh where its key is neither seen nor met before
@@ -44,7 +44,7 @@ pub is_fresh_at : (seen : Seen) (rows : List Row) (i : ℕ) (default : Row) → 
 is_fresh_at seen rows i default lt rises =
     let row : Row = get_or rows i default in
     let whole : rows ≡ take i rows ++ row ∷ drop (i + 1) rows =
-        sym (take-append-drop i rows) ∙ at_drop_more (λ left. take i rows ++ left) rows i default lt in
+    sym (take-append-drop i rows) ∙ at_drop_more (λ left. take i rows ++ left) rows i default lt in
     ap (λ has. not (is_seen seen row.key) && not has)
     (ap (has_key_below row) whole ∙ before_it (take i rows) row (drop (i + 1) rows) (subst IsRising whole rises))
 

@@ -24,15 +24,15 @@ pub found : (keys : List ℕ) (key : ℕ) (r : Result ℕ ℕ) → IsBinarySearc
     → is_ok r ≡ list_any (λ k. k == key) keys
 found keys key r search sorted =
     told r (searched keys key r search (λ i j le lt.
-        IsNonDecreasingBy-from_sort (λ n. n) keys sorted i j 0 le lt)) where
-  told : (r : Result ℕ ℕ) → MatchResult r (λ i. (i < length keys) × (get_or keys i 0 ≡ key))
-      (λ i. (i ≤ length keys) × ((k : ℕ) → k < i → get_or keys k 0 < key)
-      × ((k : ℕ) → i ≤ k → k < length keys → key < get_or keys k 0))
-      → is_ok r ≡ list_any (λ k. k == key) keys
-  told (Ok i) h = sym (list_any_at (λ k. k == key) keys i 0 h.0 (eq-eqb (get_or keys i 0) key h.1))
-  told (Err i) h = sym (list_any_none (λ k. k == key) keys (λ k d lt. ne_eqb (get_or keys k d) key (λ e.
-      let at : get_or keys k 0 ≡ key = get_or_default keys k 0 d lt ∙ e in
-      ⊎_elim (λ below. omega (arith, at, h.1 k below)) (λ le. omega (arith, at, h.2 k le lt)) (cases_lt k i))))
+    IsNonDecreasingBy-from_sort (λ n. n) keys sorted i j 0 le lt)) where
+      told : (r : Result ℕ ℕ) → MatchResult r (λ i. (i < length keys) × (get_or keys i 0 ≡ key))
+          (λ i. (i ≤ length keys) × ((k : ℕ) → k < i → get_or keys k 0 < key)
+          × ((k : ℕ) → i ≤ k → k < length keys → key < get_or keys k 0))
+          → is_ok r ≡ list_any (λ k. k == key) keys
+      told (Ok i) h = sym (list_any_at (λ k. k == key) keys i 0 h.0 (eq-eqb (get_or keys i 0) key h.1))
+      told (Err i) h = sym (list_any_none (λ k. k == key) keys (λ k d lt. ne_eqb (get_or keys k d) key (λ e.
+          let at : get_or keys k 0 ≡ key = get_or_default keys k 0 d lt ∙ e in
+          ⊎_elim (λ below. omega (arith, at, h.1 k below)) (λ le. omega (arith, at, h.2 k le lt)) (cases_lt k i))))
 
 -- keys that fit are not forgotten
 pub all_stay : (slots room : ℕ) (seen : Seen) → key_count seen + room ≤ slots → forgotten slots room seen ≡ seen
@@ -52,7 +52,7 @@ up_to slots room (oldest ∷ rest) (suc gone) fits over =
     let more : slots < key_count (drop gone (oldest ∷ rest)) + room = over gone (omega arith) in
     let part = sum_by-take-drop length (oldest ∷ rest) gone in
     ap (λ b. cond b (oldest ∷ rest) (forgotten slots room rest))
-        (lt-leb (key_count (oldest ∷ rest) + room) slots (omega arith))
+    (lt-leb (key_count (oldest ∷ rest) + room) slots (omega arith))
     ∙ up_to slots room rest gone fits (λ before e. over (suc before) (omega arith))
 
 -- all are forgotten where the room alone does not fit
@@ -81,7 +81,7 @@ stopped slots room left seen gone keys some within is fits over =
     let last : before ≡ gone - 1 = omega arith in
     let count = one_more seen gone keys some within is in
     let same : key_count (drop before seen) ≡ key_count (drop (gone - 1) seen) =
-        ap (λ n. key_count (drop n seen)) last in
+    ap (λ n. key_count (drop n seen)) last in
     omega arith))
 
 -- none is forgotten where all fit
@@ -170,5 +170,5 @@ lacks_it seen place key keys slice r some within sorted is same search lacks non
     at_drop_more (λ left. is_seen left key) seen (place - 1) keys (omega arith)
     ∙ ap (λ ks. list_any (λ k. k == key) ks || is_seen (drop (place - 1 + 1) seen) key) (sym is)
     ∙ ap (λ b. b || is_seen (drop (place - 1 + 1) seen) key)
-        (sym (searched_last seen place key keys slice r some within sorted is same search) ∙ lacks)
+    (sym (searched_last seen place key keys slice r some within sorted is same search) ∙ lacks)
     ∙ ap (λ n. is_seen (drop n seen) key) next ∙ none

@@ -19,7 +19,7 @@ from_within law words seen step room from is holds fits oldest =
     let over : slot_count words < length (entries_since (step + 1) words) + room = oldest.over (step + 1) lt in
     let count = count_since_is law words seen step (step + 1) is holds in
     let none : key_count (drop (step + 1 - oldest_step step seen) seen) ≡ 0 =
-        ap key_count (drop_all (step + 1 - oldest_step step seen) seen (omega arith)) in
+    ap key_count (drop_all (step + 1 - oldest_step step seen) seen (omega arith)) in
     absurd (omega arith))
     (λ (le : from ≤ step + 1). le) (cases_lt (step + 1) from)
 
@@ -39,7 +39,7 @@ module _ (law : NumbersFit) (words : List ℕ) (seen : Seen) (step room from old
       let few : length seen ≤ step + 1 = holds.few in
       let within : from ≤ step + 1 = from_within law words seen step room from is holds fits kept in
       let long : length (forgotten (slot_count words) room seen) ≡ length seen - (from - oldest_step step seen) =
-          ap length gone ∙ length-drop (from - oldest_step step seen) seen in
+      ap length gone ∙ length-drop (from - oldest_step step seen) seen in
       omega (arith, first, few, within, long)
 
   pub left_count : (count : ℕ) → count ≡ length (entries_since from words)

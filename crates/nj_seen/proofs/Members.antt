@@ -25,7 +25,7 @@ module _ {X : Type 0} where
   contained x [] i = absurd i
   contained x (y ∷ ys) i =
       ⊎_elim (λ (e : y ≡ x). (0, omega arith, e))
-          (λ (r : In x ys). Contains-append_right (y ∷ []) ys x (contained x ys r)) i
+      (λ (r : In x ys). Contains-append_right (y ∷ []) ys x (contained x ys r)) i
 
   -- what holds of all holds of a member
   pub of_member : (P : X → Type 0) (xs : List X) (x : X) → All P xs → In x xs → P x
@@ -116,7 +116,7 @@ module _ {X : Type 0} where
   apart [] ys d x i j = i
   apart (y ∷ xs) ys d x i j =
       ⊎_elim (λ (e : y ≡ x). d.0 (subst (λ z. In z (xs ++ ys)) (sym e) (in_right x xs ys j)))
-          (λ (r : In x xs). apart xs ys d.1 x r j) i
+      (λ (r : In x xs). apart xs ys d.1 x r j) i
 
   -- a test that passes at some member
   pub some_member : (p : X → Bool) (xs : List X) → list_any p xs ≡ true → (x : X) × In x xs × (p x ≡ true)
@@ -130,7 +130,7 @@ module _ {X Y : Type 0} (f : X → Y) where
   in_map y [] i = absurd i
   in_map y (x ∷ xs) i =
       ⊎_elim (λ (e : f x ≡ y). (x, inl refl, e))
-          (λ (r : In y (map f xs)). let s = in_map y xs r in (s.0, inr s.1, s.2)) i
+      (λ (r : In y (map f xs)). let s = in_map y xs r in (s.0, inr s.1, s.2)) i
 
   pub mapped : (x : X) (xs : List X) → In x xs → In (f x) (map f xs)
   mapped x [] i = absurd i

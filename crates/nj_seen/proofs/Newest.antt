@@ -30,7 +30,7 @@ module _ {X : Type 0} (before : X → X → Bool) where
         | true ↦ λ i. i
         | false ↦ λ i. ⊎_elim (λ (e : y ≡ z). inr (inl e))
             (λ (r : In z (put_in before x ys)).
-                    ⊎_elim (λ (e : x ≡ z). inl e) (λ (s : In z ys). inr (inr s)) (in_put z x ys r)) i
+            ⊎_elim (λ (e : x ≡ z). inl e) (λ (s : In z ys). inr (inr s)) (in_put z x ys r)) i
       ]
 
   put_in_has : (z x : X) (ys : List X) → (x ≡ z) ⊎ In z ys → In z (put_in before x ys)
@@ -40,7 +40,7 @@ module _ {X : Type 0} (before : X → X → Bool) where
         | true ↦ i
         | false ↦ ⊎_elim (λ (e : x ≡ z). inr (put_in_has z x ys (inl e)))
             (λ (r : In z (y ∷ ys)). ⊎_elim (λ (e : y ≡ z). inl e) (λ (s : In z ys). inr (put_in_has z x ys (inr s))) r)
-                i
+            i
       ]
 
   distinct_put : (x : X) (ys : List X) → (In x ys → ⊥) → Distinct ys → Distinct (put_in before x ys)
@@ -90,7 +90,7 @@ distinct_fresh whole p first (row ∷ rows) within rises =
       | true ↦ (
         λ i. let s = in_map (λ (r : Row). r.key) row.key (filter p rows) i in let t = in_filter p s.0 rows s.1 in
             first row s.0 (within row (inl refl)) t.1
-                (of_member (λ (later : Row). row.number < later.number) rows s.0 rises.0 t.0) (sym s.2),
+            (of_member (λ (later : Row). row.number < later.number) rows s.0 rises.0 t.0) (sym s.2),
         distinct_fresh whole p first rows (λ r i. within r (inr i)) rises.1,
       )
       | false ↦ distinct_fresh whole p first rows (λ r i. within r (inr i)) rises.1
@@ -106,7 +106,7 @@ pub fresh_first : (seen : Seen) (rows : List Row) (a b : Row) → In a rows → 
     → a.number < b.number → a.key ≡ b.key → ⊥
 fresh_first seen rows a b i t less same =
     both_ways (is_beaten rows b) (not-true (is_beaten rows b)
-            (and_parts (not (is_seen seen b.key)) (not (is_beaten rows b)) t).1)
+    (and_parts (not (is_seen seen b.key)) (not (is_beaten rows b)) t).1)
     (member_any (λ other. nat_lt other.number b.number && (other.key == b.key)) a rows i
     (λ j. lt-ltb a.number b.number less j && eq-eqb a.key b.key same j))
 
@@ -135,7 +135,7 @@ pub of_fresh : (seen : Seen) (rows : List Row) (key : ℕ) → In key (newest se
 unfolding generation_rows fresh_rows
 of_fresh seen rows key i =
     let s = in_map (λ (r : Row). r.key) key (filter (is_fresh_row seen rows) rows)
-        (in_ordered nat_lt key (keys_of (filter (is_fresh_row seen rows) rows)) i) in
+    (in_ordered nat_lt key (keys_of (filter (is_fresh_row seen rows) rows)) i) in
     let t = in_filter (is_fresh_row seen rows) s.0 rows s.1 in
     record { row = s.0; member = t.0; fresh = t.1; key_is = s.2 }
 
@@ -145,7 +145,7 @@ unfolding generation_rows fresh_rows
 fresh_in seen rows row i t =
     ordered_has nat_lt row.key (keys_of (filter (is_fresh_row seen rows) rows))
     (mapped (λ (r : Row). r.key) row (filter (is_fresh_row seen rows) rows)
-        (filtered (is_fresh_row seen rows) row rows i t))
+    (filtered (is_fresh_row seen rows) row rows i t))
 
 -- the keys with a generation more
 pub concat_push : (seen : Seen) (keys : List ℕ) → concat (seen ++ keys ∷ []) ≡ concat seen ++ keys
@@ -159,7 +159,7 @@ pub step_push : (first : ℕ) (seen : Seen) (keys : List ℕ) (key owner : ℕ) 
 step_push first [] keys key owner = λ e. absurd (cc)
 step_push first (oldest ∷ later) keys key owner =
     elim (list_any (λ k. k == key) oldest) as (λ b. (if b then Some first else step_of (first + 1) later key)
-        ≡ Some owner
+    ≡ Some owner
     → (if b then Some first else step_of (first + 1) (later ++ keys ∷ []) key) ≡ Some owner) [
       | true ↦ λ e. e
       | false ↦ λ e. step_push (first + 1) later keys key owner e
@@ -192,11 +192,11 @@ holds_with before words seen step rows holds rises each =
       in_order = All-push AreInOrder seen (newest seen rows) holds.in_order (newest_sorted seen rows);
       once = subst (AllPairs (λ a b. a ≢ b)) (sym (concat_push seen (newest seen rows)))
           (differ (concat seen ++ newest seen rows)
-              (distinct_both (concat seen) (newest seen rows) (distinct (concat seen) holds.once)
-              (newest_distinct seen rows rises)
+          (distinct_both (concat seen) (newest seen rows) (distinct (concat seen) holds.once)
+          (newest_distinct seen rows rises)
           (λ key a b. let f = of_fresh seen rows key b in
           both_ways (is_seen seen key) (ap (is_seen seen) (sym f.key_is) ∙ fresh_unseen seen rows f.row f.fresh)
-              (is_seen_in key seen a))));
+          (is_seen_in key seen a))));
       owners = λ key. each key ∙ ap (λ n. step_of n (seen ++ newest seen rows ∷ []) key) at;
     }
 
@@ -219,7 +219,7 @@ module _ (opening closed words : List ℕ) (seen : Seen) (step : ℕ) (rows : Li
       let le : owner ≤ step = step_within opening seen step key owner is.holds e in
       let below : step < first_claim = is.below in
       publishes key ∙ (ap (option_map (published (step + 1)))
-              (closed_kept opening closed seen step rows claims is key owner e)
+      (closed_kept opening closed seen step rows claims is key owner e)
       ∙ (ap (λ (o : ℕ). Some o) (published_step (step + 1) owner (omega arith))
       ∙ sym (step_push (oldest_step step seen) seen (newest seen rows) key owner (sym (is.holds.owners key) ∙ e))))
 
@@ -229,10 +229,10 @@ module _ (opening closed words : List ℕ) (seen : Seen) (step : ℕ) (rows : Li
       let m = closed_claim opening closed seen step rows claims is key owner none e in
       let owned : is_owned closed m.row ≡ true =
       ap (is_owner (first_claim + m.row.number)) (ap (owner_in closed) m.key_is ∙ e)
-          ∙ eq-eqb owner (first_claim + m.row.number) (sym m.number_is) in
+      ∙ eq-eqb owner (first_claim + m.row.number) (sym m.number_is) in
       key_is key (newest seen rows) (subst (λ k. In k (newest seen rows)) m.key_is
       (fresh_in seen rows m.row m.member
-          (sym (row_owns opening closed seen step rows claims is m.row m.member) ∙ owned)))
+      (sym (row_owns opening closed seen step rows claims is m.row m.member) ∙ owned)))
 
   no_key : (key : ℕ) → owner_in closed key ≡ None → list_any (λ k. k == key) (newest seen rows) ≡ false
   no_key key e =
@@ -249,7 +249,7 @@ module _ (opening closed words : List ℕ) (seen : Seen) (step : ℕ) (rows : Li
   other_key key None none e =
       publishes key ∙ (ap (option_map (published (step + 1))) e
       ∙ sym (step_push_new (oldest_step step seen) (step + 1) seen (newest seen rows) key last_step
-          (sym (is.holds.owners key) ∙ none)
+      (sym (is.holds.owners key) ∙ none)
       ∙ ap (λ b. if b then Some (step + 1) else None) (no_key key e)))
   other_key key (Some owner) none e =
       let m = closed_claim opening closed seen step rows claims is key owner none e in
@@ -257,7 +257,7 @@ module _ (opening closed words : List ℕ) (seen : Seen) (step : ℕ) (rows : Li
       publishes key ∙ (ap (option_map (published (step + 1))) e
       ∙ (ap (λ (o : ℕ). Some o) (published_claim (step + 1) owner (omega arith))
       ∙ sym (step_push_new (oldest_step step seen) (step + 1) seen (newest seen rows) key last_step
-          (sym (is.holds.owners key) ∙ none)
+      (sym (is.holds.owners key) ∙ none)
       ∙ ap (λ b. if b then Some (step + 1) else None) (new_key key owner none e))))
 
   each_key : (key : ℕ) → owner_in words key ≡ step_of (oldest_step step seen) (seen ++ newest seen rows ∷ []) key

@@ -25,14 +25,14 @@ grows from first earlier (x ∷ xs) le all =
     ⊎_elim
     (λ (lt : x.1 < from).
     let a : length (filter p (x ∷ xs)) ≡ length (filter p xs) =
-        ap (λ b. length (cond b (x ∷ filter p xs) (filter p xs))) (lt-leb from x.1 lt) in
+    ap (λ b. length (cond b (x ∷ filter p xs) (filter p xs))) (lt-leb from x.1 lt) in
     let b : length (filter q xs) ≤ length (filter q (x ∷ xs)) = longer q x xs in omega (arith, rest, a, b))
     (λ (high : from ≤ x.1).
     let low : first ≤ x.1 = all x (inl refl) high in
     let a : length (filter p (x ∷ xs)) ≡ suc (length (filter p xs)) =
-        ap (λ b. length (cond b (x ∷ filter p xs) (filter p xs))) (le-leb from x.1 high) in
+    ap (λ b. length (cond b (x ∷ filter p xs) (filter p xs))) (le-leb from x.1 high) in
     let b : length (filter q (x ∷ xs)) ≡ suc (length (filter q xs)) =
-        ap (λ b. length (cond b (x ∷ filter q xs) (filter q xs))) (le-leb earlier x.1 (omega arith)) in
+    ap (λ b. length (cond b (x ∷ filter q xs) (filter q xs))) (le-leb earlier x.1 (omega arith)) in
     omega (arith, rest, a, b))
     (cases_lt x.1 from)
 
@@ -46,7 +46,7 @@ over_more words room slots from first earlier over big least lt =
     ⊎_elim (λ (before : earlier < from). over earlier before)
     (λ (le : from ≤ earlier).
     let more : length (entries_since from words) ≤ length (entries_since earlier words) =
-        grows from first earlier (entries_in words) (omega arith)
+    grows from first earlier (entries_in words) (omega arith)
     (λ e i high. of_member (λ (entry : ℕ × ℕ). first ≤ entry.1) (entries_since from words) e least
     (filtered (λ (e : ℕ × ℕ). nat_le from e.1) e (entries_in words) i (le-leb from e.1 high))) in omega arith)
     (cases_lt earlier from)
@@ -59,5 +59,5 @@ first_small words from first some least steps =
     let low : first ≤ (get_or (entries_since from words) 0 (0, 0)).1 = least 0 (0, 0) some in
     let high : (get_or (entries_since from words) 0 (0, 0)).1 < first_claim =
     All-filter (λ (e : ℕ × ℕ). nat_le from e.1) (λ (entry : ℕ × ℕ). entry.1 < first_claim)
-        (entries_in words) steps 0 (0, 0) some in
+    (entries_in words) steps 0 (0, 0) some in
     omega arith

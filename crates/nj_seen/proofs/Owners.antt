@@ -38,14 +38,14 @@ owned_same : (entries : List (ℕ × ℕ)) (key owner at : ℕ) → owner ≡ at
     → keys_owned (entries ++ (key, owner) ∷ []) at ≡ keys_owned entries at ++ key ∷ []
 owned_same entries key owner at same =
     owned_push entries key owner at
-        ∙ ap (λ b. keys_owned entries at ++ (if b then key ∷ [] else [])) (eq-eqb owner at same)
+    ∙ ap (λ b. keys_owned entries at ++ (if b then key ∷ [] else [])) (eq-eqb owner at same)
 
 owned_other : (entries : List (ℕ × ℕ)) (key owner at : ℕ) → owner ≢ at
     → keys_owned (entries ++ (key, owner) ∷ []) at ≡ keys_owned entries at
 owned_other entries key owner at other =
     owned_push entries key owner at
-        ∙ (ap (λ b. keys_owned entries at ++ (if b then key ∷ [] else [])) (ne_eqb owner at other)
-        ∙ append-nil (keys_owned entries at))
+    ∙ (ap (λ b. keys_owned entries at ++ (if b then key ∷ [] else [])) (ne_eqb owner at other)
+    ∙ append-nil (keys_owned entries at))
 
 -- an owner that is not among them changes no list
 pub put_outside : (entries : List (ℕ × ℕ)) (key owner first n : ℕ) → (owner < first) ⊎ (first + n ≤ owner)
@@ -53,10 +53,10 @@ pub put_outside : (entries : List (ℕ × ℕ)) (key owner first n : ℕ) → (o
 put_outside entries key owner first zero far = refl
 put_outside entries key owner first (suc n) (inl low) =
     ap₂ (λ ks ls. ks ∷ ls) (owned_other entries key owner first (λ e. omega (arith, e, low)))
-        (put_outside entries key owner (first + 1) n (inl (omega (arith, low))))
+    (put_outside entries key owner (first + 1) n (inl (omega (arith, low))))
 put_outside entries key owner first (suc n) (inr high) =
     ap₂ (λ ks ls. ks ∷ ls) (owned_other entries key owner first (λ e. omega (arith, e, high)))
-        (put_outside entries key owner (first + 1) n (inr (omega (arith, high))))
+    (put_outside entries key owner (first + 1) n (inr (omega (arith, high))))
 
 -- one that is among them has its list longer by the key
 pub put_inside : (entries : List (ℕ × ℕ)) (key owner i first n : ℕ) → owner ≡ first + i → i < n
@@ -65,10 +65,10 @@ pub put_inside : (entries : List (ℕ × ℕ)) (key owner i first n : ℕ) → o
 put_inside entries key owner i first zero at within = absurd (omega (arith, within))
 put_inside entries key owner zero first (suc n) at within =
     ap₂ (λ ks ls. ks ∷ ls) (owned_same entries key owner first (omega (arith, at)))
-        (put_outside entries key owner (first + 1) n (inl (omega (arith, at))))
+    (put_outside entries key owner (first + 1) n (inl (omega (arith, at))))
 put_inside entries key owner (suc i) first (suc n) at within =
     ap₂ (λ ks ls. ks ∷ ls) (owned_other entries key owner first (λ e. omega (arith, e, at)))
-        (put_inside entries key owner i (first + 1) n (omega (arith, at)) (omega (arith, within)))
+    (put_inside entries key owner i (first + 1) n (omega (arith, at)) (omega (arith, within)))
 
 -- the entry of a slot that holds a key
 pub of_key : (entries : List (ℕ × ℕ)) (key owner first n : ℕ) → key ≢ 0

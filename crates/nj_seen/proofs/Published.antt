@@ -22,7 +22,7 @@ owned_placed n words i step placed some = record {
       (sym (key_same words i step a) ∙ (same ∙ key_same words i step b));
   chained = λ key far near real lf ln held z.
       placed.chained key far near real lf ln (sym (key_same words i step (slot_from n key far)) ∙ held)
-          (sym (key_same words i step (slot_from n key near)) ∙ z);
+      (sym (key_same words i step (slot_from n key near)) ∙ z);
   bare = λ j lj none. let here : key_at words j ≡ 0 = sym (key_same words i step j) ∙ none in
       owner_other words i step j (λ e. some (ap (key_at words) (sym e) ∙ here)) ∙ placed.bare j lj here;
 }
@@ -55,7 +55,7 @@ entry_published : (step key owner : ℕ)
     → map (published_entry step) (slot_entry key owner) ≡ slot_entry key (published step owner)
 entry_published step key owner =
     elim (key == 0) as (λ b. map (published_entry step) (if b then [] else (key, owner) ∷ [])
-        ≡ (if b then [] else (key, published step owner) ∷ [])) [
+    ≡ (if b then [] else (key, published step owner) ∷ [])) [
       | true ↦ refl
       | false ↦ refl
     ]
@@ -77,7 +77,7 @@ key_left : (words old : List ℕ) (i : ℕ) → drop (2 * i) words ≡ drop (2 *
 key_left words old i left =
     let at : 2 * i ≡ 2 * i + 0 = omega arith in
     ap (λ n. get_or words n 0) at ∙ (sym (get_or-drop (2 * i) words 0 0)
-            ∙ (ap (λ xs. get_or xs 0 0) left ∙ (get_or-drop (2 * i) old 0 0 ∙ ap (λ n. get_or old n 0) (sym at))))
+    ∙ (ap (λ xs. get_or xs 0 0) left ∙ (get_or-drop (2 * i) old 0 0 ∙ ap (λ n. get_or old n 0) (sym at))))
 
 owner_left : (words old : List ℕ) (i : ℕ) → drop (2 * i) words ≡ drop (2 * i) old → owner_at words i ≡ owner_at old i
 owner_left words old i left =
@@ -88,7 +88,7 @@ later_left : (words old : List ℕ) (i : ℕ) → drop (2 * i) words ≡ drop (2
 later_left words old i left =
     let at : 2 * (i + 1) ≡ 2 * i + 2 = omega arith in
     ap (λ n. drop n words) at ∙ (sym (drop-drop 2 (2 * i) words)
-            ∙ (ap (drop 2) left ∙ (drop-drop 2 (2 * i) old ∙ ap (λ n. drop n old) (sym at))))
+    ∙ (ap (drop 2) left ∙ (drop-drop 2 (2 * i) old ∙ ap (λ n. drop n old) (sym at))))
 
 -- the entries of the slots so far, from the entry of this slot
 more_done : (old words : List ℕ) (step i : ℕ) → 2 * i + 1 < length words → length words ≡ length old
@@ -99,9 +99,9 @@ more_done old words step i lt size done entry =
     entries_more words i lt
     ∙ ((λ j. done j ++ entry j)
     ∙ (ap (λ xs. map (published_entry step) (entries_in (take (2 * i) old)) ++ xs)
-        (sym (entry_published step (key_at old i) (owner_at old i)))
+    (sym (entry_published step (key_at old i) (owner_at old i)))
     ∙ (sym (map-append (published_entry step) (entries_in (take (2 * i) old))
-        (slot_entry (key_at old i) (owner_at old i)))
+    (slot_entry (key_at old i) (owner_at old i)))
     ∙ ap (map (published_entry step)) (sym (entries_more old i (omega arith))))))
 
 pub slot_left : (old words : List ℕ) (step i : ℕ) → 2 * i + 1 < length words → is_since first_claim words i ≡ false
@@ -110,7 +110,7 @@ slot_left old words step i lt f is = record {
   table = is.table;
   done = more_done old words step i lt is.size is.done
       (entry_left step (key_at words i) (owner_at words i) f
-          ∙ (λ j. slot_entry (key_left words old i is.left j) (published step (owner_left words old i is.left j))));
+      ∙ (λ j. slot_entry (key_left words old i is.left j) (published step (owner_left words old i is.left j))));
   left = later_left words old i is.left;
   size = is.size;
 }
@@ -123,13 +123,13 @@ slot_published old words step i lt t is =
     let wide : length new ≡ length words = length-set words (2 * i + 1) step in
     let holds = holds_since words first_claim i t in
     let owner : published step (owner_at old i) ≡ step =
-        ap (published step) (sym (owner_left words old i is.left)) ∙ published_high step (owner_at words i) holds.1 in
+    ap (published step) (sym (owner_left words old i is.left)) ∙ published_high step (owner_at words i) holds.1 in
     record {
       table = owned_table words i step is.table holds.0;
       done = more_done old new step i (omega arith) (wide ∙ is.size)
           (ap entries_in (take-set-le (2 * i) words (2 * i + 1) step (omega arith)) ∙ is.done)
           (λ j. slot_entry ((key_same words i step i ∙ key_left words old i is.left) j)
-              ((get_or-set_same words (2 * i + 1) step 0 lt ∙ sym owner) j));
+          ((get_or-set_same words (2 * i + 1) step 0 lt ∙ sym owner) j));
       left = drop-set-lt (2 * (i + 1)) words (2 * i + 1) step (omega arith) ∙ later_left words old i is.left;
       size = wide ∙ is.size;
     }
@@ -150,7 +150,7 @@ owner_among_published : (step key : ℕ) (es : List (ℕ × ℕ))
 owner_among_published step key [] = refl
 owner_among_published step key (e ∷ es) =
     elim (e.0 == key) as (λ b. (if b then Some (published step e.1) else owner_among key
-            (map (published_entry step) es))
+    (map (published_entry step) es))
     ≡ option_map (published step) (if b then Some e.1 else owner_among key es)) [
       | true ↦ refl
       | false ↦ owner_among_published step key es

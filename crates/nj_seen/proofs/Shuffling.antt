@@ -17,13 +17,13 @@ module _ {X : Type 0} where
   in_rest x z before behind i =
       ⊎_elim (λ (a : In z before). inr (in_left z before behind a))
       (λ (b : In z (x ∷ behind)). ⊎_elim (λ (e : x ≡ z). inl e)
-          (λ (r : In z behind). inr (in_right z before behind r)) b)
+      (λ (r : In z behind). inr (in_right z before behind r)) b)
       (in_either z before (x ∷ behind) i)
 
   rest_in : (x z : X) (before behind : List X) → In z (before ++ behind) → In z (before ++ x ∷ behind)
   rest_in x z before behind i =
       ⊎_elim (λ (a : In z before). in_left z before (x ∷ behind) a)
-          (λ (b : In z behind). in_right z before (x ∷ behind) (inr b))
+      (λ (b : In z behind). in_right z before (x ∷ behind) (inr b))
       (in_either z before behind i)
 
   distinct_rest : (x : X) (before behind : List X) → Distinct (before ++ x ∷ behind)
@@ -33,7 +33,7 @@ module _ {X : Type 0} where
       let rest = distinct_rest x before behind d.1 in (
         (λ i. d.0 (rest_in x y before behind i), rest.0),
         λ i. ⊎_elim (λ (e : y ≡ x). d.0
-                (subst (λ z. In z (before ++ x ∷ behind)) (sym e) (in_right x before (x ∷ behind) (inl refl))))
+            (subst (λ z. In z (before ++ x ∷ behind)) (sym e) (in_right x before (x ∷ behind) (inl refl))))
             (λ (r : In x (before ++ behind)). rest.1 r) i,
       )
 
@@ -49,12 +49,12 @@ module _ {X : Type 0} where
       let before : List X = s.0 in let behind : List X = s.1 in let parts : ys ≡ before ++ x ∷ behind = s.2 in
       let rest = distinct_rest x before behind (subst Distinct parts dy) in
       subst (IsPermutation (x ∷ xs)) (sym parts)
-          (IsPermutation-trans (x ∷ xs) (x ∷ (before ++ behind)) (before ++ x ∷ behind)
+      (IsPermutation-trans (x ∷ xs) (x ∷ (before ++ behind)) (before ++ x ∷ behind)
       (IsPermutation-cons x xs (before ++ behind) (same_members xs (before ++ behind) dx.1 rest.0
       (λ z i. ⊎_elim (λ (e : x ≡ z). absurd (dx.0 (subst (λ w. In w xs) (sym e) i)))
-          (λ (r : In z (before ++ behind)). r)
+      (λ (r : In z (before ++ behind)). r)
       (in_rest x z before behind (subst (In z) parts (into z (inr i)))))
       (λ z i. ⊎_elim (λ (e : x ≡ z). absurd (rest.1 (subst (λ w. In w (before ++ behind)) (sym e) i)))
-          (λ (r : In z xs). r)
+      (λ (r : In z xs). r)
       (back z (subst (In z) (sym parts) (rest_in x z before behind i))))))
       (IsPermutation-sym (before ++ x ∷ behind) (x ∷ (before ++ behind)) (IsPermutation-middle before x behind)))

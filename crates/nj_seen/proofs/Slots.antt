@@ -20,7 +20,7 @@ entries_append n (k ∷ []) ys wide = absurd (omega arith)
 entries_append zero (k ∷ o ∷ xs) ys wide = absurd (omega arith)
 entries_append (suc n) (k ∷ o ∷ xs) ys wide =
     elim (k == 0) as (λ b. (if b then entries_in (xs ++ ys) else (k, o) ∷ entries_in (xs ++ ys))
-        ≡ (if b then entries_in xs else (k, o) ∷ entries_in xs) ++ entries_in ys) [
+    ≡ (if b then entries_in xs else (k, o) ∷ entries_in xs) ++ entries_in ys) [
       | true ↦ entries_append n xs ys (omega arith)
       | false ↦ ap (λ es. (k, o) ∷ es) (entries_append n xs ys (omega arith))
     ]
@@ -39,14 +39,14 @@ pub entries_more : (words : List ℕ) (i : ℕ) → 2 * i + 1 < length words →
     ≡ entries_in (take (2 * i) words) ++ slot_entry (key_at words i) (owner_at words i)
 entries_more words i lt =
     ap entries_in (two_more words i lt) ∙ entries_append i (take (2 * i) words) (key_at words i ∷ owner_at words i ∷ [])
-        (length-take-le (2 * i) words (omega arith))
+    (length-take-le (2 * i) words (omega arith))
 
 -- the entries of the slots so far, and of the others
 pub entries_split : (words : List ℕ) (i : ℕ) → 2 * i ≤ length words
     → entries_in words ≡ entries_in (take (2 * i) words) ++ entries_in (drop (2 * i) words)
 entries_split words i le =
     ap entries_in (sym (take-append-drop (2 * i) words))
-        ∙ entries_append i (take (2 * i) words) (drop (2 * i) words) (length-take-le (2 * i) words le)
+    ∙ entries_append i (take (2 * i) words) (drop (2 * i) words) (length-take-le (2 * i) words le)
 
 -- all slots
 pub all_slots : (words : List ℕ) (i : ℕ) → length words / 2 ≤ i → entries_in (take (2 * i) words) ≡ entries_in words
@@ -55,8 +55,8 @@ all_slots words i le =
     (λ (lt : 2 * i < length words).
     let one : length words ≡ 2 * i + 1 = omega arith in let half : 2 * i ≤ length words = omega arith in
     sym (entries_split words i half
-        ∙ (ap (λ xs. entries_in (take (2 * i) words) ++ xs)
-        (odd (drop (2 * i) words) (length-drop (2 * i) words ∙ (let r : length words - 2 * i ≡ 1 = omega arith in r)))
+    ∙ (ap (λ xs. entries_in (take (2 * i) words) ++ xs)
+    (odd (drop (2 * i) words) (length-drop (2 * i) words ∙ (let r : length words - 2 * i ≡ 1 = omega arith in r)))
     ∙ append-nil (entries_in (take (2 * i) words)))))
     (λ (ge : length words ≤ 2 * i). ap entries_in (take_all (2 * i) words ge)) (cases_lt (2 * i) (length words)) where
       odd : (xs : List ℕ) → length xs ≡ 1 → entries_in xs ≡ []
@@ -69,7 +69,7 @@ since_slot : (from key owner : ℕ) → filter (λ (e : ℕ × ℕ). nat_le from
     ≡ (if not (key == 0) && nat_le from owner then (key, owner) ∷ [] else [])
 since_slot from key owner =
     elim (key == 0) as (λ b. filter (λ (e : ℕ × ℕ). nat_le from e.1) (if b then [] else (key, owner) ∷ [])
-        ≡ (if not b && nat_le from owner then (key, owner) ∷ [] else [])) [
+    ≡ (if not b && nat_le from owner then (key, owner) ∷ [] else [])) [
       | true ↦ refl
       | false ↦ refl
     ]
@@ -88,13 +88,13 @@ pub since_taken : (words : List ℕ) (from i : ℕ) → 2 * i + 1 < length words
     ++ (key_at words i, owner_at words i) ∷ []
 since_taken words from i lt t =
     since_more words from i lt ∙ ap (λ b. entries_since from (take (2 * i) words)
-            ++ (if b then (key_at words i, owner_at words i) ∷ [] else [])) t
+    ++ (if b then (key_at words i, owner_at words i) ∷ [] else [])) t
 
 pub since_passed : (words : List ℕ) (from i : ℕ) → 2 * i + 1 < length words → is_since from words i ≡ false
     → entries_since from (take (2 * (i + 1)) words) ≡ entries_since from (take (2 * i) words)
 since_passed words from i lt f =
     since_more words from i lt ∙ (ap (λ b. entries_since from (take (2 * i) words)
-            ++ (if b then (key_at words i, owner_at words i) ∷ [] else [])) f
+    ++ (if b then (key_at words i, owner_at words i) ∷ [] else [])) f
     ∙ append-nil (entries_since from (take (2 * i) words)))
 
 pub all_since_slots : (words : List ℕ) (from i : ℕ) → length words / 2 ≤ i
@@ -136,7 +136,7 @@ least_taken words from i first next lt t is all =
     subst (All P) (sym (since_taken words from i lt t))
     (All-push P (entries_since from (take (2 * i) words)) (key_at words i, owner_at words i)
     (All-weaker (λ (entry : ℕ × ℕ). first ≤ entry.1) P (λ entry le. omega arith)
-            (entries_since from (take (2 * i) words)) all) (omega arith))
+    (entries_since from (take (2 * i) words)) all) (omega arith))
 
 pub least_passed : (words : List ℕ) (from i first next : ℕ) → 2 * i + 1 < length words → is_since from words i ≡ false
     → next ≡ first
@@ -146,4 +146,4 @@ least_passed words from i first next lt f is all =
     let P : ℕ × ℕ → Type 0 = λ entry. next ≤ entry.1 in
     subst (All P) (sym (since_passed words from i lt f))
     (All-weaker (λ (entry : ℕ × ℕ). first ≤ entry.1) P (λ entry le. omega arith)
-        (entries_since from (take (2 * i) words)) all)
+    (entries_since from (take (2 * i) words)) all)

@@ -39,7 +39,7 @@ not_below : {X : Type 0} (lt : X → X → Bool) (x y : X) (xs ys : List X) → 
     → Ascends lt (y ∷ ys) → lt x y ≡ false
 not_below lt x y xs ys same up =
     not_first (λ z. lt z y) x xs (same (λ z. lt z y)
-            ∙ none_pass (λ z. lt z y) (y ∷ ys) (λ k d within. up 0 k d (omega arith) within))
+    ∙ none_pass (λ z. lt z y) (y ∷ ys) (λ k d within. up 0 k d (omega arith) within))
 
 -- without one first element the counts stay the same
 tails_same : {X : Type 0} (x y : X) (xs ys : List X) → x ≡ y → SameCounts (x ∷ xs) (y ∷ ys) → SameCounts xs ys
@@ -60,7 +60,7 @@ same_list lt ties (x ∷ xs) [] same left right =
     absurd (let count = same (λ _. true) in let more = sum_by-cons (λ _. 1) x xs in omega arith)
 same_list lt ties (x ∷ xs) (y ∷ ys) same left right =
     let first : x ≡ y =
-        ties x y (not_below lt x y xs ys same right) (not_below lt y x ys xs (λ p. sym (same p)) left) in
+    ties x y (not_below lt x y xs ys same right) (not_below lt y x ys xs (λ p. sym (same p)) left) in
     let rest : xs ≡ ys = same_list lt ties xs ys (tails_same x y xs ys first same)
     (λ i j d le within. left (suc i) (suc j) d (omega arith) (omega arith))
     (λ i j d le within. right (suc i) (suc j) d (omega arith) (omega arith)) in
@@ -72,4 +72,4 @@ pub sorted_unique : {X : Type 0} (lt : X → X → Bool) → IsStrictWeakOrder l
     → (xs ys : List X) → IsPermutation xs ys → IsSortedBy lt xs → IsSortedBy lt ys → xs ≡ ys
 sorted_unique lt order ties xs ys moved left right =
     same_list lt ties xs ys (λ p. sym (sum_by-IsPermutation (one p) xs ys moved)) (sorted_far lt order xs left)
-        (sorted_far lt order ys right)
+    (sorted_far lt order ys right)

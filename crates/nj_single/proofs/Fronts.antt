@@ -69,7 +69,7 @@ one_done held i rows new since steps after machine moved room room' lt done is t
       let word : Word = get_or held.state.front i [] in
       let rest : List Word = drop (i + 1) held.state.front in
       let cost : frames_from held (drop i held.state.front) ≡ held.plan.script.hold * length (allowed_of held.plan word)
-          + frames_from held rest =
+      + frames_from held rest =
       at_drop_more (frames_from held) held.state.front i [] lt ∙ more_frames held word rest in
       omega (arith, done.counted, takes, cost);
   later = omega (arith, done.later, later);

@@ -7,4 +7,4 @@ pub returns : goal.returns
 returns c =
     c.truncate.ensures.items
     ∙ ap (take c.args.n) (sorted_rows _ _ c.sort_unstable_by.ensures.permutation c.sort_unstable_by.ensures.sorted
-            (λ a r f k. search rules))
+    (λ a r f k. search rules))

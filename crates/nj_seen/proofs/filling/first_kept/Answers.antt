@@ -7,9 +7,9 @@ pub returns-then-more-slots-clause-place : goal.returns-then-more-slots-clause-p
 returns-then-more-slots-clause-place c =
     let held = c.loop-place.invariant in
     stopped c.args.slots c.args.room (c.args.slots - c.args.room - c.loop-place.count) c.args.generations.now
-        c.loop-place.place c.at.result.now
+    c.loop-place.place c.at.result.now
     c.loop-place-test.true held.within c.at.ensures (omega (arith, held.count, held.fits))
-        (omega (arith, c.if-more-slots.true, c.len-more.ensures))
+    (omega (arith, c.if-more-slots.true, c.len-more.ensures))
 
 pub returns-clause-place : goal.returns-clause-place
 returns-clause-place c =
@@ -17,5 +17,5 @@ returns-clause-place c =
     let none : c.loop-place.place ≡ 0 = omega (arith, c.loop-place-test.false) in
     ap (λ n. drop n c.args.generations.now) none
     ∙ none_goes c.args.slots c.args.room (c.args.slots - c.args.room - c.loop-place.count) c.args.generations.now
-        c.loop-place.place c.loop-place-test.false
+    c.loop-place.place c.loop-place-test.false
     (omega (arith, held.count, held.fits))

@@ -13,13 +13,13 @@ loop-slot-preserved c =
       | then-is_since w ↦ let is : c.if-is_since.count ≡ c.loop-slot.count + 1 = w.count-is in record {
         counted = is ∙ (ap (λ n. n + 1) c.loop-slot.invariant.counted
             ∙ sym (count_taken c.args.words.now c.args.from c.loop-slot.slot inside
-                (sym c.is_since.ensures ∙ w.if-is_since.true)));
+            (sym c.is_since.ensures ∙ w.if-is_since.true)));
         few = omega arith;
       }
       | else-is_since w ↦ let is : c.if-is_since.count ≡ c.loop-slot.count = w.count-is in record {
         counted = is ∙ (c.loop-slot.invariant.counted
             ∙ sym (count_passed c.args.words.now c.args.from c.loop-slot.slot inside
-                (sym c.is_since.ensures ∙ w.if-is_since.false)));
+            (sym c.is_since.ensures ∙ w.if-is_since.false)));
         few = omega arith;
       }
     ]

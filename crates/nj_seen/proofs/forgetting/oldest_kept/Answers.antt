@@ -12,7 +12,7 @@ too_many c =
     let fits : c.args.room ≤ slot_count c.args.words.now = c.requires.fits in
     let more : length c.args.words.now / 2 - c.args.room < c.count_since.result = c.loop-from-test.true in
     let count : c.count_since.result ≡ length (entries_since c.loop-from.from c.args.words.now) =
-        c.count_since.ensures in
+    c.count_since.ensures in
     omega (arith, fits, more, count)
 
 -- the least owner since it is a step
@@ -20,9 +20,9 @@ is_small : (c : goal.After-first_since-from) → c.first_since-from.result < fir
 is_small c =
     let more : length c.args.words.now / 2 - c.args.room < c.count_since.result = c.loop-from-test.true in
     let count : c.count_since.result ≡ length (entries_since c.loop-from.from c.args.words.now) =
-        c.count_since.ensures in
+    c.count_since.ensures in
     first_small c.args.words.now c.loop-from.from c.first_since-from.result (omega (arith, more, count))
-        c.first_since-from.ensures.least c.requires.steps
+    c.first_since-from.ensures.least c.requires.steps
 
 pub overflow_add-from : goal.overflow_add-from
 overflow_add-from c = let small : c.first_since-from.result < first_claim = is_small c in omega (arith, small)
@@ -47,7 +47,7 @@ returns c =
     let fits : c.args.room ≤ slot_count c.args.words.now = c.requires.fits in
     let less : c.count_since.result ≤ length c.args.words.now / 2 - c.args.room = c.loop-from-test.false in
     let count : c.count_since.result ≡ length (entries_since c.loop-from.from c.args.words.now) =
-        c.count_since.ensures in
+    c.count_since.ensures in
     record {
       fits = omega (arith, fits, less, count);
       over = c.loop-from.invariant.over;

@@ -27,25 +27,25 @@ loop-slot-preserved c =
       | then-is_since w ↦
           let wide = w.insert.auto.words in
           let items : c.if-is_since.rest.items ≡ w.insert.new.words = ap (λ v. v.items) w.rest-is
-              ∙ with_items_is c.loop-slot.rest w.insert.new.words (wide ∙ w.deref_mut.ensures.len) in
+          ∙ with_items_is c.loop-slot.rest w.insert.new.words (wide ∙ w.deref_mut.ensures.len) in
           let t = sym c.is_since.ensures ∙ w.if-is_since.true in record {
             table = subst IsTable (sym items) w.insert.ensures.table;
             size = ap length items ∙ (wide ∙ (ap length w.deref_mut.ensures.value ∙ held.size));
             moved = subst (λ xs. IsPermutation (entries_since c.args.from (take (2 * (slot + 1)) words))
-                    (entries_in xs)) (sym items)
+                (entries_in xs)) (sym items)
                 (moved_more words w.insert.new.words c.args.from slot
-                    (entries_in c.loop-slot.rest.items) inside t held.moved
+                (entries_in c.loop-slot.rest.items) inside t held.moved
                 (subst (λ xs. IsPermutation ((key_at words slot, owner_at words slot) ∷ entries_in xs)
-                        (entries_in w.insert.new.words)) w.deref_mut.ensures.value w.insert.ensures.entries));
+                (entries_in w.insert.new.words)) w.deref_mut.ensures.value w.insert.ensures.entries));
           }
       | else-is_since w ↦
           let items : c.if-is_since.rest.items ≡ c.loop-slot.rest.items = ap (λ v. v.items) w.rest-is in record {
             table = subst IsTable (sym items) held.table;
             size = ap length items ∙ held.size;
             moved = subst (λ xs. IsPermutation (entries_since c.args.from (take (2 * (slot + 1)) words))
-                    (entries_in xs)) (sym items)
+                (entries_in xs)) (sym items)
                 (moved_same words c.args.from slot (entries_in c.loop-slot.rest.items) inside
-                    (sym c.is_since.ensures ∙ w.if-is_since.false) held.moved);
+                (sym c.is_since.ensures ∙ w.if-is_since.false) held.moved);
           }
     ]
 
@@ -71,7 +71,7 @@ pub insert-requires-clause-room : goal.insert-requires-clause-room
 insert-requires-clause-room c =
     subst (λ xs. length (entries_in xs) < slot_count xs) (sym c.deref_mut.ensures.value)
     (has_room c.entries_are_the_map.ensures.within c.args.words.now c.loop-slot.rest.items c.args.from
-        c.loop-slot.slot c.loop-slot-test.true
+    c.loop-slot.slot c.loop-slot-test.true
     c.loop-slot.invariant.size c.loop-slot.invariant.moved)
 
 pub returns-clause-table : goal.returns-clause-table
@@ -88,5 +88,5 @@ returns-clause-kept c =
 pub returns-then-from-eq0-clause-kept : goal.returns-then-from-eq0-clause-kept
 returns-then-from-eq0-clause-kept c =
     IfOk-weaker c.from_slice.result (λ v. v.items ≡ c.args.words.now)
-        (λ rest. IsPermutation (entries_since c.args.from c.args.words.now) (entries_in rest.items))
+    (λ rest. IsPermutation (entries_since c.args.from c.args.words.now) (entries_in rest.items))
     (λ v same. kept_all c.args.words.now v.items c.args.from c.if-from-eq0.true same) c.from_slice.ensures.items

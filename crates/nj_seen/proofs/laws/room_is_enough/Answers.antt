@@ -7,5 +7,5 @@ pub returns : goal.returns
 returns c = λ opening closed keys full claims table table' size room closes asked among none.
     let laws = c.entries_are_the_map.ensures in
     none_full c.different_numbers_fit.ensures opening closed keys full claims
-        (is_map laws.once laws.owners opening table) (is_map laws.once laws.owners closed table')
+    (is_map laws.once laws.owners opening table) (is_map laws.once laws.owners closed table')
     size room closes asked among none

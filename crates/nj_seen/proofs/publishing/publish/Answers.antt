@@ -15,10 +15,10 @@ loop-slot-preserved c =
     elim c.if-is_since.branch [
       | then-is_since w ↦ subst (IsPublished c.args.words.now c.args.step (c.loop-slot.slot + 1)) (sym w.words-is)
           (slot_published c.args.words.now c.loop-slot.words c.args.step c.loop-slot.slot inside
-              (sym c.is_since.ensures ∙ w.if-is_since.true) c.loop-slot.invariant)
+          (sym c.is_since.ensures ∙ w.if-is_since.true) c.loop-slot.invariant)
       | else-is_since w ↦ subst (IsPublished c.args.words.now c.args.step (c.loop-slot.slot + 1)) (sym w.words-is)
           (slot_left c.args.words.now c.loop-slot.words c.args.step c.loop-slot.slot inside
-              (sym c.is_since.ensures ∙ w.if-is_since.false) c.loop-slot.invariant)
+          (sym c.is_since.ensures ∙ w.if-is_since.false) c.loop-slot.invariant)
     ]
 
 pub is_since-requires : goal.is_since-requires
@@ -38,4 +38,4 @@ returns-clause-entries c =
 pub returns-clause-owners : goal.returns-clause-owners
 returns-clause-owners c = λ key. owners_published c.args.words.now c.loop-slot.words c.args.step key
     (all_published c.args.words.now c.loop-slot.words c.args.step c.loop-slot.slot
-        c.loop-slot-test.false c.loop-slot.invariant)
+    c.loop-slot-test.false c.loop-slot.invariant)

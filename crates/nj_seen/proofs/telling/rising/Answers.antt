@@ -8,5 +8,5 @@ pub returns : goal.returns
 returns c =
     c.from_vec.ensures
     ∙ (in_rising_order c.into_vec-keys.result.items c.sort_unstable.new.self.items c.sort_unstable.ensures.permutation
-        c.sort_unstable.ensures.sorted
+    c.sort_unstable.ensures.sorted
     ∙ ap (in_order nat_lt) c.into_vec-keys.ensures)

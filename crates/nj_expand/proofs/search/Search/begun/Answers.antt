@@ -22,7 +22,7 @@ invariant_of-result c =
       first_front plan c.args.bounds.front c.args.first.pool c.args.first.judged.items
           c.requires.cartridge c.requires.bounds.some
           (c.an_image_stands_for_its_word.ensures.len plan [] c.requires.cartridge)
-              c.requires.first.pool c.requires.first.judged,
+          c.requires.first.pool c.requires.first.judged,
       (first c).at,
     )
 
@@ -30,4 +30,4 @@ pub returns : goal.returns
 returns c =
     let plan = plan_of c.args.cart c.args.script c.args.start in
     opened_is plan (bounds_of c.args.bounds c.args.script) c.args.first.pool _ c.args.first.level
-        (c.args.bounds.front * (size_in plan + 16)) c.requires.first.pool (first c).told c.requires.first.level
+    (c.args.bounds.front * (size_in plan + 16)) c.requires.first.pool (first c).told c.requires.first.level

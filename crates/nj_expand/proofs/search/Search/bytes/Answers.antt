@@ -14,7 +14,7 @@ needs c =
     let s = c.self.inside in
     let front = c.self.invariant.1 in
     c.bytes.ensures.sum ∙ front_needs (plan_of s.cart s.script s.start) s.pool.base s.pool.images
-        s.pool.words front.images front.base
+    s.pool.words front.images front.base
 
 pub returns-clause-sum : goal.returns-clause-sum
 returns-clause-sum c =
@@ -26,7 +26,7 @@ returns-clause-few c =
     let plan = plan_of s.cart s.script s.start in
     let front = c.self.invariant.1 in
     let long : (word : Word) → length (image_at plan word) ≡ size_in plan =
-        λ word. c.an_image_stands_for_its_word.ensures.len plan word front.nrom in
+    λ word. c.an_image_stands_for_its_word.ensures.len plan word front.nrom in
     subst (λ (h : Held). c.bytes.result ≤ length h.state.front * (size_in h.plan + 16)) c.self.view_is
     (subst (λ n. n ≤ length s.pool.words * (size_in plan + 16)) (sym (needs c))
     (needs_bound plan s.pool.words (image_size plan (image_at plan []) (long [])) long c.a_need_is_bounded.ensures))

@@ -25,15 +25,14 @@ unfolding seen
 invariant_of-result c =
     let plan = plan_of c.args.cart c.args.script c.args.start in
     let some : 1 ≤ length (front_in c.args.saved.now) =
-        omega (arith, front_count c.args.saved.now, c.requires.ranges.some_words) in
+    omega (arith, front_count c.args.saved.now, c.requires.ranges.some_words) in
     let few : length (front_in c.args.saved.now) ≤ c.args.bounds.front =
-        omega (arith, front_count c.args.saved.now, c.requires.few) in
-    (
+    omega (arith, front_count c.args.saved.now, c.requires.few) in (
       c.requires.bounds,
       front_of plan c.args.bounds.front (front_in c.args.saved.now) c.args.front.pool c.args.front.judged.items
           c.requires.cartridge some few
           (c.an_image_stands_for_its_word.ensures.len plan [] c.requires.cartridge)
-              c.requires.front.pool c.requires.front.judged,
+          c.requires.front.pool c.requires.front.judged,
       table_at c.args.table.0.items c.args.table.1 (seen c) c.args.saved.now.step c.args.bounds.exponent
           c.requires.table (told c) c.requires.ranges.last_step,
     )
@@ -44,4 +43,4 @@ returns c =
     let plan = plan_of c.args.cart c.args.script c.args.start in
     resumed_is plan (bounds_of c.args.bounds c.args.script) c.args.saved.now c.args.front.pool.words _
     (pool_words plan (c.args.bounds.front * (size_in plan + 16)) (front_in c.args.saved.now) c.args.front.pool
-            c.requires.front.pool) (told c)
+    c.requires.front.pool) (told c)

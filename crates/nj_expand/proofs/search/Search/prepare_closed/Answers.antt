@@ -12,9 +12,9 @@ prepare-requires-clause-fresh c =
     let now : Held = c.args.self.now in
     let step : now.state.step < 16777215 = c.requires.step in
     owned_fresh now c.left-left.result c.words.result.now c.args.claims.now c.args.rows.now c.in_ok-fresh.fresh.items
-        c.left-left.ensures (omega (arith, step)) c.words.ensures.seen
+    c.left-left.ensures (omega (arith, step)) c.words.ensures.seen
     (c.live_rows_can_claim.ensures.rising now c.few_pads.ensures) c.requires.rows c.requires.claims
-        c.in_ok-fresh.ensures c.owned_unseen_is_fresh.ensures c.rows_in_any_order.ensures.fresh
+    c.in_ok-fresh.ensures c.owned_unseen_is_fresh.ensures c.rows_in_any_order.ensures.fresh
 
 pub returns : goal.returns
 returns c =
