@@ -16,8 +16,10 @@ unseen-requires-clause-rising c =
 pub prepare-requires-clause-fresh : goal.prepare-requires-clause-fresh
 prepare-requires-clause-fresh c =
     let is : c.in_ok-fresh.fresh.items ≡ fresh_rows_in c.args.self.now =
-    found_fresh c.args.self.now c.left-left.result c.words.result.now c.args.rows.now c.in_ok-fresh.fresh.items c.left-left.ensures c.words.ensures.seen c.requires.rows c.in_ok-fresh.ensures in
-    subst (λ (rows : List Row). IsPermutation c.in_ok-fresh.fresh.items rows) is (IsPermutation-refl c.in_ok-fresh.fresh.items)
+    found_fresh c.args.self.now c.left-left.result c.words.result.now c.args.rows.now c.in_ok-fresh.fresh.items
+    c.left-left.ensures c.words.ensures.seen c.requires.rows c.in_ok-fresh.ensures in
+    subst (λ (rows : List Row). IsPermutation c.in_ok-fresh.fresh.items rows) is
+    (IsPermutation-refl c.in_ok-fresh.fresh.items)
 
 pub returns : goal.returns
 returns c =
