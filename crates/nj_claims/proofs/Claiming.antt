@@ -69,7 +69,7 @@ fits_passed : (n : ℕ) (W : List ℕ) (key depth : ℕ) (v : View) → Fits n W
     → Fits n W (passed n key depth v)
 fits_passed n W key depth v f h = dite (ℕ_discrete depth n)
     (λ e. subst (λ b. Fits n W (if b then record v { full = v.full ++ key ∷ []; flight = Idle }
-        else with_flight (looking key depth) v)) (sym (eq-eqb depth n e)) record {
+    else with_flight (looking key depth) v)) (sym (eq-eqb depth n e)) record {
       claims = f.claims;
       seen = f.seen;
       full = All-push (IsFullFor n W) v.full key f.full (λ slot l. let at = each_slot n key slot l in
@@ -77,7 +77,7 @@ fits_passed n W key depth v f h = dite (ℕ_discrete depth n)
       flight = tt;
     })
     (λ ne. subst (λ b. Fits n W (if b then record v { full = v.full ++ key ∷ []; flight = Idle }
-        else with_flight (looking key depth) v)) (sym (ne_eqb depth n ne)) record {
+    else with_flight (looking key depth) v)) (sym (ne_eqb depth n ne)) record {
       claims = f.claims;
       seen = f.seen;
       full = f.full;
@@ -88,14 +88,16 @@ fits_passed n W key depth v f h = dite (ℕ_discrete depth n)
 fits_probed : (n : ℕ) (W : List ℕ) (key depth held : ℕ) (v : View) → Fits n W v → key ≢ 0 → depth < n
     → v.flight ≡ looking key depth
     → held ≡ key_at W (slot_from n key depth) → held ≢ 0 → Fits n W (probed n key depth (held == key) v)
-fits_probed n W key depth held v f some_key near flight is taken = let p : ℕ = slot_from n key depth in
-    dite (ℕ_discrete held key)
+fits_probed n W key depth held v f some_key near flight is taken =
+    let p : ℕ = slot_from n key depth in dite (ℕ_discrete held key)
     (λ e. subst (λ b. Fits n W (probed n key depth b v)) (sym (eq-eqb held key e))
     (fits_found n W key p v f some_key (slot-inside n key depth (omega arith)) (sym is ∙ e)))
     (λ ne. subst (λ b. Fits n W (probed n key depth b v)) (sym (ne_eqb held key ne))
     (fits_passed n W key (depth + 1) v f (λ d l. dite (ℕ_discrete d depth)
-    (λ e. subst (λ x. HoldsOther W key (slot_from n key x)) (sym e) record { taken = λ z. taken (is ∙ z);
-        other = λ z. ne (is ∙ z) })
+    (λ e. subst (λ x. HoldsOther W key (slot_from n key x)) (sym e) record {
+      taken = λ z. taken (is ∙ z);
+      other = λ z. ne (is ∙ z);
+    })
     (λ no. looking_fits n W key depth (subst (FitsFlight n W) flight f.flight) d (omega arith)))))
 
 -- a step that changes no word, and of the view no more than its flight and the refused keys
@@ -105,7 +107,7 @@ still : (o : Opening) (s : State ℕ View) (id i key depth : ℕ) (v w : View) �
     → Holds o record { words = set s.words i (get_or s.words i 0); homes = s.homes; views = set s.views id w }
 still o s id i key depth v w h at flight lives same fits =
     subst (λ (ws : List ℕ). Holds o record { words = ws; homes = s.homes; views = set s.views id w })
-        (sym (set-get_or s.words i 0)) (kept_step o s id v s.words w h at record {
+    (sym (set-get_or s.words i 0)) (kept_step o s id v s.words w h at record {
       wide = refl;
       placed = h.placed;
       grows = same_words o.slots s.words;
@@ -119,7 +121,7 @@ still o s id i key depth v w h at flight lives same fits =
           (moved s.views id v w (Claims k m) at (λ c. subst (λ cs. Contains cs (k, m)) (sym same.claims) c)) in
           subst (λ cs. All (λ c. Stems o (set s.views id w) c.0 c.1) cs) (sym same.seen)
           (All-weaker (λ c. Stems o s.views c.0 c.1) (λ c. Stems o (set s.views id w) c.0 c.1)
-              (λ c t. on c.0 c.1 t) v.seen (h.told id v at));
+          (λ c t. on c.0 c.1 t) v.seen (h.told id v at));
       living = same.living;
       lives = same.living ∙ lives;
       out = same.out;
@@ -133,32 +135,35 @@ pub look_allowed : (o : Opening) (key depth slots id : ℕ) (me : Me ℕ View) (
     → slot ≡ slot_from o.slots key depth
     → me.0.flight ≡ looking key depth → me.0.living ≡ true
     → Allows (Holds o) slots id me (2 * slot) (λ x. x) (λ x me'. me' ≡ (after_look o.slots key depth x me.0, me.1))
-look_allowed o key depth slots id me slot some_key near is flight lives s h wide at small = let held : ℕ =
-    get_or s.words (2 * slot) 0 in let v : View = me.0 in (
-  after_look o.slots key depth held v,
-  keeps,
-  tt,
-  dite (ℕ_discrete held 0)
-      (λ e. subst (λ b. Holds o (stepped s (2 * slot) held id me.1
+look_allowed o key depth slots id me slot some_key near is flight lives s h wide at small =
+    let held : ℕ = get_or s.words (2 * slot) 0 in let v : View = me.0 in (
+      after_look o.slots key depth held v,
+      keeps,
+      tt,
+      dite (ℕ_discrete held 0)
+          (λ e. subst (λ b. Holds o (stepped s (2 * slot) held id me.1
           (if b then v else probed o.slots key depth (held == key) v) keeps)) (sym (eq-eqb held 0 e))
-      (still o s id (2 * slot) key depth v v h at flight lives (as_itself v) (h.fits id v at)))
-      (λ ne. subst (λ b. Holds o (stepped s (2 * slot) held id me.1
+          (still o s id (2 * slot) key depth v v h at flight lives (as_itself v) (h.fits id v at)))
+          (λ ne. subst (λ b. Holds o (stepped s (2 * slot) held id me.1
           (if b then v else probed o.slots key depth (held == key) v) keeps)) (sym (ne_eqb held 0 ne))
-      (still o s id (2 * slot) key depth v (probed o.slots key depth (held == key) v) h at flight lives
+          (still o s id (2 * slot) key depth v (probed o.slots key depth (held == key) v) h at flight lives
           (before_probed o.slots key depth (held == key) v)
-      (fits_probed o.slots s.words key depth held v (h.fits id v at) some_key near flight
+          (fits_probed o.slots s.words key depth held v (h.fits id v at) some_key near flight
           (ap (key_at s.words) is) ne))),
-  refl,
-)
+      refl,
+    )
 
 -- a key that comes into the first empty slot of its walk
 put_step : (o : Opening) (s : State ℕ View) (id key depth slot : ℕ) (v : View) → Holds o s
     → get_elem? s.views id ≡ some v → key ≢ 0 → depth < o.slots
     → slot ≡ slot_from o.slots key depth → v.flight ≡ looking key depth → v.living ≡ true → key_at s.words slot ≡ 0
-    → Holds o record { words = set s.words (2 * slot) key; homes = s.homes;
-        views = set s.views id (probed o.slots key depth true v) }
-put_step o s id key depth slot v h at some_key near is flight lives empty = let n : ℕ = o.slots in
-    let W : List ℕ = set s.words (2 * slot) key in
+    → Holds o record {
+      words = set s.words (2 * slot) key;
+      homes = s.homes;
+      views = set s.views id (probed o.slots key depth true v);
+    }
+put_step o s id key depth slot v h at some_key near is flight lives empty =
+    let n : ℕ = o.slots in let W : List ℕ = set s.words (2 * slot) key in
     let w : View = probed n key depth true v in
     let inside : slot < n = subst (λ x. x < n) (sym is) (slot-inside n key depth h.some_slot) in
     let here : key_at W slot ≡ key = key_at-set_same s.words n slot key h.wide inside in
@@ -184,7 +189,7 @@ put_step o s id key depth slot v h at some_key near is flight lives empty = let 
           (λ ne. inr (inl (key_at-set_other s.words slot key i ne, owner_at-set_key s.words slot key i)));
       told = All-weaker (λ c. Stems o s.views c.0 c.1) (λ c. Stems o (set s.views id w) c.0 c.1)
           (λ c t. stems_on o s.views (set s.views id w) c.0 c.1 (moved s.views id v w (Claims c.0 c.1) at (λ x. x)) t)
-              v.seen (h.told id v at);
+          v.seen (h.told id v at);
       living = refl;
       lives = lives;
       out = refl;
@@ -195,49 +200,51 @@ pub put_allowed : (o : Opening) (key depth slots id : ℕ) (me : Me ℕ View) (s
     → slot ≡ slot_from o.slots key depth
     → me.0.flight ≡ looking key depth → me.0.living ≡ true
     → Allows (Holds o) slots id me (2 * slot) (λ x. either (eqb x 0) key x) (λ x me'. me'
-        ≡ (after_put o.slots key depth x me.0, me.1))
-put_allowed o key depth slots id me slot some_key near is flight lives s h wide at small = let held : ℕ =
-    get_or s.words (2 * slot) 0 in let v : View = me.0 in (
-  after_put o.slots key depth held v,
-  keeps,
-  tt,
-  dite (ℕ_discrete held 0)
-      (λ e. subst (λ b. Holds o (stepped s (2 * slot) (either b key held) id me.1 (if b then probed o.slots key depth
+    ≡ (after_put o.slots key depth x me.0, me.1))
+put_allowed o key depth slots id me slot some_key near is flight lives s h wide at small =
+    let held : ℕ = get_or s.words (2 * slot) 0 in let v : View = me.0 in (
+      after_put o.slots key depth held v,
+      keeps,
+      tt,
+      dite (ℕ_discrete held 0)
+          (λ e.
+          subst (λ b. Holds o (stepped s (2 * slot) (either b key held) id me.1 (if b then probed o.slots key depth
           true v else probed o.slots key depth (held == key) v) keeps)) (sym (eq-eqb held 0 e))
-      (put_step o s id key depth slot v h at some_key near is flight lives e))
-      (λ ne. subst (λ b. Holds o (stepped s (2 * slot) (either b key held) id me.1 (if b then probed o.slots key depth
+          (put_step o s id key depth slot v h at some_key near is flight lives e))
+          (λ ne.
+          subst (λ b. Holds o (stepped s (2 * slot) (either b key held) id me.1 (if b then probed o.slots key depth
           true v else probed o.slots key depth (held == key) v) keeps)) (sym (ne_eqb held 0 ne))
-      (still o s id (2 * slot) key depth v (probed o.slots key depth (held == key) v) h at flight lives
+          (still o s id (2 * slot) key depth v (probed o.slots key depth (held == key) v) h at flight lives
           (before_probed o.slots key depth (held == key) v)
-      (fits_probed o.slots s.words key depth held v (h.fits id v at) some_key near flight
+          (fits_probed o.slots s.words key depth held v (h.fits id v at) some_key near flight
           (ap (key_at s.words) is) ne))),
-  refl,
-)
+      refl,
+    )
 
 -- the owner's step
 own_owes : (o : Opening) (s : State ℕ View) (id key number slot x : ℕ) (v : View) → Holds o s
     → get_elem? s.views id ≡ some v → number < no_owner
     → v.flight ≡ Found key slot → v.living ≡ true → x ≡ owner_at s.words slot
     → Owes o s id v (set s.words (2 * slot + 1) (min x number)) (after_own key number x v)
-own_owes o s id key number slot x v h at small flight lives is = let n : ℕ = o.slots in let m : ℕ = min x number in
-    let W : List ℕ = set s.words (2 * slot + 1) m in
+own_owes o s id key number slot x v h at small flight lives is =
+    let n : ℕ = o.slots in let m : ℕ = min x number in let W : List ℕ = set s.words (2 * slot + 1) m in
     let w : View = after_own key number x v in let f = h.fits id v at in
     let found : (key ≢ 0) × (slot < n) × (key_at s.words slot ≡ key) = subst (FitsFlight n s.words) flight f.flight in
     let inside : slot < n = found.1 in
     let same : (i : ℕ) → key_at W i ≡ key_at s.words i = λ i. key_at-set_owner s.words slot m i in
     let here : owner_at W slot ≡ m = owner_at-set_same s.words n slot m h.wide inside in
     let else_at : (i : ℕ) → i ≢ slot → owner_at W i ≡ owner_at s.words i =
-        λ i ne. owner_at-set_other s.words slot m i ne in
+    λ i ne. owner_at-set_other s.words slot m i ne in
     let grows : Grows n s.words W = record {
       keys = λ i l t. same i;
       owners = λ i l t. dite (ℕ_discrete i slot)
           (λ e. let a : owner_at W i ≡ m = ap (owner_at W) e ∙ here in
-              let b : owner_at s.words i ≡ x = ap (owner_at s.words) e ∙ sym is in omega arith)
+          let b : owner_at s.words i ≡ x = ap (owner_at s.words) e ∙ sym is in omega arith)
           (λ ne. let a : owner_at W i ≡ owner_at s.words i = else_at i ne in omega arith);
     } in
     let on = fits_on n s.words W h.some_slot grows v f in
     let mine : (k p : ℕ) → Claims k p v → Claims k p w =
-        λ k p c. Contains-append_left v.claims ((key, number) ∷ []) (k, p) c in
+    λ k p c. Contains-append_left v.claims ((key, number) ∷ []) (k, p) c in
     let new : Claims key number w = Contains-push v.claims (key, number) in
     let reach : (p : ℕ) → p < no_owner → m ≤ p → Reaches n W key p = λ p named l. record {
       some_key = found.0;
@@ -248,7 +255,7 @@ own_owes o s id key number slot x v h at small flight lives is = let n : ℕ = o
       owned = subst (λ (z : ℕ). z ≤ p) (sym here) l;
     } in
     let stems : (k p : ℕ) → Stems o s.views k p → Stems o (set s.views id w) k p =
-        λ k p. stems_on o s.views (set s.views id w) k p (moved s.views id v w (Claims k p) at (mine k p)) in record {
+    λ k p. stems_on o s.views (set s.views id w) k p (moved s.views id v w (Claims k p) at (mine k p)) in record {
       wide = length-set s.words (2 * slot + 1) m;
       placed = own_placed n s.words slot m h.wide h.placed inside (λ z. found.0 (sym found.2 ∙ z));
       grows = grows;
@@ -256,7 +263,7 @@ own_owes o s id key number slot x v h at small flight lives is = let n : ℕ = o
       brings = λ k b. ⊎_elim
           (λ (a : (p : ℕ) × Contains v.claims (k, p)). inl (a.0, mine k a.0 a.1))
           (λ (a : HasFound k v.flight). let e : key ≡ k = subst (HasFound k) flight a in
-              inl (number, subst (λ (z : ℕ). Claims z number w) e new)) b;
+          inl (number, subst (λ (z : ℕ). Claims z number w) e new)) b;
       fits = record {
         claims =
             All-push (λ c. Reaches n W c.0 c.1) v.claims (key, number) on.claims (reach number small (omega arith));
@@ -268,7 +275,7 @@ own_owes o s id key number slot x v h at small flight lives is = let n : ℕ = o
       owners = λ i l. dite (ℕ_discrete i slot)
           (λ e. ⊎_elim
           (λ (lt : x < number). let eq : m ≡ x = omega arith in
-              inr (inl (same i, ap (owner_at W) e ∙ (here ∙ (eq ∙ (is ∙ ap (owner_at s.words) (sym e)))))))
+          inr (inl (same i, ap (owner_at W) e ∙ (here ∙ (eq ∙ (is ∙ ap (owner_at s.words) (sym e)))))))
           (λ (le : number ≤ x). let eq : m ≡ number = omega arith in
           let k : key_at W i ≡ key = ap (key_at W) e ∙ (same slot ∙ found.2) in
           let p : owner_at W i ≡ number = ap (owner_at W) e ∙ (here ∙ eq) in
@@ -277,17 +284,17 @@ own_owes o s id key number slot x v h at small flight lives is = let n : ℕ = o
           (λ ne. inr (inl (same i, else_at i ne)));
       told = All-push (λ c. Stems o (set s.views id w) c.0 c.1) v.seen (key, m)
           (All-weaker (λ c. Stems o s.views c.0 c.1) (λ c. Stems o (set s.views id w) c.0 c.1)
-              (λ c t. stems c.0 c.1 t) v.seen (h.told id v at))
+          (λ c t. stems c.0 c.1 t) v.seen (h.told id v at))
           (⊎_elim
           (λ (lt : x < number). let eq : m ≡ x = omega arith in
-              subst (λ (z : ℕ). Stems o (set s.views id w) key z) (sym eq)
+          subst (λ (z : ℕ). Stems o (set s.views id w) key z) (sym eq)
           (⊎_elim (λ (none_yet : owner_at s.words slot ≡ no_owner). absurd (let a : x ≡ no_owner = is ∙ none_yet in
-              omega arith))
+          omega arith))
           (λ (b : Stems o s.views (key_at s.words slot) (owner_at s.words slot)).
           stems key x (subst (λ (z : ℕ × ℕ). Stems o s.views z.0 z.1) (λ j. (found.2 j, sym is j)) b))
           (h.owned slot inside)))
           (λ (le : number ≤ x). let eq : m ≡ number = omega arith in
-              subst (λ (z : ℕ). Stems o (set s.views id w) key z) (sym eq)
+          subst (λ (z : ℕ). Stems o (set s.views id w) key z) (sym eq)
           (inr record { seat = id; view = w; there = set_at s.views id w v at; has = new }))
           (cases_lt x number));
       living = refl;
@@ -300,19 +307,19 @@ own_told : (o : Opening) (s : State ℕ View) (id key number most slot x : ℕ) 
     → get_elem? s.views id ≡ some me.0 → number < no_owner
     → me.0.flight ≡ Found key slot → x ≡ owner_at s.words slot → HasFirst key most o
     → Owns key number most me x (after_own key number x me.0, me.1)
-own_told o s id key number most slot x me h at small flight is first = let n : ℕ = o.slots in let v : View = me.0 in
-    let f = h.fits id v at in
+own_told o s id key number most slot x me h at small flight is first =
+    let n : ℕ = o.slots in let v : View = me.0 in let f = h.fits id v at in
     let found : (key ≢ 0) × (slot < n) × (key_at s.words slot ≡ key) = subst (FitsFlight n s.words) flight f.flight in
     let only : (i : ℕ) → i < n → key_at s.words i ≡ key → slot ≡ i = λ i l e.
     h.placed.once slot i found.1 l (λ z. found.0 (sym found.2 ∙ z)) (found.2 ∙ sym e) in record {
       view = refl;
       seen = All-weaker (λ c. Reaches n s.words c.0 c.1) (λ c. c.0 ≡ key → min x number ≤ c.1)
           (λ c r e. let there : slot ≡ r.slot = only r.slot r.inside (r.held ∙ e) in
-              let low : owner_at s.words r.slot ≤ c.1 = r.owned in
+          let low : owner_at s.words r.slot ≤ c.1 = r.owned in
           let same : x ≡ owner_at s.words r.slot = is ∙ ap (owner_at s.words) there in omega arith) v.seen f.seen;
       first = ⊎_elim
           (λ (a : (i : ℕ) × Opens o i key most). let q = a.1 in
-              let st = h.stays a.0 q.inside (λ z. q.some_key (sym q.held ∙ z)) in
+          let st = h.stays a.0 q.inside (λ z. q.some_key (sym q.held ∙ z)) in
           let there : slot ≡ a.0 = only a.0 q.inside (st.key ∙ q.held) in
           let same : x ≡ owner_at s.words a.0 = is ∙ ap (owner_at s.words) there in
           let low : owner_at s.words a.0 ≤ owner_at o.words.items a.0 = st.owner in
@@ -323,15 +330,15 @@ own_told o s id key number most slot x me h at small flight is first = let n : �
 pub own_allowed : (o : Opening) (key number most slots id : ℕ) (me : Me ℕ View) (slot : ℕ) → number < no_owner
     → me.0.flight ≡ Found key slot → me.0.living ≡ true
     → HasFirst key most o → Allows (Holds o) slots id me (2 * slot + 1) (λ x. min x number) (Owns key number most me)
-own_allowed o key number most slots id me slot small flight lives first s h wide at narrow = let x : ℕ =
-    get_or s.words (2 * slot + 1) 0 in (
-  after_own key number x me.0,
-  keeps,
-  tt,
-  kept_step o s id me.0 (set s.words (2 * slot + 1) (min x number)) (after_own key number x me.0) h at
-      (own_owes o s id key number slot x me.0 h at small flight lives refl),
-  own_told o s id key number most slot x me h at small flight refl first,
-)
+own_allowed o key number most slots id me slot small flight lives first s h wide at narrow =
+    let x : ℕ = get_or s.words (2 * slot + 1) 0 in (
+      after_own key number x me.0,
+      keeps,
+      tt,
+      kept_step o s id me.0 (set s.words (2 * slot + 1) (min x number)) (after_own key number x me.0) h at
+          (own_owes o s id key number slot x me.0 h at small flight lives refl),
+      own_told o s id key number most slot x me h at small flight refl first,
+    )
 
 -- where the slots are named otherwise
 pub look_on : (o : Opening) (n key depth slots id : ℕ) (me : Me ℕ View) (slot : ℕ) → n ≡ o.slots → key ≢ 0 → depth < n
@@ -341,25 +348,25 @@ pub look_on : (o : Opening) (n key depth slots id : ℕ) (me : Me ℕ View) (slo
 look_on o n key depth slots id me slot e = subst (λ (m : ℕ). key ≢ 0 → depth < m → slot ≡ slot_from m key depth
     → me.0.flight ≡ looking key depth → me.0.living ≡ true
     → Allows (Holds o) slots id me (2 * slot) (λ x. x) (λ x me'. me' ≡ (after_look m key depth x me.0, me.1))) (sym e)
-        (look_allowed o key depth slots id me slot)
+    (look_allowed o key depth slots id me slot)
 
 pub put_on : (o : Opening) (n key depth slots id : ℕ) (me : Me ℕ View) (slot : ℕ) → n ≡ o.slots → key ≢ 0 → depth < n
     → slot ≡ slot_from n key depth
     → me.0.flight ≡ looking key depth → me.0.living ≡ true
     → Allows (Holds o) slots id me (2 * slot) (λ x. either (eqb x 0) key x) (λ x me'. me'
-        ≡ (after_put n key depth x me.0, me.1))
+    ≡ (after_put n key depth x me.0, me.1))
 put_on o n key depth slots id me slot e = subst (λ (m : ℕ). key ≢ 0 → depth < m → slot ≡ slot_from m key depth
     → me.0.flight ≡ looking key depth → me.0.living ≡ true
     → Allows (Holds o) slots id me (2 * slot) (λ x. either (eqb x 0) key x) (λ x me'. me'
-        ≡ (after_put m key depth x me.0, me.1))) (sym e) (put_allowed o key depth slots id me slot)
+    ≡ (after_put m key depth x me.0, me.1))) (sym e) (put_allowed o key depth slots id me slot)
 
 -- the words of a slot are within the table's
 pub key_word : (n : ℕ) (o : Opening) (id : TableId) (slot : ℕ) → IsBoard n o id → slot < n → 2 * slot < id.words
 key_word n o id slot b l = let e : n ≡ o.slots = b.as_opened in let w : id.words ≡ 2 * o.slots = b.words in omega arith
 
 pub owner_word : (n : ℕ) (o : Opening) (id : TableId) (slot : ℕ) → IsBoard n o id → slot < n → 2 * slot + 1 < id.words
-owner_word n o id slot b l = let e : n ≡ o.slots = b.as_opened in let w : id.words ≡ 2 * o.slots = b.words in
-    omega arith
+owner_word n o id slot b l =
+    let e : n ≡ o.slots = b.as_opened in let w : id.words ≡ 2 * o.slots = b.words in omega arith
 
 pub walk_inside : (n key depth slot : ℕ) → depth < n → slot ≡ slot_from n key depth → slot < n
 walk_inside n key depth slot l e = subst (λ (x : ℕ). x < n) (sym e) (slot-inside n key depth (omega arith))

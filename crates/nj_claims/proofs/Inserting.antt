@@ -39,7 +39,7 @@ entry_placed n W key owner slot wide placed real free =
     own_placed n (set W (2 * slot) key) slot owner (length-set W (2 * slot) key ∙ wide)
     (subst (λ (p : ℕ). IsPlaced n (set W (2 * p) key)) (sym free.here)
     (put_placed n W key free.distance wide placed real free.near free.before (ap (key_at W) (sym free.here)
-        ∙ free.empty)))
+    ∙ free.empty)))
     free.inside (λ z. real (sym (key_at-set_same W n slot key wide free.inside) ∙ z))
 
 -- a table with an entry more is a table
@@ -56,28 +56,28 @@ pub entry_owners : (W : List ℕ) (key owner slot : ℕ) → IsTable W → key �
     → IsFree (length W / 2) W key slot
     → (other : ℕ)
     → owner_in (with_entry W slot key owner) other ≡ (if key == other then Some owner else owner_in W other)
-entry_owners W key owner slot t real absent free other = let n : ℕ = length W / 2 in
-    let X : List ℕ = with_entry W slot key owner in let wide = two_each W t in
+entry_owners W key owner slot t real absent free other =
+    let n : ℕ = length W / 2 in let X : List ℕ = with_entry W slot key owner in let wide = two_each W t in
     let wide' : length X ≡ 2 * n = entry_wide W key owner slot ∙ wide in
     let placed = entry_placed n W key owner slot wide t.placed real free in dite (ℕ_discrete key other)
     (λ e. subst (λ (k : ℕ). owner_in X k ≡ Some owner) e
     (standing n X key slot wide' placed real free.inside (key_here n W key owner slot wide free.inside)
-        ∙ ap (λ (o : ℕ). Some o) (owner_here n W key owner slot wide free.inside))
+    ∙ ap (λ (o : ℕ). Some o) (owner_here n W key owner slot wide free.inside))
     ∙ ap (λ b. if b then Some owner else owner_in W other) (sym (eq-eqb key other e)))
     (λ ne. same n X wide wide' placed ne
-        ∙ ap (λ b. if b then Some owner else owner_in W other) (sym (ne_eqb key other ne))) where
+    ∙ ap (λ b. if b then Some owner else owner_in W other) (sym (ne_eqb key other ne))) where
       same : (n : ℕ) (X : List ℕ) → length W ≡ 2 * (length W / 2) → length (with_entry W slot key owner)
           ≡ 2 * (length W / 2) → IsPlaced (length W / 2) (with_entry W slot key owner)
           → key ≢ other → owner_in (with_entry W slot key owner) other ≡ owner_in W other
-      same _ _ wide wide' placed ne = let n : ℕ = length W / 2 in let X : List ℕ = with_entry W slot key owner in
-          dite (ℕ_discrete other 0)
+      same _ _ wide wide' placed ne =
+          let n : ℕ = length W / 2 in let X : List ℕ = with_entry W slot key owner in dite (ℕ_discrete other 0)
           (λ z. ap (owner_in X) z ∙ (zero_in n X wide' ∙ sym (ap (owner_in W) z ∙ zero_in n W wide)))
           (λ some_other. ⊎_elim
           (λ (p : (i : ℕ) × (i < n) × (key_at W i ≡ other)). let far : p.0 ≢ slot =
-              λ e. some_other (sym p.2 ∙ (ap (key_at W) e ∙ free.empty)) in
+          λ e. some_other (sym p.2 ∙ (ap (key_at W) e ∙ free.empty)) in
           standing n X other p.0 wide' placed some_other p.1 (key_there W key owner slot p.0 far ∙ p.2)
           ∙ (ap (λ (o : ℕ). Some o) (owner_there W key owner slot p.0 far)
-              ∙ sym (standing n W other p.0 wide t.placed some_other p.1 p.2)))
+          ∙ sym (standing n W other p.0 wide t.placed some_other p.1 p.2)))
           (λ (none : (i : ℕ) → i < n → key_at W i ≢ other).
           absent_in n X other wide' (λ i l e. dite (ℕ_discrete i slot)
           (λ here. ne (sym (ap (key_at X) here ∙ key_here n W key owner slot wide free.inside) ∙ e))

@@ -26,14 +26,14 @@ one_distance n key d e some_slot ld le same = let h : ℕ = key % n in let lh : 
       go : (h : ℕ) → h < n → (h + d) % n ≡ (h + e) % n → ((h + d < n) × ((h + d) % n ≡ h + d))
           ⊎ ((n ≤ h + d) × ((h + d) % n + n ≡ h + d))
           → ((h + e < n) × ((h + e) % n ≡ h + e)) ⊎ ((n ≤ h + e) × ((h + e) % n + n ≡ h + e)) → d ≡ e
-      go h lh same (inl a) (inl b) = let x : (h + d) % n ≡ h + d = a.1 in let y : (h + e) % n ≡ h + e = b.1 in
-          omega arith
+      go h lh same (inl a) (inl b) =
+          let x : (h + d) % n ≡ h + d = a.1 in let y : (h + e) % n ≡ h + e = b.1 in omega arith
       go h lh same (inl a) (inr b) = let l : h + d < n = a.0 in let x : (h + d) % n ≡ h + d = a.1 in
           let y : (h + e) % n + n ≡ h + e = b.1 in absurd (omega arith)
       go h lh same (inr a) (inl b) = let l : h + e < n = b.0 in let x : (h + d) % n + n ≡ h + d = a.1 in
           let y : (h + e) % n ≡ h + e = b.1 in absurd (omega arith)
-      go h lh same (inr a) (inr b) = let x : (h + d) % n + n ≡ h + d = a.1 in let y : (h + e) % n + n ≡ h + e = b.1 in
-          omega arith
+      go h lh same (inr a) (inr b) =
+          let x : (h + d) % n + n ≡ h + d = a.1 in let y : (h + e) % n + n ≡ h + e = b.1 in omega arith
 
 -- each slot is come to within one round
 pub each_slot : (n key slot : ℕ) → slot < n → (d : ℕ) × (d < n) × (slot_from n key d ≡ slot)
@@ -86,8 +86,8 @@ pub put_placed : (n : ℕ) (words : List ℕ) (key depth : ℕ) → length words
     → depth < n
     → ArePassed n words key depth → key_at words (slot_from n key depth) ≡ 0
     → IsPlaced n (set words (2 * slot_from n key depth) key)
-put_placed n words key depth wide placed some_key near passed empty = let p : ℕ = slot_from n key depth in
-    let W : List ℕ = set words (2 * p) key in
+put_placed n words key depth wide placed some_key near passed empty =
+    let p : ℕ = slot_from n key depth in let W : List ℕ = set words (2 * p) key in
     let inside : p < n = slot-inside n key depth (omega arith) in
     let here : key_at W p ≡ key = key_at-set_same words n p key wide inside in
     let nowhere = absent n words key depth placed some_key near passed empty in
@@ -96,18 +96,18 @@ put_placed n words key depth wide placed some_key near passed empty = let p : �
           (λ ei. dite (ℕ_discrete j p) (λ ej. ei ∙ sym ej)
           (λ nj. absurd (nowhere j lj (sym (else_at j nj) ∙ (sym same ∙ (ap (key_at W) ei ∙ here))))))
           (λ ni. dite (ℕ_discrete j p)
-              (λ ej. absurd (nowhere i li (sym (else_at i ni) ∙ (same ∙ (ap (key_at W) ej ∙ here)))))
+          (λ ej. absurd (nowhere i li (sym (else_at i ni) ∙ (same ∙ (ap (key_at W) ej ∙ here)))))
           (λ nj. placed.once i j li lj (λ z. taken (else_at i ni ∙ z)) (sym (else_at i ni) ∙ (same ∙ else_at j nj))));
       chained = λ k far close some lf lc held vacant. dite (ℕ_discrete (slot_from n k close) p)
           (λ e. some_key (sym here ∙ (ap (key_at W) (sym e) ∙ vacant)))
           (λ nc. dite (ℕ_discrete (slot_from n k far) p)
           (λ e. let is : k ≡ key = sym held ∙ (ap (key_at W) e ∙ here) in
           let far_is : far ≡ depth =
-              one_distance n key far depth (omega arith) lf near (subst (λ (x : ℕ). slot_from n x far ≡ p) is e) in
+          one_distance n key far depth (omega arith) lf near (subst (λ (x : ℕ). slot_from n x far ≡ p) is e) in
           (passed close (omega arith)).taken (subst (λ (x : ℕ). key_at words (slot_from n x close) ≡ 0) is
-              (sym (else_at (slot_from n k close) nc) ∙ vacant)))
+          (sym (else_at (slot_from n k close) nc) ∙ vacant)))
           (λ nf. placed.chained k far close some lf lc (sym (else_at (slot_from n k far) nf)
-              ∙ held) (sym (else_at (slot_from n k close) nc) ∙ vacant)));
+          ∙ held) (sym (else_at (slot_from n k close) nc) ∙ vacant)));
       bare = λ i li vacant. dite (ℕ_discrete i p)
           (λ e. absurd (some_key (sym here ∙ (ap (key_at W) (sym e) ∙ vacant))))
           (λ ne. owner_at-set_key words p key i ∙ placed.bare i li (sym (else_at i ne) ∙ vacant));

@@ -47,8 +47,11 @@ pub record AreEmpty (n done : ℕ) (W : List ℕ) : Type 0 where
   pub bare : (i : ℕ) → i < n → owner_at W i ≡ no_owner
 
 pub no_owners : (n : ℕ) → AreEmpty n 0 (replicate (2 * n) no_owner)
-no_owners n = record { wide = length-replicate (2 * n) no_owner; empty = λ i l. absurd (omega arith);
-    bare = λ i l. get_or-replicate (2 * n) (2 * i + 1) no_owner 0 (omega arith) }
+no_owners n = record {
+  wide = length-replicate (2 * n) no_owner;
+  empty = λ i l. absurd (omega arith);
+  bare = λ i l. get_or-replicate (2 * n) (2 * i + 1) no_owner 0 (omega arith);
+}
 
 pub one_emptied : (n i : ℕ) (W : List ℕ) → i < n → AreEmpty n i W → AreEmpty n (i + 1) (set W (2 * i) 0)
 one_emptied n i W l a = record {

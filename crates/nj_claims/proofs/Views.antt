@@ -75,7 +75,7 @@ pub merged : (views : List View) (id other : ℕ) (v w both spent : View) (Has :
 merged views id other v w both spent Has ne at at_other mine theirs p =
     let root : get_elem? (set (set views id both) other spent) id ≡ some both =
     set_else (set views id both) other id spent (λ e. ne (sym e)) ∙ set_at views id both v at in
-        dite (ℕ_discrete p.seat id)
+    dite (ℕ_discrete p.seat id)
     (λ e. record {
       seat = id;
       view = both;

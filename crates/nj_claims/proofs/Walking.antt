@@ -38,8 +38,8 @@ nowhere_first n W key i real a b = let d : ℕ = a.distance in let e : ℕ = b.d
 -- a key in its place stands in the first slot of its walk
 pub placed_first : (n : ℕ) (W : List ℕ) (key i : ℕ) → IsPlaced n W → key ≢ 0 → i < n → key_at W i ≡ key
     → IsFirst n W key i
-placed_first n W key i placed real inside held = let at = each_slot n key i inside in let d : ℕ = at.0 in
-    let near : d < n = at.1 in
+placed_first n W key i placed real inside held =
+    let at = each_slot n key i inside in let d : ℕ = at.0 in let near : d < n = at.1 in
     let there : key_at W (slot_from n key d) ≡ key = ap (key_at W) at.2 ∙ held in record {
       distance = d;
       near = near;
@@ -67,7 +67,7 @@ fits_placed n W fits = record {
       (subst (λ (k : ℕ). IsFirst n W k j) (sym same) (first j lj (λ z. taken (same ∙ z))));
   chained = λ key far near real lf lc held. let i : ℕ = slot_from n key far in
       let a : IsFirst n W key i = subst (λ (k : ℕ). IsFirst n W k i) held
-          (first i (slot-inside n key far (omega arith)) (λ z. real (sym held ∙ z))) in
+      (first i (slot-inside n key far (omega arith)) (λ z. real (sym held ∙ z))) in
       let same : a.distance ≡ far = one_distance n key a.distance far (omega arith) a.near lf a.here in
       (a.before near (omega arith)).taken;
   bare = λ i li empty. ⊎_elim (λ (a : (key_at W i ≡ 0) × (owner_at W i ≡ no_owner)).

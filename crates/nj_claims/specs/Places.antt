@@ -31,7 +31,7 @@ IsFind slots words key None = IsNowhere slots words key
 abbrev pub FitsSlot : ℕ → List ℕ → ℕ → Type 0
 FitsSlot slots words slot =
     ((key_at words slot ≡ 0) × (owner_at words slot ≡ no_owner))
-        ⊎ ((key_at words slot ≢ 0) × IsFirst slots words (key_at words slot) slot)
+    ⊎ ((key_at words slot ≢ 0) × IsFirst slots words (key_at words slot) slot)
 
 -- the key stands in no slot
 abbrev pub IsAbsent : ℕ → List ℕ → ℕ → Type 0

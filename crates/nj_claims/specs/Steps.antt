@@ -20,7 +20,7 @@ with_flight flight view = record view { flight = flight }
 abbrev pub passed : ℕ → ℕ → ℕ → View → View
 passed slots key depth view =
     if depth == slots then record view { full = view.full ++ key ∷ []; flight = Idle }
-        else with_flight (looking key depth) view
+    else with_flight (looking key depth) view
 
 -- a view after a slot that holds its key or another
 abbrev pub probed : ℕ → ℕ → ℕ → Bool → View → View

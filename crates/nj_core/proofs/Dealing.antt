@@ -31,7 +31,7 @@ module _ {V : Type 0} (items : V → Piece) (n : ℕ) where
 
   handed_push : (entries : List (ℕ × V)) (entry : ℕ × V) (w : ℕ)
       → handed (entries ++ entry ∷ []) w
-          ≡ (if is_for w entry then handed entries w ++ items entry.1 ∷ [] else handed entries w)
+      ≡ (if is_for w entry then handed entries w ++ items entry.1 ∷ [] else handed entries w)
   handed_push entries entry w =
       ap (map (λ (e : ℕ × V). items e.1)) (filter-append (is_for w) entries (entry ∷ []))
       ∙ map-append (λ (e : ℕ × V). items e.1) (filter (is_for w) entries) (filter (is_for w) (entry ∷ []))
@@ -46,14 +46,14 @@ module _ {V : Type 0} (items : V → Piece) (n : ℕ) where
   handed_same entries entry w same =
       handed_push entries entry w
       ∙ ap (λ (b : Bool). if b then handed entries w ++ items entry.1 ∷ [] else handed entries w)
-          (eq-eqb (entry.0 % n) w same)
+      (eq-eqb (entry.0 % n) w same)
 
   handed_other : (entries : List (ℕ × V)) (entry : ℕ × V) (w : ℕ) → entry.0 % n ≢ w
       → handed (entries ++ entry ∷ []) w ≡ handed entries w
   handed_other entries entry w differ =
       handed_push entries entry w
       ∙ ap (λ (b : Bool). if b then handed entries w ++ items entry.1 ∷ [] else handed entries w)
-          (ne_eqb (entry.0 % n) w differ)
+      (ne_eqb (entry.0 % n) w differ)
 
   -- a worker with one piece more at the end of its list
   abbrev with_piece : Piece → WorkerState → WorkerState
@@ -70,8 +70,8 @@ module _ {V : Type 0} (items : V → Piece) (n : ℕ) where
       let length_dealt : length dealt ≡ n = ap length so_far ∙ length_after entries in
       let length_left : length (set dealt m new) ≡ n = length-set dealt m new ∙ length_dealt in
       let length_right = length_after (entries ++ (place, v) ∷ []) in
-      let was : x ≡ beginning (handed entries m) =
-          read ∙ ap (λ (ws : List WorkerState). get_or ws m x) so_far ∙ after_at entries m x low in
+      let was : x ≡ beginning (handed entries m) = read ∙ ap (λ (ws : List WorkerState). get_or ws m x) so_far
+      ∙ after_at entries m x low in
       let now : new ≡ beginning (handed (entries ++ (place, v) ∷ []) m) =
       is ∙ (λ i. with_piece (of i) (was i)) ∙ ap beginning (sym (handed_same entries (place, v) m refl)) in
       same_lists (set dealt m new) (after_dealing (entries ++ (place, v) ∷ [])) (omega arith) (λ k d lt.
@@ -83,7 +83,7 @@ module _ {V : Type 0} (items : V → Piece) (n : ℕ) where
             ∙ ap (λ j. beginning (handed (entries ++ (place, v) ∷ []) j)) same ∙ sym right
         | inr differ ↦
             get_or-set_other dealt m k new d (λ e. differ (sym e))
-                ∙ ap (λ (ws : List WorkerState). get_or ws k d) so_far ∙ after_at entries k d within
+            ∙ ap (λ (ws : List WorkerState). get_or ws k d) so_far ∙ after_at entries k d within
             ∙ ap beginning (sym (handed_other entries (place, v) k differ)) ∙ sym right
       ]))
 
@@ -94,12 +94,12 @@ module _ {V : Type 0} (items : V → Piece) (n : ℕ) where
   handed_all k (v ∷ vs) w = go (eqb (k % n) w) (handed_all (k + 1) vs w) where
     go : (b : Bool) → handed (enumerate_from (k + 1) vs) w
         ≡ map (λ (e : ℕ × Piece).
-            e.1) (filter (λ (e : ℕ × Piece). eqb (e.0 % n) w) (enumerate_from (k + 1) (map items vs)))
+        e.1) (filter (λ (e : ℕ × Piece). eqb (e.0 % n) w) (enumerate_from (k + 1) (map items vs)))
         → map (λ (e : ℕ × V). items e.1) (cond b ((k, v) ∷ filter (is_for w) (enumerate_from (k + 1) vs))
-            (filter (is_for w) (enumerate_from (k + 1) vs)))
+        (filter (is_for w) (enumerate_from (k + 1) vs)))
         ≡ map (λ (e : ℕ × Piece). e.1)
-            (cond b ((k, items v) ∷ filter (λ (e : ℕ × Piece). eqb (e.0 % n) w) (enumerate_from (k + 1) (map items vs)))
-                (filter (λ (e : ℕ × Piece). eqb (e.0 % n) w) (enumerate_from (k + 1) (map items vs))))
+        (cond b ((k, items v) ∷ filter (λ (e : ℕ × Piece). eqb (e.0 % n) w) (enumerate_from (k + 1) (map items vs)))
+        (filter (λ (e : ℕ × Piece). eqb (e.0 % n) w) (enumerate_from (k + 1) (map items vs))))
     go true rest = ap (λ ps. items v ∷ ps) rest
     go false rest = rest
 

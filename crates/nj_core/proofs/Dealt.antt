@@ -75,10 +75,10 @@ shares : (h : Piece → ℕ) (n : ℕ) (entries : List (ℕ × Piece)) → 1 ≤
 shares h n [] some = sum_zero (range_with_len 0 n)
 shares h n (entry ∷ entries) some =
     sum_same (λ w. sum_by h (share n (entry ∷ entries) w)) (λ w. at (entry.0 % n) (h entry.1) w
-        + sum_by h (share n entries w)) (range_with_len 0 n) (share_more h n entry entries)
+    + sum_by h (share n entries w)) (range_with_len 0 n) (share_more h n entry entries)
     ∙ sum_plus (at (entry.0 % n) (h entry.1)) (λ w. sum_by h (share n entries w)) (range_with_len 0 n)
     ∙ ap (λ k. k + sum_by (λ w. sum_by h (share n entries w)) (range_with_len 0 n))
-        (within (entry.0 % n) (h entry.1) 0 n (omega arith) (omega arith))
+    (within (entry.0 % n) (h entry.1) 0 n (omega arith) (omega arith))
     ∙ ap (λ k. h entry.1 + k) (shares h n entries some)
     ∙ sym (sum_by-cons (λ (e : ℕ × Piece). h e.1) entry entries)
 
@@ -97,7 +97,7 @@ unfolding opening
 opening_weight h owners pieces n some =
     sum_map (weigh h) (λ w. beginning (dealt_to n pieces w)) (range_with_len 0 n)
     ∙ sum_same (λ w. weigh h (beginning (dealt_to n pieces w))) (λ w. sum_by h (share n (enumerate_from 0 pieces) w))
-        (range_with_len 0 n) (λ w. omega arith)
+    (range_with_len 0 n) (λ w. omega arith)
     ∙ shares h n (enumerate_from 0 pieces) some
     ∙ numbered h 0 pieces
 

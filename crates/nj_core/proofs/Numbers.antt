@@ -98,14 +98,14 @@ swapped a x (z ∷ zs) differ =
         | inl xz ↦ elim (cases_lt a.number x.number) [
           | inl ax ↦ ap (put_by_number a) (in_front x z zs xz) ∙ in_front a x (z ∷ zs) ax
               ∙ sym (ap (put_by_number x) (in_front a z zs az) ∙ behind x a (z ∷ zs) (omega arith)
-                  ∙ ap (λ ds. a ∷ ds) (in_front x z zs xz))
+              ∙ ap (λ ds. a ∷ ds) (in_front x z zs xz))
           | inr xa ↦ ap (put_by_number a) (in_front x z zs xz) ∙ behind a x (z ∷ zs) xa
               ∙ ap (λ ds. x ∷ ds) (in_front a z zs az)
               ∙ sym (ap (put_by_number x) (in_front a z zs az) ∙ in_front x a (z ∷ zs) (omega arith))
         ]
         | inr zx ↦ ap (put_by_number a) (behind x z zs zx) ∙ in_front a z (put_by_number x zs) az
             ∙ sym (ap (put_by_number x) (in_front a z zs az) ∙ behind x a (z ∷ zs) (omega arith)
-                ∙ ap (λ ds. a ∷ ds) (behind x z zs zx))
+            ∙ ap (λ ds. a ∷ ds) (behind x z zs zx))
       ]
       | inr za ↦ elim (cases_lt x.number z.number) [
         | inl xz ↦ ap (put_by_number a) (in_front x z zs xz) ∙ behind a x (z ∷ zs) (omega arith)

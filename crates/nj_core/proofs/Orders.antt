@@ -25,12 +25,12 @@ agree_on p q (x ∷ xs) all =
 pub owned_claims : OwnedClaimsAreFirst
 owned_claims opening owners dealt made distinct below moved least_is =
     let on_dealt : AreLeast opening dealt owners =
-        λ key. (least_is key ∙ sym (least_moved (opening key) key dealt made moved)) in
+    λ key. (least_is key ∙ sym (least_moved (opening key) key dealt made moved)) in
     sym (by_number_same (filter (is_owned owners) dealt) (filter (is_owned owners) made)
     (apart_filter (is_owned owners) dealt (apart dealt distinct))
-        (filter_sums (is_owned owners) dealt made (sums_moved dealt made moved)))
+    (filter_sums (is_owned owners) dealt made (sums_moved dealt made moved)))
     ∙ ap by_number
-        (agree_on (is_owned owners) (is_first opening dealt) dealt (owned_first opening owners dealt below on_dealt))
+    (agree_on (is_owned owners) (is_first opening dealt) dealt (owned_first opening owners dealt below on_dealt))
 
 -- lists and hands are empty
 abbrev AreSpent : List WorkerState → Type 0

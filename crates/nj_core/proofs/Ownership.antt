@@ -76,7 +76,7 @@ any_number p key [] = refl
 any_number p key (c ∷ cs) = go (eqb c.key key) (any_number p key cs) where
   go : (b : Bool) → list_any p (numbers_of key cs) ≡ list_any (λ d. p d.number && eqb d.key key) cs
       → list_any p
-          (map (λ (d : Claim). d.number) (cond b (c ∷ filter (λ d. eqb d.key key) cs) (filter (λ d. eqb d.key key) cs)))
+      (map (λ (d : Claim). d.number) (cond b (c ∷ filter (λ d. eqb d.key key) cs) (filter (λ d. eqb d.key key) cs)))
       ≡ ((p c.number && b) || list_any (λ d. p d.number && eqb d.key key) cs)
   go true rest =
       ap (λ r. p c.number || r) rest
@@ -140,7 +140,7 @@ owned_first opening owners claims below least_is k d lt =
     ∙ number_between (least o numbers) n
     ∙ ap (λ b. b && not (passes (λ m. ltb m n) (least o numbers)))
     (least_passes (λ m. leb m n) (at_most_falls n) o numbers ∙ ap (λ b. passes (λ m. leb m n) o || b) there
-        ∙ or_right (passes (λ m. leb m n) o) true refl)
+    ∙ or_right (passes (λ m. leb m n) o) true refl)
     ∙ ap not (least_passes (λ m. ltb m n) (below_falls n) o numbers
     ∙ ap (λ b. b || list_any (λ m. ltb m n) numbers) (below_or_none o n (below_one o claims k d lt (below claim.key)))
     ∙ ap (λ b. is_some o || b) (any_number (λ m. ltb m n) claim.key claims))
@@ -169,9 +169,9 @@ pub takes_lesser : AClaimTakesTheLesser
 takes_lesser claim [] key = refl
 takes_lesser claim (e ∷ es) key =
     owner_if (eqb e.key claim.key)
-        (record { key = e.key; number = min e.number claim.number } ∷ es) (e ∷ claimed claim es) key
+    (record { key = e.key; number = min e.number claim.number } ∷ es) (e ∷ claimed claim es) key
     ∙ three_tests (eqb e.key claim.key) (eqb e.key key) (eqb claim.key key) e.number claim.number (owner es key)
-        (owner (claimed claim es) key)
+    (owner (claimed claim es) key)
     (λ is. ap (λ k. eqb k key) (eqb-true e.key claim.key is))
     (λ is same. ne_eqb claim.key key (λ h. eqb-false e.key claim.key is (eqb-true e.key key same ∙ sym h)))
     (takes_lesser claim es key)

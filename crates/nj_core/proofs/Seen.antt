@@ -34,13 +34,13 @@ read_at read workers w d lt = ap (option_and_then read) (slice_get-get_or worker
 -- a worker that finishes, among the workers
 pub finish_set : (ok : Bool) (workers : List WorkerState) (w : ℕ) (d new : WorkerState) → w < length workers
     → new ≡ (if ok then unwrap_or (option_map (λ piece. finishing piece (get_or workers w d))
-        (done_piece (get_or workers w d))) (get_or workers w d) else get_or workers w d)
+    (done_piece (get_or workers w d))) (get_or workers w d) else get_or workers w d)
     → set workers w new ≡ (if ok then unwrap_or (finished_by w workers) workers else workers)
 finish_set false workers w d new lt is = ap (set workers w) is ∙ set-get_or workers w d
 finish_set true workers w d new lt is =
     go (done_piece (get_or workers w d)) is
     ∙ ap (λ o. unwrap_or (option_map (λ piece. changed (finishing piece) w workers) o) workers)
-        (sym (read_at done_piece workers w d lt)) where
+    (sym (read_at done_piece workers w d lt)) where
       go : (o : Option Piece)
           → new ≡ unwrap_or (option_map (λ piece. finishing piece (get_or workers w d)) o) (get_or workers w d)
           → set workers w new ≡ unwrap_or (option_map (λ piece. changed (finishing piece) w workers) o) workers
@@ -66,7 +66,7 @@ pub nothing_taken : (workers new : List WorkerState) (w v : ℕ) → is_idle (sl
 nothing_taken workers new w v idle none is =
     is ∙ nothing_first workers v none
     ∙ sym (λ i. unwrap_or (if idle i then option_map (λ piece.
-        changed (holding piece) w (changed without_first v workers)) (none i) else None) workers)
+    changed (holding piece) w (changed without_first v workers)) (none i) else None) workers)
 
 absent_more : (claim : Claim) (owners : List Claim)
     → ((k : ℕ) (d : Claim) → k < length owners → of_key claim.key (get_or owners k d) ≡ false)
@@ -75,15 +75,15 @@ absent_more claim [] absent = refl
 absent_more claim (o ∷ os) absent =
     ap (λ es. o ∷ es) (absent_more claim os (λ k d lt. absent (suc k) d (omega arith)))
     ∙ sym (ap (λ (b : Bool). if b then record { key = o.key; number = min o.number claim.number } ∷ os
-        else o ∷ claimed claim os) (absent 0 claim (omega arith)))
+    else o ∷ claimed claim os) (absent 0 claim (omega arith)))
 
 not_found : (p : Claim → Bool) (owners : List Claim) → position p owners ≡ None
     → length owners ≤ position_or_len p owners
 not_found p owners is =
     ltb-false (position_or_len p owners) (length owners) (go (ltb (position_or_len p owners) (length owners)) is) where
-  go : (b : Bool) → cond b (Some (position_or_len p owners)) None ≡ None → b ≡ false
-  go true is = absurd (cc)
-  go false is = refl
+      go : (b : Bool) → cond b (Some (position_or_len p owners)) None ≡ None → b ≡ false
+      go true is = absurd (cc)
+      go false is = refl
 
 -- the claim of a key without an owner stands behind the others
 pub claim_new : (claim : Claim) (owners : List Claim) → position (of_key claim.key) owners ≡ None
@@ -100,12 +100,12 @@ first_claimed claim [] i x n lt here before read is = absurd (omega arith)
 first_claimed claim (o ∷ os) zero x n lt here before read is =
     (λ j. record { key = (read j).key; number = (is ∙ ap (λ (c : Claim). min c.number claim.number) read) j } ∷ os)
     ∙ sym (ap (λ (b : Bool). if b then record { key = o.key; number = min o.number claim.number } ∷ os
-        else o ∷ claimed claim os) here)
+    else o ∷ claimed claim os) here)
 first_claimed claim (o ∷ os) (suc i) x n lt here before read is =
     ap (λ es. o ∷ es)
-        (first_claimed claim os i x n (omega arith) here (λ k below. before (suc k) (omega arith)) read is)
+    (first_claimed claim os i x n (omega arith) here (λ k below. before (suc k) (omega arith)) read is)
     ∙ sym (ap (λ (b : Bool). if b then record { key = o.key; number = min o.number claim.number } ∷ os
-        else o ∷ claimed claim os) (before 0 (omega arith)))
+    else o ∷ claimed claim os) (before 0 (omega arith)))
 
 -- the claim of a key with an owner makes it the lesser
 pub claim_old : (claim : Claim) (owners : List Claim) (i : ℕ) (x : Claim) (n : ℕ)

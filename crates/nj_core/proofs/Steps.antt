@@ -136,24 +136,24 @@ taken_makes : (w v : ℕ) (start end : State) → with_workers start (taken w v 
     → Makes start end []
 taken_makes w v start end is =
     go (is_idle (slice_get start.workers w)) refl (option_and_then first_piece (slice_get start.workers v)) refl
-        is where
+    is where
       go : (b : Bool) → is_idle (slice_get start.workers w) ≡ b → (o : Option Piece)
           → option_and_then first_piece (slice_get start.workers v) ≡ o
           → with_workers start (if b
-              then option_map (λ piece. changed (holding piece) w (changed without_first v start.workers)) o else None)
-              ≡ Some end → Makes start end []
+          then option_map (λ piece. changed (holding piece) w (changed without_first v start.workers)) o else None)
+          ≡ Some end → Makes start end []
       go false idle o first is = absurd (cc)
       go true idle None first is = absurd (cc)
       go true idle (Some piece) first is =
           subst (λ (s : State). Makes start s [])
-              (same_Some (among start (changed (holding piece) w (changed without_first v start.workers))) end is)
+          (same_Some (among start (changed (holding piece) w (changed without_first v start.workers))) end is)
           (no_claims start (among start (changed (holding piece) w (changed without_first v start.workers)))
           (λ h. take_pieces h start.workers w v piece idle first) (λ f. take_made f start.workers w v piece idle) refl)
 
 -- the piece of a hand that has no claim at its place
 done_hand : (hand : Option Hand) (piece : Piece)
     → option_and_then (λ (h : Hand). if is_none (slice_get h.piece h.place) then Some h.piece else None) hand
-        ≡ Some piece
+    ≡ Some piece
     → (h : Hand) × (hand ≡ Some h) × (h.piece ≡ piece) × (slice_get h.piece h.place ≡ None)
 done_hand None piece is = absurd (cc)
 done_hand (Some h) piece is = go (slice_get h.piece h.place) refl is where
@@ -203,12 +203,12 @@ finished_makes w start end is = go (option_and_then done_piece (slice_get start.
   go (Some piece) read is =
       let worker = was_read done_piece (slice_get start.workers w) piece read in
       subst (λ (s : State).
-          Makes start s []) (same_Some (among start (changed (finishing piece) w start.workers)) end is)
+      Makes start s []) (same_Some (among start (changed (finishing piece) w start.workers)) end is)
       (no_claims start (among start (changed (finishing piece) w start.workers))
       (λ h. change_kept (weigh h) (finishing piece) start.workers w worker.0 worker.1
-          (finish_pieces h worker.0 piece worker.2))
+      (finish_pieces h worker.0 piece worker.2))
       (λ f. change_kept (made_by f) (finishing piece) start.workers w worker.0 worker.1
-          (finish_made f worker.0 piece worker.2)) refl)
+      (finish_made f worker.0 piece worker.2)) refl)
 
 claim_pieces : (h : Piece → ℕ) (worker : WorkerState) → weigh h (moved_on worker) ≡ weigh h worker
 claim_pieces h worker =
@@ -222,7 +222,7 @@ claim_made : (f : Claim → ℕ) (worker : WorkerState) (claim : Claim) → next
     → made_by f (moved_on worker) ≡ made_by f worker + f claim
 claim_made f worker claim is =
     let more : made_in_hand f (option_map next_place worker.hand) ≡ made_in_hand f worker.hand + f claim =
-        go worker.hand is in
+    go worker.hand is in
     omega arith where
       go : (hand : Option Hand) → option_and_then (λ (h : Hand). slice_get h.piece h.place) hand ≡ Some claim
           → made_in_hand f (option_map next_place hand) ≡ made_in_hand f hand + f claim
@@ -230,7 +230,7 @@ claim_made f worker claim is =
       go (Some hand) is =
           sum_by_more f hand.piece hand.place claim (slice_get_within hand.piece hand.place claim is)
           ∙ ap (λ c. sum_by f (take hand.place hand.piece) + f c)
-              (get_or_from_slice_get hand.piece hand.place claim claim is)
+          (get_or_from_slice_get hand.piece hand.place claim claim is)
 
 one_claim : (f : Claim → ℕ) (claim : Claim) → sum_by f (claim ∷ []) ≡ f claim
 one_claim f claim = sum_by-cons f claim [] ∙ add-zero (f claim)
@@ -249,13 +249,13 @@ claim_makes : (w : ℕ) (start end : State) → claimed_next w start ≡ Some en
 claim_makes w start end is = go (option_and_then next_claim (slice_get start.workers w)) refl is where
   go : (o : Option Claim) → option_and_then next_claim (slice_get start.workers w) ≡ o
       → option_map (λ claim.
-          record { workers = changed moved_on w start.workers; owners = claimed claim start.owners }) o ≡ Some end
+      record { workers = changed moved_on w start.workers; owners = claimed claim start.owners }) o ≡ Some end
       → (claims : List Claim) × Makes start end claims
   go None read is = absurd (cc)
   go (Some claim) read is =
       let worker = was_read next_claim (slice_get start.workers w) claim read in
       let after : State =
-          record { workers = changed moved_on w start.workers; owners = claimed claim start.owners } in (
+      record { workers = changed moved_on w start.workers; owners = claimed claim start.owners } in (
         claim ∷ [],
         subst (λ (s : State). Makes start s (claim ∷ [])) (same_Some after end is) (record {
           pieces = λ h. sum_kept (weigh h) moved_on start.workers w (claim_pieces h);
@@ -290,7 +290,7 @@ numbers_append : (key : ℕ) (xs ys : List Claim) → numbers_of key (xs ++ ys) 
 numbers_append key xs ys =
     ap (map (λ (c : Claim). c.number)) (filter-append (λ (c : Claim). eqb c.key key) xs ys)
     ∙ map-append (λ (c : Claim). c.number) (filter (λ (c : Claim). eqb c.key key) xs)
-        (filter (λ (c : Claim). eqb c.key key) ys)
+    (filter (λ (c : Claim). eqb c.key key) ys)
 
 -- claims made one after the other
 makes_both : (start middle end : State) (xs ys : List Claim) → Makes start middle xs → Makes middle end ys
@@ -308,7 +308,7 @@ makes_both start middle end xs ys first second = record {
 makes_none : (start end : State) → start ≡ end → Makes start end []
 makes_none start end is =
     no_claims start end (λ h. ap (λ (s : State). sum_by (weigh h) s.workers) (sym is))
-        (λ f. ap (λ (s : State). sum_by (made_by f) s.workers) (sym is))
+    (λ f. ap (λ (s : State). sum_by (made_by f) s.workers) (sym is))
     (ap (λ (s : State). s.owners) (sym is))
 
 -- a run makes some claims, in the order of its events

@@ -28,7 +28,7 @@ of-bits (flag ∷ flags) n below bits =
     let first : flag ≡ nat_eq (n % 2) 1 = bits 0 (omega arith) ∙ ap (λ k. nat_eq k 1) (bit_at_lowest n) in
     let half : n / 2 < 2 ^ length flags = omega (arith, below, pow-suc 2 (length flags)) in
     let rest : mask_l flags ≡ n / 2 = of-bits flags (n / 2) half (λ i under. bits (suc i) (omega (arith, under))
-        ∙ ap (λ k. nat_eq k 1) (bit_at-suc n i)) in
+    ∙ ap (λ k. nat_eq k 1) (bit_at-suc n i)) in
     ap (λ f. cond f 1 0 + 2 * mask_l flags) first ∙ omega (arith, parity n, rest)
 
 -- the flags of a byte of a mask
@@ -37,7 +37,7 @@ byte-flags : (n j k w : ℕ) (mask : List ℕ) → 8 * j + w ≤ n → w ≤ 8
     mask_l (take 8 (drop (8 * j) (flags_in n mask))) ≡ get_or mask j 0
 byte-flags n j k w mask fits most size below =
     of-bits (take 8 (drop (8 * j) (flags_in n mask))) (get_or mask j 0)
-        (subst (λ v. get_or mask j 0 < 2 ^ v) (sym size) below)
+    (subst (λ v. get_or mask j 0 < 2 ^ v) (sym size) below)
     (λ i under.
     let few : i < w = omega (arith, under, size) in
     let byte : (8 * j + i) / 8 ≡ j = omega (arith, few, most) in
@@ -46,7 +46,7 @@ byte-flags n j k w mask fits most size below =
     ∙ (get_or-drop (8 * j) (flags_in n mask) i false
     ∙ (flags-get n (8 * j + i) mask (omega (arith, few, fits))
     ∙ (ap (λ p. bit_at (get_or mask p 0) ((8 * j + i) % 8) == 1) byte
-        ∙ ap (λ p. bit_at (get_or mask j 0) p == 1) bit))))
+    ∙ ap (λ p. bit_at (get_or mask j 0) p == 1) bit))))
 
 -- eight flags in each byte but the last, which has six
 pub mask-back : (n q : ℕ) (mask : List ℕ) → n ≡ 8 * q + 6 → length mask ≡ q + 1 → ((j : ℕ) → get_or mask j 0 < 256)
@@ -63,14 +63,26 @@ mask-back n q mask count size bytes last =
     go k true e under =
         let is : k ≡ q = eqb-true k q e in
         byte-flags n k 0 6 mask (omega (arith, is, count)) (omega arith)
-        (omega (arith, is, count, length-take {A = Bool} 8 (drop (8 * k) (flags_in n mask)),
-            length-drop {A = Bool} (8 * k) (flags_in n mask), count-flags_in n mask))
+        (omega (
+          arith,
+          is,
+          count,
+          length-take {A = Bool} 8 (drop (8 * k) (flags_in n mask)),
+          length-drop {A = Bool} (8 * k) (flags_in n mask),
+          count-flags_in n mask,
+        ))
         (subst (λ j. get_or mask j 0 < 64) (sym is) last)
     go k false e under =
         let less : k < q = below k (eqb-false k q e) under in
         byte-flags n k 0 8 mask (omega (arith, less, count)) (omega arith)
-        (omega (arith, less, count, length-take {A = Bool} 8 (drop (8 * k) (flags_in n mask)),
-            length-drop {A = Bool} (8 * k) (flags_in n mask), count-flags_in n mask))
+        (omega (
+          arith,
+          less,
+          count,
+          length-take {A = Bool} 8 (drop (8 * k) (flags_in n mask)),
+          length-drop {A = Bool} (8 * k) (flags_in n mask),
+          count-flags_in n mask,
+        ))
         (bytes k)
       where
         below : (k : ℕ) → (k ≡ q → ⊥) → k < q + 1 → k < q

@@ -49,8 +49,12 @@ differs [] (byte ∷ base) below octets =
     }
 differs (first ∷ bytes) (byte ∷ base) below octets =
     let more = differs bytes base (omega (arith, below)) octets.1 in
-    record { rest = more.rest; size = ap suc more.size;
-        other = and-false (nat_eq first byte) (bytes_eq (bytes ++ more.rest) base) more.other; octets = more.octets }
+    record {
+      rest = more.rest;
+      size = ap suc more.size;
+      other = and-false (nat_eq first byte) (bytes_eq (bytes ++ more.rest) base) more.other;
+      octets = more.octets;
+    }
 
 -- bytes that are read to the end
 pub record Filled (flags : List Bool) (bases : List (List ℕ)) : Type 0 where
@@ -66,9 +70,12 @@ filled (flag ∷ flags) [] same whole octets = absurd (omega (arith, same))
 filled (true ∷ flags) (base ∷ bases) same whole octets =
     let rest = filled flags bases (omega (arith, same)) whole.1 octets.1 in
     let page = differs [] base (omega (arith, whole.0)) octets.0 in
-    record { bytes = page.rest ++ rest.bytes;
-        none = stop-page flags base bases page.rest rest.bytes (page.size ∙ whole.0) page.other
-        ∙ ap (later 64) rest.none; octets = bytes-append page.rest rest.bytes page.octets rest.octets }
+    record {
+      bytes = page.rest ++ rest.bytes;
+      none = stop-page flags base bases page.rest rest.bytes (page.size ∙ whole.0) page.other
+          ∙ ap (later 64) rest.none;
+      octets = bytes-append page.rest rest.bytes page.octets rest.octets;
+    }
 filled (false ∷ flags) (base ∷ bases) same whole octets =
     let rest = filled flags bases (omega (arith, same)) whole.1 octets.1 in
     record { bytes = rest.bytes; none = rest.none; octets = rest.octets }
@@ -85,8 +92,13 @@ some-last : (bytes : List ℕ) (at : ℕ) → cond {A = Option ℕ} (length byte
     → Stops [] [] bytes at
 some-last [] at is = cc
 some-last (byte ∷ bytes) zero is =
-    record { rest = []; octets = tt; begins = refl; within = omega arith;
-        ends = inr (λ more none. more-left more none) }
+    record {
+      rest = [];
+      octets = tt;
+      begins = refl;
+      within = omega arith;
+      ends = inr (λ more none. more-left more none);
+    }
   where
     more-left : (more : List ℕ) → stop [] [] (take (0 + 1) (byte ∷ bytes) ++ more) ≡ None → ⊥
     more-left more none = go (suc (length more) == 0) (ne_eqb (suc (length more)) 0 (λ h. omega (arith, h))) none
@@ -119,10 +131,10 @@ short-stops flags base bases bytes same whole octets wide short =
       octets = bytes-append page.rest rest.bytes page.octets rest.octets;
       begins =
           ap (λ l. stop (true ∷ flags) (base ∷ bases) (l ++ (page.rest ++ rest.bytes)))
-              (take_all (length bytes) bytes (omega arith))
+          (take_all (length bytes) bytes (omega arith))
           ∙ (ap (stop (true ∷ flags) (base ∷ bases)) (sym (append_assoc bytes page.rest rest.bytes))
           ∙ (stop-page flags base bases (bytes ++ page.rest) rest.bytes (page.size ∙ wide) page.other
-              ∙ ap (later 64) rest.none));
+          ∙ ap (later 64) rest.none));
       within = omega arith;
       ends = inl refl;
     }
@@ -133,10 +145,10 @@ same-stops : (flags : List Bool) (base : List ℕ) (bases : List (List ℕ)) (pa
     stop (true ∷ flags) (base ∷ bases) (page ++ more) ≡ Some 63
 same-stops flags base bases page more wide same =
     ap (λ b. cond b (Some (length (page ++ more))) (cond (bytes_eq (take 64 (page ++ more)) base)
-            (Some 63) (later 64 (stop flags bases (drop 64 (page ++ more))))))
-        (le-ltb (length (page ++ more)) 64 (omega (arith, length-append page more, wide)))
+    (Some 63) (later 64 (stop flags bases (drop 64 (page ++ more))))))
+    (le-ltb (length (page ++ more)) 64 (omega (arith, length-append page more, wide)))
     ∙ ap (λ b. cond b (Some 63) (later 64 (stop flags bases (drop 64 (page ++ more)))))
-        (ap (λ p. bytes_eq p base) (take-page page more wide) ∙ same)
+    (ap (λ p. bytes_eq p base) (take-page page more wide) ∙ same)
 
 -- at the last byte of a page that is the base's
 last-stops : (flags : List Bool) (base : List ℕ) (bases : List (List ℕ)) (bytes : List ℕ) → length flags ≡ length bases
@@ -151,10 +163,13 @@ last-stops flags base bases bytes same whole octets wide long equal =
       begins =
           ap (stop (true ∷ flags) (base ∷ bases)) (sym (append_assoc (take 63 bytes) page.rest rest.bytes))
           ∙ (stop-page flags base bases (take 63 bytes ++ page.rest) rest.bytes (page.size ∙ wide) page.other
-              ∙ ap (later 64) rest.none);
+          ∙ ap (later 64) rest.none);
       within = omega (arith, long);
-      ends = inr (λ more none. cc (same-stops flags base bases (take 64 bytes) more
-          (omega (arith, length-take {A = ℕ} 64 bytes, long)) equal, none));
+      ends = inr (λ more none. cc (
+        same-stops flags base bases (take 64 bytes) more
+            (omega (arith, length-take {A = ℕ} 64 bytes, long)) equal,
+        none,
+      ));
     }
 
 -- behind a page that differs
@@ -170,7 +185,7 @@ later-stops flags base bases bytes at long other is =
           ap (λ l. stop (true ∷ flags) (base ∷ bases) (l ++ is.rest)) (take-add 64 at bytes)
           ∙ (ap (stop (true ∷ flags) (base ∷ bases)) (append_assoc (take 64 bytes) (take at (drop 64 bytes)) is.rest)
           ∙ (stop-page flags base bases (take 64 bytes) (take at (drop 64 bytes) ++ is.rest) wide other
-              ∙ ap (later 64) is.begins));
+          ∙ ap (later 64) is.begins));
       within = omega (arith, is.within, length-drop {A = ℕ} 64 bytes, long);
       ends =
           elim is.ends [
@@ -178,7 +193,7 @@ later-stops flags base bases bytes at long other is =
             | inr never ↦ inr (λ more none. never more (later-none 64 _
                 (sym (stop-page flags base bases (take 64 bytes) (take (at + 1) (drop 64 bytes) ++ more) wide other)
                 ∙ (ap (stop (true ∷ flags) (base ∷ bases))
-                    (sym (append_assoc (take 64 bytes) (take (at + 1) (drop 64 bytes)) more)
+                (sym (append_assoc (take 64 bytes) (take (at + 1) (drop 64 bytes)) more)
                 ∙ ap (λ l. l ++ more) (sym (take-add 64 (at + 1) bytes) ∙ ap (λ k. take k bytes) (plus at)))
                 ∙ none))))
           ];
@@ -201,21 +216,21 @@ stops (false ∷ flags) (base ∷ bases) bytes at same whole octets is =
     record { rest = rest.rest; octets = rest.octets; begins = rest.begins; within = rest.within; ends = rest.ends }
 stops (true ∷ flags) (base ∷ bases) bytes at same whole octets is =
     by-page flags base bases bytes at (omega (arith, same)) whole octets (λ a. stops flags bases (drop 64 bytes) a
-        (omega (arith, same)) whole.1 octets.1) (nat_lt (length bytes) 64) refl (bytes_eq (take 64 bytes) base) refl is
+    (omega (arith, same)) whole.1 octets.1) (nat_lt (length bytes) 64) refl (bytes_eq (take 64 bytes) base) refl is
   where
     by-page : (flags : List Bool) (base : List ℕ) (bases : List (List ℕ)) (bytes : List ℕ) (at : ℕ)
         → length flags ≡ length bases → AreWhole (base ∷ bases) → AreBytePages (base ∷ bases) →
         ((a : ℕ) → stop flags bases (drop 64 bytes) ≡ Some a → Stops flags bases (drop 64 bytes) a) →
         (b : Bool) → nat_lt (length bytes) 64 ≡ b → (d : Bool) → bytes_eq (take 64 bytes) base ≡ d →
         cond b (Some (length bytes)) (cond d (Some 63) (later 64 (stop flags bases (drop 64 bytes)))) ≡ Some at
-            → Stops (true ∷ flags) (base ∷ bases) bytes at
+        → Stops (true ∷ flags) (base ∷ bases) bytes at
     by-page flags base bases bytes at same whole octets go true e d f is =
         subst (Stops (true ∷ flags) (base ∷ bases) bytes) (some-is is)
-            (short-stops flags base bases bytes same whole.1 octets whole.0 (ltb-true (length bytes) 64 e))
+        (short-stops flags base bases bytes same whole.1 octets whole.0 (ltb-true (length bytes) 64 e))
     by-page flags base bases bytes at same whole octets go false e true f is =
         subst (Stops (true ∷ flags) (base ∷ bases) bytes) (some-is is)
-            (last-stops flags base bases bytes same whole.1 octets whole.0 (ltb-false (length bytes) 64 e) f)
+        (last-stops flags base bases bytes same whole.1 octets whole.0 (ltb-false (length bytes) 64 e) f)
     by-page flags base bases bytes at same whole octets go false e false f is =
         let a = later-at 64 at (stop flags bases (drop 64 bytes)) is in
         subst (Stops (true ∷ flags) (base ∷ bases) bytes) a.1.1
-            (later-stops flags base bases bytes a.0 (ltb-false (length bytes) 64 e) f (go a.0 a.1.0))
+        (later-stops flags base bases bytes a.0 (ltb-false (length bytes) 64 e) f (go a.0 a.1.0))

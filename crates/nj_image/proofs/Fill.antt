@@ -17,9 +17,10 @@ AreWhole (page ∷ pages) = (length page ≡ 64) × AreWhole pages
 
 pub whole-pages : (n : ℕ) (memory : List ℕ) → 64 * n ≤ length memory → AreWhole (first_pages n memory)
 whole-pages zero memory long = tt
-whole-pages (suc n) memory long =
-    (omega (arith, length-take {A = ℕ} 64 memory),
-        whole-pages n (drop 64 memory) (omega (arith, length-drop {A = ℕ} 64 memory)))
+whole-pages (suc n) memory long = (
+  omega (arith, length-take {A = ℕ} 64 memory),
+  whole-pages n (drop 64 memory) (omega (arith, length-drop {A = ℕ} 64 memory)),
+)
 
 pub count-pages : (n : ℕ) (memory : List ℕ) → length (first_pages n memory) ≡ n
 count-pages zero memory = refl
@@ -47,12 +48,12 @@ pub stop-page : (flags : List Bool) (base : List ℕ) (bases : List (List ℕ)) 
 stop-page flags base bases page rest size other =
     long-enough (page ++ rest) (omega (arith, length-append page rest, size))
     ∙ (ap (λ b. cond b (Some 63) (later 64 (stop flags bases (drop 64 (page ++ rest)))))
-        (ap (λ p. bytes_eq p base) (take-page page rest size) ∙ other)
+    (ap (λ p. bytes_eq p base) (take-page page rest size) ∙ other)
     ∙ ap (λ r. later 64 (stop flags bases r)) (drop-page page rest size))
   where
     long-enough : (bytes : List ℕ) → 64 ≤ length bytes →
         stop (true ∷ flags) (base ∷ bases) bytes
-            ≡ cond (bytes_eq (take 64 bytes) base) (Some 63) (later 64 (stop flags bases (drop 64 bytes)))
+        ≡ cond (bytes_eq (take 64 bytes) base) (Some 63) (later 64 (stop flags bases (drop 64 bytes)))
     long-enough bytes long = ap (λ b. cond b (Some (length bytes)) (cond (bytes_eq (take 64 bytes) base) (Some 63)
         (later 64 (stop flags bases (drop 64 bytes))))) (le-ltb (length bytes) 64 long)
 
@@ -72,11 +73,14 @@ passes flags base bases bytes is = go (nat_lt (length bytes) 64) refl (bytes_eq 
   where
     go : (b : Bool) → nat_lt (length bytes) 64 ≡ b → (d : Bool) → bytes_eq (take 64 bytes) base ≡ d →
         cond b (Some (length bytes)) (cond d (Some 63) (later 64 (stop flags bases (drop 64 bytes)))) ≡ None
-            → Passes flags base bases bytes
+        → Passes flags base bases bytes
     go true e d f is = cc
     go false e true f is = cc
-    go false e false f is = record { long = ltb-false (length bytes) 64 e; other = f;
-        rest = later-none 64 (stop flags bases (drop 64 bytes)) is }
+    go false e false f is = record {
+      long = ltb-false (length bytes) 64 e;
+      other = f;
+      rest = later-none 64 (stop flags bases (drop 64 bytes)) is;
+    }
 
 -- nothing is left behind the last page
 none-left : (bytes : List ℕ) → cond {A = Option ℕ} (length bytes == 0) None (Some 0) ≡ None → bytes ≡ []
@@ -136,10 +140,12 @@ reads-more : (b : Bool) (page base rest_image : List ℕ) (bases : List (List �
     → bytes_eq page base ≡ b → length page ≡ 64 →
     stop flags bases rest ≡ None → merged flags bases rest ≡ rest_image →
     (stop (not b ∷ flags) (base ∷ bases) (cond (not b) (page ++ rest) rest) ≡ None)
-        × (merged (not b ∷ flags) (base ∷ bases) (cond (not b) (page ++ rest) rest) ≡ page ++ rest_image)
-reads-more true page base rest_image bases flags rest is size none image_is =
-    (none, ap (λ p. p ++ merged flags bases rest) (sym ((bytes_eq-Decides page base).0 is))
-        ∙ ap (λ r. page ++ r) image_is)
+    × (merged (not b ∷ flags) (base ∷ bases) (cond (not b) (page ++ rest) rest) ≡ page ++ rest_image)
+reads-more true page base rest_image bases flags rest is size none image_is = (
+  none,
+  ap (λ p. p ++ merged flags bases rest) (sym ((bytes_eq-Decides page base).0 is))
+      ∙ ap (λ r. page ++ r) image_is,
+)
 reads-more false page base rest_image bases flags rest is size none image_is = (
   stop-page flags base bases page rest size is ∙ ap (later 64) none,
   ap (λ p. p ++ merged flags bases (drop 64 (page ++ rest))) (take-page page rest size)
@@ -158,7 +164,7 @@ reads (base ∷ bases) image size whole =
     let more = reads-more (bytes_eq (take 64 image) base) (take 64 image) base (drop 64 image) bases
     (differences (first_pages (length bases) (drop 64 image)) bases)
     (flagged (differences (first_pages (length bases) (drop 64 image)) bases)
-        (first_pages (length bases) (drop 64 image)))
+    (first_pages (length bases) (drop 64 image)))
     refl (omega (arith, size, length-take {A = ℕ} 64 image)) rest.none rest.image_is in
     record { none = more.0; image_is = more.1 ∙ take-append-drop 64 image }
 

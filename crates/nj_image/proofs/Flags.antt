@@ -17,13 +17,13 @@ count-differences (suc n) image base = ap suc (count-differences n (drop 64 imag
 -- the flag of a page
 flag-at : (n p : ℕ) (image base : List ℕ) → p < n →
     get_or (differences (first_pages n image) (first_pages n base)) p false
-        ≡ not (bytes_eq (take 64 (drop (64 * p) image)) (take 64 (drop (64 * p) base)))
+    ≡ not (bytes_eq (take 64 (drop (64 * p) image)) (take 64 (drop (64 * p) base)))
 flag-at zero p image base below = absurd (omega arith)
 flag-at (suc n) zero image base below = refl
 flag-at (suc n) (suc p) image base below =
     flag-at n p (drop 64 image) (drop 64 base) (omega arith)
     ∙ both (drop-drop (64 * p) 64 image ∙ ap (λ k. drop k image) (omega arith)) (drop-drop (64 * p) 64 base
-        ∙ ap (λ k. drop k base) (omega arith))
+    ∙ ap (λ k. drop k base) (omega arith))
   where
     both : {a b c d : List ℕ} → a ≡ b → c ≡ d
         → not (bytes_eq (take 64 a) (take 64 c)) ≡ not (bytes_eq (take 64 b) (take 64 d))
@@ -56,7 +56,7 @@ pub bits-more : (flags : List Bool) (p n : ℕ)
     → mask_l (take (suc n) (drop p flags)) ≡ cond (get_or flags p false) 1 0 + 2 * mask_l (take n (drop (p + 1) flags))
 bits-more [] p n =
     ap (λ (l : List Bool). mask_l (take (suc n) l)) (drop-nil p)
-        ∙ (ends n ∙ ap (λ (l : List Bool). 0 + 2 * mask_l (take n l)) (sym (drop-nil (p + 1))))
+    ∙ (ends n ∙ ap (λ (l : List Bool). 0 + 2 * mask_l (take n l)) (sym (drop-nil (p + 1))))
   where
     ends : (n : ℕ) → ◌≡◌ {A = ℕ} 0 (0 + 2 * mask_l (take n []))
     ends zero = refl
@@ -69,9 +69,9 @@ bits-more (flag ∷ flags) (suc p) n =
 -- eight flags as a sum of bits
 pub eight-flags : (flags : List Bool) (p a b c d e f g h : ℕ) →
     a ≡ cond (get_or flags p false) 1 0 → b ≡ cond (get_or flags (p + 1) false) 1 0
-        → c ≡ cond (get_or flags (p + 2) false) 1 0 →
+    → c ≡ cond (get_or flags (p + 2) false) 1 0 →
     d ≡ cond (get_or flags (p + 3) false) 1 0 → e ≡ cond (get_or flags (p + 4) false) 1 0
-        → f ≡ cond (get_or flags (p + 5) false) 1 0 →
+    → f ≡ cond (get_or flags (p + 5) false) 1 0 →
     g ≡ cond (get_or flags (p + 6) false) 1 0 → h ≡ cond (get_or flags (p + 7) false) 1 0 →
     a + 2 * (b + 2 * (c + 2 * (d + 2 * (e + 2 * (f + 2 * (g + 2 * h)))))) ≡ mask_l (take 8 (drop p flags))
 eight-flags flags p a b c d e f g h ea eb ec ed ee ef eg eh =
@@ -109,7 +109,7 @@ byte-at (suc n) (suc k) flags below =
     let next : 8 + 8 * k ≡ 8 * suc k = omega arith in
     byte-at n k (drop 8 flags) (omega arith)
     ∙ (ap (λ (l : List Bool). mask_l (take 8 l)) (drop-drop (8 * k) 8 flags)
-        ∙ ap (λ m. mask_l (take 8 (drop m flags))) next)
+    ∙ ap (λ m. mask_l (take 8 (drop m flags))) next)
 
 -- the bit of a flag in its byte
 bit-back : (b : Bool) → (cond b 1 0 == 1) ≡ b

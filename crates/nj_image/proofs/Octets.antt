@@ -41,6 +41,6 @@ merged-bytes flags [] bytes pages is = none flags
 merged-bytes [] (base ∷ bases) bytes pages is = tt
 merged-bytes (true ∷ flags) (base ∷ bases) bytes pages is =
     bytes-append (take 64 bytes) (merged flags bases (drop 64 bytes)) (bytes-take 64 bytes is)
-        (merged-bytes flags bases (drop 64 bytes) pages.1 (bytes-drop 64 bytes is))
+    (merged-bytes flags bases (drop 64 bytes) pages.1 (bytes-drop 64 bytes is))
 merged-bytes (false ∷ flags) (base ∷ bases) bytes pages is =
     bytes-append base (merged flags bases bytes) pages.0 (merged-bytes flags bases bytes pages.1 is)

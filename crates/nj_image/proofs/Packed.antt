@@ -22,8 +22,12 @@ pub flagged-less : (flags : List Bool) (pages : List (List ℕ)) → length flag
 flagged-less [] pages same whole some = cc
 flagged-less (flag ∷ flags) [] same whole some = absurd (omega (arith, same))
 flagged-less (true ∷ flags) (page ∷ pages) same whole some =
-    omega (arith, flagged-less flags pages (omega (arith, same)) whole.1 some, length-append page (flagged flags pages),
-        whole.0)
+    omega (
+      arith,
+      flagged-less flags pages (omega (arith, same)) whole.1 some,
+      length-append page (flagged flags pages),
+      whole.0,
+    )
 flagged-less (false ∷ flags) (page ∷ pages) same whole some = omega (arith, flagged-most flags pages whole.1)
 
 -- the flags that are read of an image's mask
@@ -32,7 +36,7 @@ pub mask-flags : (image base : List ℕ) → IsImageSize base → length image �
 unfolding mask_of
 mask-flags image base size same =
     flags-back (page_count base) (mask_size base) (flags_of image base) (count-flags image base same)
-        (whole base size).mask
+    (whole base size).mask
 
 -- both forms
 pub packing-all : (image base : List ℕ) → all_of (flags_of image base) ≡ true → packing image base ≡ 0 ∷ image
@@ -60,7 +64,7 @@ pub room-less : (image base : List ℕ) → IsImageSize base → length image �
 room-less image base size same some =
     let sized = whole base size in
     let less = flagged-less (flags_of image base) (pages image) (count-flags image base same
-        ∙ (ap (λ n. n / 64) (sym same) ∙ sym (count-pages (page_count image) image)))
+    ∙ (ap (λ n. n / 64) (sym same) ∙ sym (count-pages (page_count image) image)))
     (whole-pages (page_count image) image (omega arith)) some in
     omega (arith, less, sized.few, sized.pages, count-pages (page_count image) image, same)
 
@@ -79,7 +83,7 @@ pub packed-all : (image base mask before after : List ℕ) → IsImageSize base 
     (take (1 + length image) after ≡ packing image base) × (1 + length image ≡ length (packing image base))
 packed-all image base mask before after size same room is all written =
     let every : all_of (flags_of image base) ≡ true = ap all_of (sym (mask-flags image base size same))
-        ∙ (ap (λ m. all_of (flags_in (page_count base) m)) (sym is) ∙ all) in (
+    ∙ (ap (λ m. all_of (flags_in (page_count base) m)) (sym is) ∙ all) in (
       headed 0 image before after (omega (arith, room)) written ∙ sym (packing-all image base every),
       sym (ap length (packing-all image base every) ∙ omega arith),
     )
@@ -96,7 +100,7 @@ pub some-flags : (image base mask : List ℕ) → IsImageSize base → length im
     all_of (flags_in (page_count base) mask) ≡ false → all_of (flags_of image base) ≡ false
 some-flags image base mask size same is some =
     ap all_of (sym (mask-flags image base size same))
-        ∙ (ap (λ m. all_of (flags_in (page_count base) m)) (sym is) ∙ some)
+    ∙ (ap (λ m. all_of (flags_in (page_count base) m)) (sym is) ∙ some)
 
 pub room-for : (image base mask before middle : List ℕ) → IsImageSize base → length image ≡ length base
     → length image + 1 ≤ length before → mask ≡ mask_of image base →
@@ -106,10 +110,23 @@ room-for image base mask before middle size same room is some written =
     let less = room-less image base size same (some-flags image base mask size same is some) in
     let sized = whole base size in
     let count : length mask ≡ mask_size base = ap length is ∙ count-mask image base in
-    let long : length middle ≡ length before = copied-size 1 mask (set before 0 1) middle (omega (arith, count,
-        sized.few, sized.pages, sized.some, same, room, length-set before 0 1)) written ∙ length-set before 0 1 in
-    omega (arith, less, long, room,
-        ap (λ flags. length (flagged flags (pages image))) (same-flags image base mask size same is))
+    let long : length middle ≡ length before = copied-size 1 mask (set before 0 1) middle (omega (
+      arith,
+      count,
+      sized.few,
+      sized.pages,
+      sized.some,
+      same,
+      room,
+      length-set before 0 1,
+    )) written ∙ length-set before 0 1 in
+    omega (
+      arith,
+      less,
+      long,
+      room,
+      ap (λ flags. length (flagged flags (pages image))) (same-flags image base mask size same is),
+    )
 
 pub packed-some : (image base mask before middle after : List ℕ) (end : ℕ) → IsImageSize base
     → length image ≡ length base → length image + 1 ≤ length before → mask ≡ mask_of image base →
@@ -124,10 +141,10 @@ packed-some image base mask before middle after end size same room is some writt
     let form = packing-some image base (some-flags image base mask size same is some) in
     let head : take (1 + mask_size base) middle ≡ 1 ∷ mask =
     ap (λ k. take (1 + k) middle) (sym count) ∙
-        headed 1 mask before middle (omega (arith, count, sized.few, sized.pages, sized.some, same, room)) written in (
+    headed 1 mask before middle (omega (arith, count, sized.few, sized.pages, sized.some, same, room)) written in (
       bytes ∙ (ap (λ l. l ++ flagged (flags_in (page_count image) mask) (pages image)) head
           ∙ (ap (λ f. 1 ∷ (mask ++ flagged f (pages image))) flags
-              ∙ (ap (λ m. 1 ∷ (m ++ flagged (flags_of image base) (pages image))) is ∙ sym form))),
+          ∙ (ap (λ m. 1 ∷ (m ++ flagged (flags_of image base) (pages image))) is ∙ sym form))),
       ends ∙ sym (ap length form ∙ omega (
         arith,
         length-append (mask_of image base) (flagged (flags_of image base) (pages image)),

@@ -63,18 +63,23 @@ pub record IsWritten (flags : List Bool) (pages : List (List ℕ)) (start : ℕ)
 pub page-room : (flags : List Bool) (pages : List (List ℕ)) (start : ℕ) (before : List ℕ) (p at : ℕ)
     (into page : List ℕ) → IsWritten flags pages start before p at into →
     drop p flags ≡ true ∷ drop (p + 1) flags → drop p pages ≡ page ∷ drop (p + 1) pages
-        → start + length (flagged flags pages) ≤ length before → at + length page ≤ length into
+    → start + length (flagged flags pages) ≤ length before → at + length page ≤ length into
 page-room flags pages start before p at into page is f q fits =
     let left : flagged (drop p flags) (drop p pages) ≡ page ++ flagged (drop (p + 1) flags) (drop (p + 1) pages) =
     ap (λ l. flagged l (drop p pages)) f ∙ ap (flagged (true ∷ drop (p + 1) flags)) q in
-    omega (arith, is.room, is.size, ap length left,
-        length-append page (flagged (drop (p + 1) flags) (drop (p + 1) pages)))
+    omega (
+      arith,
+      is.room,
+      is.size,
+      ap length left,
+      length-append page (flagged (drop (p + 1) flags) (drop (p + 1) pages)),
+    )
 
 -- and is written
 pub page-written : (flags : List Bool) (pages : List (List ℕ)) (start : ℕ) (before : List ℕ) (p at : ℕ)
     (into page after : List ℕ) → IsWritten flags pages start before p at into →
     drop p flags ≡ true ∷ drop (p + 1) flags → drop p pages ≡ page ∷ drop (p + 1) pages
-        → start + length (flagged flags pages) ≤ length before →
+    → start + length (flagged flags pages) ≤ length before →
     after ≡ overwritten at page into → IsWritten flags pages start before (p + 1) (at + length page) after
 page-written flags pages start before p at into page after is f q fits written =
     let left : flagged (drop p flags) (drop p pages) ≡ page ++ flagged (drop (p + 1) flags) (drop (p + 1) pages) =
@@ -82,8 +87,12 @@ page-written flags pages start before p at into page after is f q fits written =
     let room = page-room flags pages start before p at into page is f q fits in
     record {
       size = copied-size at page into after room written ∙ is.size;
-      room = omega (arith, is.room, ap length left,
-          length-append page (flagged (drop (p + 1) flags) (drop (p + 1) pages)));
+      room = omega (
+        arith,
+        is.room,
+        ap length left,
+        length-append page (flagged (drop (p + 1) flags) (drop (p + 1) pages)),
+      );
       bytes =
           ap (λ l. l ++ flagged (drop (p + 1) flags) (drop (p + 1) pages)) (copied at page into after room written)
           ∙ (append_assoc (take at into) page (flagged (drop (p + 1) flags) (drop (p + 1) pages))
@@ -94,7 +103,7 @@ page-written flags pages start before p at into page after is f q fits written =
 pub page-skipped : (flags : List Bool) (pages : List (List ℕ)) (start : ℕ) (before : List ℕ) (p at : ℕ)
     (into page : List ℕ) → IsWritten flags pages start before p at into →
     drop p flags ≡ false ∷ drop (p + 1) flags → drop p pages ≡ page ∷ drop (p + 1) pages
-        → IsWritten flags pages start before (p + 1) at into
+    → IsWritten flags pages start before (p + 1) at into
 page-skipped flags pages start before p at into page is f q =
     let left : flagged (drop p flags) (drop p pages) ≡ flagged (drop (p + 1) flags) (drop (p + 1) pages) =
     ap (λ l. flagged l (drop p pages)) f ∙ ap (flagged (false ∷ drop (p + 1) flags)) q in
@@ -112,12 +121,13 @@ none-flagged (flag ∷ flags) = refl
 pub all-written : (flags : List Bool) (pages : List (List ℕ)) (start : ℕ) (before : List ℕ) (p at : ℕ) (into : List ℕ)
     → IsWritten flags pages start before p at into →
     length pages ≤ p → (take at into ≡ take start before ++ flagged flags pages)
-        × (at ≡ start + length (flagged flags pages))
+    × (at ≡ start + length (flagged flags pages))
 all-written flags pages start before p at into is past =
-    let left : flagged (drop p flags) (drop p pages) ≡ [] =
-        ap (flagged (drop p flags)) (drop_all p pages past) ∙ none-flagged (drop p flags) in
-    (sym (ap (λ l. take at into ++ l) left ∙ append-nil (take at into)) ∙ is.bytes,
-        omega (arith, is.room, ap length left))
+    let left : flagged (drop p flags) (drop p pages) ≡ [] = ap (flagged (drop p flags)) (drop_all p pages past)
+    ∙ none-flagged (drop p flags) in (
+      sym (ap (λ l. take at into ++ l) left ∙ append-nil (take at into)) ∙ is.bytes,
+      omega (arith, is.room, ap length left),
+    )
 
 -- the state of a reading: what is left of the pages and the bytes gives the rest
 pub record IsFilled (flags : List Bool) (bases : List (List ℕ)) (bytes : List ℕ) (first : ℕ) (p from : ℕ)
@@ -149,10 +159,10 @@ pub at-flagged : (flags : List Bool) (bases : List (List ℕ)) (bytes : List ℕ
     → IsFilled flags bases bytes first p from into →
     drop p flags ≡ true ∷ drop (p + 1) flags → drop p bases ≡ base ∷ drop (p + 1) bases →
     stop flags bases (drop first bytes)
-        ≡ later (from - first) (stop (true ∷ drop (p + 1) flags) (base ∷ drop (p + 1) bases) (drop from bytes))
+    ≡ later (from - first) (stop (true ∷ drop (p + 1) flags) (base ∷ drop (p + 1) bases) (drop from bytes))
 at-flagged flags bases bytes first p from into base is f q =
     is.stops ∙ (ap (λ l. later (from - first) (stop l (drop p bases) (drop from bytes))) f
-        ∙ ap (λ l. later (from - first) (stop (true ∷ drop (p + 1) flags) l (drop from bytes))) q)
+    ∙ ap (λ l. later (from - first) (stop (true ∷ drop (p + 1) flags) l (drop from bytes))) q)
 
 pub ends-short : (flags : List Bool) (bases : List (List ℕ)) (bytes : List ℕ) (first p from : ℕ) (into base : List ℕ)
     → IsFilled flags bases bytes first p from into →
@@ -160,10 +170,10 @@ pub ends-short : (flags : List Bool) (bases : List (List ℕ)) (bytes : List ℕ
     stop flags bases (drop first bytes) ≡ Some (length bytes - first)
 ends-short flags bases bytes first p from into base is f q short =
     let sum : from - first + length (drop from bytes) ≡ length bytes - first =
-        omega (arith, is.start, is.within, length-drop {A = ℕ} from bytes) in
+    omega (arith, is.start, is.within, length-drop {A = ℕ} from bytes) in
     at-flagged flags bases bytes first p from into base is f q
     ∙ (later-some (from - first) (length (drop from bytes)) _
-        (cond-is _ _ _ (lt-ltb (length (drop from bytes)) 64 (omega (arith, length-drop {A = ℕ} from bytes, short))))
+    (cond-is _ _ _ (lt-ltb (length (drop from bytes)) 64 (omega (arith, length-drop {A = ℕ} from bytes, short))))
     ∙ ap Some sum)
 
 -- a flagged page is the base's
@@ -171,12 +181,12 @@ pub ends-same : (flags : List Bool) (bases : List (List ℕ)) (bytes : List ℕ)
     → IsFilled flags bases bytes first p from into →
     drop p flags ≡ true ∷ drop (p + 1) flags → drop p bases ≡ base ∷ drop (p + 1) bases → 64 ≤ length bytes - from →
     bytes_eq (take 64 (drop from bytes)) base ≡ true
-        → stop flags bases (drop first bytes) ≡ Some (from + 64 - 1 - first)
+    → stop flags bases (drop first bytes) ≡ Some (from + 64 - 1 - first)
 ends-same flags bases bytes first p from into base is f q long same =
     let sum : from - first + 63 ≡ from + 64 - 1 - first = omega (arith, is.start) in
     at-flagged flags bases bytes first p from into base is f q
     ∙ (later-some (from - first) 63 _ (cond-not _ _ _ (le-ltb (length (drop from bytes)) 64
-        (omega (arith, length-drop {A = ℕ} from bytes, long))) ∙ cond-is _ _ _ same)
+    (omega (arith, length-drop {A = ℕ} from bytes, long))) ∙ cond-is _ _ _ same)
     ∙ ap Some sum)
 
 -- what is copied to page p
@@ -185,20 +195,21 @@ pub page-copied : (p n : ℕ) (page into after : List ℕ) → length page ≡ 6
     (take (64 * (p + 1)) after ≡ take (64 * p) into ++ page) × (length after ≡ 64 * n)
 page-copied p n page into after wide size below is =
     let fits : 64 * p + length page ≤ length into = omega (arith, wide, size) in
-    let end : 64 * (p + 1) ≡ 64 * p + length page = omega (arith, wide) in
-    (ap (λ k. take k after) end ∙ copied (64 * p) page into after fits is,
-        copied-size (64 * p) page into after fits is ∙ size)
+    let end : 64 * (p + 1) ≡ 64 * p + length page = omega (arith, wide) in (
+      ap (λ k. take k after) end ∙ copied (64 * p) page into after fits is,
+      copied-size (64 * p) page into after fits is ∙ size,
+    )
 
 -- a flagged page is taken
 pub page-taken : (flags : List Bool) (bases : List (List ℕ)) (bytes : List ℕ) (first p from : ℕ)
     (into base after : List ℕ) → IsFilled flags bases bytes first p from into →
     drop p flags ≡ true ∷ drop (p + 1) flags → drop p bases ≡ base ∷ drop (p + 1) bases → 64 ≤ length bytes - from
-        → p < length bases →
+    → p < length bases →
     bytes_eq (take 64 (drop from bytes)) base ≡ false → after ≡ overwritten (64 * p) (take 64 (drop from bytes)) into →
     IsFilled flags bases bytes first (p + 1) (from + 64) after
 page-taken flags bases bytes first p from into base after is f q long below other put =
     let wide : length (take 64 (drop from bytes)) ≡ 64 =
-        omega (arith, length-take {A = ℕ} 64 (drop from bytes), length-drop {A = ℕ} from bytes, long) in
+    omega (arith, length-take {A = ℕ} 64 (drop from bytes), length-drop {A = ℕ} from bytes, long) in
     let copy = page-copied p (length bases) (take 64 (drop from bytes)) into after wide is.size below put in
     let further : from - first + 64 ≡ from + 64 - first = omega (arith, is.start) in
     record {
@@ -208,27 +219,27 @@ page-taken flags bases bytes first p from into base after is f q long below othe
       stops =
           at-flagged flags bases bytes first p from into base is f q
           ∙ (ap (later (from - first)) (cond-not _ _ _ (le-ltb (length (drop from bytes)) 64
-              (omega (arith, length-drop {A = ℕ} from bytes, long))) ∙ cond-not _ _ _ other)
+          (omega (arith, length-drop {A = ℕ} from bytes, long))) ∙ cond-not _ _ _ other)
           ∙ (later-twice (from - first) 64 (stop (drop (p + 1) flags) (drop (p + 1) bases) (drop 64 (drop from bytes)))
           ∙ (ap (λ k. later k (stop (drop (p + 1) flags) (drop (p + 1) bases) (drop 64 (drop from bytes)))) further
           ∙ ap (λ l. later (from + 64 - first) (stop (drop (p + 1) flags) (drop (p + 1) bases) l))
-              (drop-drop 64 from bytes))));
+          (drop-drop 64 from bytes))));
       image =
           is.image
           ∙ (ap (λ l. take (64 * p) into ++ merged l (drop p bases) (drop from bytes)) f
           ∙ (ap (λ l. take (64 * p) into ++ merged (true ∷ drop (p + 1) flags) l (drop from bytes)) q
           ∙ (sym (append_assoc (take (64 * p) into) (take 64 (drop from bytes))
-              (merged (drop (p + 1) flags) (drop (p + 1) bases) (drop 64 (drop from bytes))))
+          (merged (drop (p + 1) flags) (drop (p + 1) bases) (drop 64 (drop from bytes))))
           ∙ (ap (λ l. l ++ merged (drop (p + 1) flags) (drop (p + 1) bases) (drop 64 (drop from bytes))) (sym copy.0)
           ∙ ap (λ l. take (64 * (p + 1)) after ++ merged (drop (p + 1) flags) (drop (p + 1) bases) l)
-              (drop-drop 64 from bytes)))));
+          (drop-drop 64 from bytes)))));
     }
 
 -- another page is the base's
 pub page-kept : (flags : List Bool) (bases : List (List ℕ)) (bytes : List ℕ) (first p from : ℕ)
     (into base after : List ℕ) → IsFilled flags bases bytes first p from into →
     drop p flags ≡ false ∷ drop (p + 1) flags → drop p bases ≡ base ∷ drop (p + 1) bases → p < length bases
-        → length base ≡ 64 →
+    → length base ≡ 64 →
     after ≡ overwritten (64 * p) base into → IsFilled flags bases bytes first (p + 1) from after
 page-kept flags bases bytes first p from into base after is f q below wide put =
     let copy = page-copied p (length bases) base into after wide is.size below put in
@@ -243,7 +254,7 @@ page-kept flags bases bytes first p from into base after is f q below wide put =
           ∙ (ap (λ l. take (64 * p) into ++ merged l (drop p bases) (drop from bytes)) f
           ∙ (ap (λ l. take (64 * p) into ++ merged (false ∷ drop (p + 1) flags) l (drop from bytes)) q
           ∙ (sym (append_assoc (take (64 * p) into) base
-              (merged (drop (p + 1) flags) (drop (p + 1) bases) (drop from bytes)))
+          (merged (drop (p + 1) flags) (drop (p + 1) bases) (drop from bytes)))
           ∙ ap (λ l. l ++ merged (drop (p + 1) flags) (drop (p + 1) bases) (drop from bytes)) (sym copy.0))));
     }
 
@@ -259,10 +270,10 @@ last-merged (flag ∷ flags) bytes = refl
 at-last : (flags : List Bool) (bases : List (List ℕ)) (bytes : List ℕ) (first p from : ℕ) (into : List ℕ)
     → IsFilled flags bases bytes first p from into →
     length bases ≤ p → stop flags bases (drop first bytes)
-        ≡ later (from - first) (cond (length (drop from bytes) == 0) None (Some 0))
+    ≡ later (from - first) (cond (length (drop from bytes) == 0) None (Some 0))
 at-last flags bases bytes first p from into is past =
     is.stops ∙ ap (later (from - first)) (ap (λ l. stop (drop p flags) l (drop from bytes)) (drop_all p bases past)
-        ∙ last-stop (drop p flags) (drop from bytes))
+    ∙ last-stop (drop p flags) (drop from bytes))
 
 pub ends-behind : (flags : List Bool) (bases : List (List ℕ)) (bytes : List ℕ) (first p from : ℕ) (into : List ℕ)
     → IsFilled flags bases bytes first p from into →
@@ -271,16 +282,16 @@ ends-behind flags bases bytes first p from into is past more =
     let sum : from - first + 0 ≡ from - first = omega arith in
     at-last flags bases bytes first p from into is past
     ∙ (later-some (from - first) 0 _ (cond-not _ _ _ (ne_eqb (length (drop from bytes)) 0
-        (λ h. omega (arith, h, length-drop {A = ℕ} from bytes, more)))) ∙ ap Some sum)
+    (λ h. omega (arith, h, length-drop {A = ℕ} from bytes, more)))) ∙ ap Some sum)
 
 pub ends-well : (flags : List Bool) (bases : List (List ℕ)) (bytes : List ℕ) (first p from : ℕ) (into : List ℕ)
     → IsFilled flags bases bytes first p from into →
     length bases ≤ p → length bytes ≤ from → (stop flags bases (drop first bytes) ≡ None)
-        × (into ≡ merged flags bases (drop first bytes))
+    × (into ≡ merged flags bases (drop first bytes))
 ends-well flags bases bytes first p from into is past all = (
   at-last flags bases bytes first p from into is past
       ∙ ap (later (from - first))
-          (cond-is _ _ _ (eq-eqb (length (drop from bytes)) 0 (omega (arith, length-drop {A = ℕ} from bytes, all)))),
+      (cond-is _ _ _ (eq-eqb (length (drop from bytes)) 0 (omega (arith, length-drop {A = ℕ} from bytes, all)))),
   sym (is.image
       ∙ (ap (λ l. take (64 * p) into ++ merged (drop p flags) l (drop from bytes)) (drop_all p bases past)
       ∙ (ap (λ l. take (64 * p) into ++ l) (last-merged (drop p flags) (drop from bytes))

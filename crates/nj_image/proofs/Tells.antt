@@ -22,12 +22,12 @@ one-image image other base size first second same =
     go false e true f = cc (sym (packing-some image base e) ∙ (same ∙ packing-all other base f))
     go false e false f =
         let parts = same-parts (mask_of image base) (flagged (flags_of image base) (pages image)) (mask_of other base)
-            (flagged (flags_of other base) (pages other))
+        (flagged (flags_of other base) (pages other))
         (count-mask image base ∙ sym (count-mask other base))
-            (tail (sym (packing-some image base e) ∙ (same ∙ packing-some other base f))) in
+        (tail (sym (packing-some image base e) ∙ (same ∙ packing-some other base f))) in
         let flags : flags_of image base ≡ flags_of other base =
         sym (mask-flags image base size first)
-            ∙ (ap (flags_in (page_count base)) parts.0 ∙ mask-flags other base size second) in
+        ∙ (ap (flags_in (page_count base)) parts.0 ∙ mask-flags other base size second) in
         sym (image-reads image base size first).1
         ∙ (ap (λ fs. merged fs (pages base) (flagged (flags_of image base) (pages image))) flags
         ∙ (ap (merged (flags_of other base) (pages base)) parts.1 ∙ (image-reads other base size second).1))
@@ -44,14 +44,14 @@ image-told image base size same = go (all_of (flags_of image base)) refl
         let differing = flagged (flags_of image base) (pages image) in
         let size_is = count-mask image base in
         let first : take (mask_size base) (mask ++ differing) ≡ mask =
-            ap (λ k. take k (mask ++ differing)) (sym size_is) ∙ take-append_seam mask differing in
+        ap (λ k. take k (mask ++ differing)) (sym size_is) ∙ take-append_seam mask differing in
         let behind : drop (mask_size base) (mask ++ differing) ≡ differing =
-            ap (λ k. drop k (mask ++ differing)) (sym size_is) ∙ drop-append_seam mask differing in
+        ap (λ k. drop k (mask ++ differing)) (sym size_is) ∙ drop-append_seam mask differing in
         ap (unpacked base) (packing-some image base e)
         ∙ (ap (λ m. merged (flags_in (page_count base) m) (pages base)
-            (drop (mask_size base) (mask ++ differing))) first
+        (drop (mask_size base) (mask ++ differing))) first
         ∙ (ap (λ fs. merged fs (pages base) (drop (mask_size base) (mask ++ differing)))
-            (mask-flags image base size same)
+        (mask-flags image base size same)
         ∙ (ap (merged (flags_of image base) (pages base)) behind ∙ (image-reads image base size same).1)))
 
 pub packed-short : (image base : List ℕ) → IsImageSize base → length image ≡ length base

@@ -81,9 +81,9 @@ fn fill(
     requires image { length into.old ≡ length base.now }
     ensures { MatchResult result
         (λ _. (stop (flags_in (page_count base.now) mask.now) (pages base.now) (drop start bytes.now) ≡ None)
-            × (into.new ≡ merged (flags_in (page_count base.now) mask.now) (pages base.now) (drop start bytes.now)))
+        × (into.new ≡ merged (flags_in (page_count base.now) mask.now) (pages base.now) (drop start bytes.now)))
         (λ damaged. stop (flags_in (page_count base.now) mask.now) (pages base.now) (drop start bytes.now)
-            ≡ Some (damaged.at - start) × (start ≤ damaged.at)) }
+        ≡ Some (damaged.at - start) × (start ≤ damaged.at)) }
 {
     let mut from = start;
     for page in 0..base.len() / PAGE {

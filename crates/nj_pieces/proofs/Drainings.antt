@@ -32,12 +32,18 @@ room_for first owner before left p is room most =
     let one = most (λ _. 1) in
     let balance = is.weights (λ _. 1) in
     let dealt : length (worker_view owner).dealt ≡ length (worker_view first).dealt =
-        ap (λ v. length v.dealt) is.view_is in
+    ap (λ v. length v.dealt) is.view_is in
     let a : vec_len left ≡ length left.items = left.ok.0 in
     let b : vec_len before ≡ length before.items = before.ok.0 in
     let c = is.capacity in
-    omega (arith, length-sum_by (worker_view owner).dealt, length-sum_by (worker_view owner).taken,
-        length-sum_by (worker_view first).taken, length-sum_by left.items, length-sum_by before.items)
+    omega (
+      arith,
+      length-sum_by (worker_view owner).dealt,
+      length-sum_by (worker_view owner).taken,
+      length-sum_by (worker_view first).taken,
+      length-sum_by left.items,
+      length-sum_by before.items,
+    )
 
 pub fewer_left : (v w : Tally) (p : ℕ) → w ≡ with_piece v p → ((h : ℕ → ℕ) → sum_by h v.taken + h p ≤ sum_by h v.dealt)
     → length w.dealt - length w.taken < length v.dealt - length v.taken

@@ -66,10 +66,10 @@ pub taker_room : (count : ℕ) (given all was now : List Taker) (taker : Taker) 
 taker_room count given all was now taker left popped is =
     let f : ℕ → ℕ = λ _. 1 in
     let d : sum_by (weight_dealt (λ _. 1)) was ≡ sum_by (weight_dealt (λ _. 1)) now + sum_by (λ _. 1)
-        (worker_view taker.owner).dealt =
+    (worker_view taker.owner).dealt =
     ap (sum_by (weight_dealt (λ _. 1))) popped ∙ sum_by_push (weight_dealt (λ _. 1)) now taker in
     let b : sum_by (weight_back (λ _. 1)) was ≡ sum_by (weight_back (λ _. 1)) now + sum_by (λ _. 1)
-        (worker_view taker.owner).taken =
+    (worker_view taker.owner).taken =
     ap (sum_by (weight_back (λ _. 1))) popped ∙ sum_by_push (weight_back (λ _. 1)) now taker in
     let balance = is.weights (λ _. 1) in
     let less = is.less (λ _. 1) in
@@ -88,21 +88,21 @@ taker_room count given all was now taker left popped is =
 pub gathering_more : (count : ℕ) (given all was now : List Taker) (taker : Taker) (left after : Vec ℕ Global)
     → was ≡ now ++ taker ∷ [] → IsGathering count given all was left
     → ((h : ℕ → ℕ) → sum_by h after.items + sum_by h (worker_view taker.owner).taken
-        ≡ sum_by h left.items + sum_by h (worker_view taker.owner).dealt)
+    ≡ sum_by h left.items + sum_by h (worker_view taker.owner).dealt)
     → vec_capacity after ≡ vec_capacity left → (0 < (worker_view taker.owner).ends → after.items ≡ left.items)
     → IsGathering count given all now after
 gathering_more count given all was now taker left after popped is drained capacity none = record {
   whole = (all_init IsWhole now taker (subst (All IsWhole) popped is.whole)).0;
   weights = λ h.
       let d : sum_by (weight_dealt h) was ≡ sum_by (weight_dealt h) now + sum_by h (worker_view taker.owner).dealt =
-          ap (sum_by (weight_dealt h)) popped ∙ sum_by_push (weight_dealt h) now taker in
+      ap (sum_by (weight_dealt h)) popped ∙ sum_by_push (weight_dealt h) now taker in
       let b : sum_by (weight_back h) was ≡ sum_by (weight_back h) now + sum_by h (worker_view taker.owner).taken =
-          ap (sum_by (weight_back h)) popped ∙ sum_by_push (weight_back h) now taker in
+      ap (sum_by (weight_back h)) popped ∙ sum_by_push (weight_back h) now taker in
       let balance = is.weights h in
       let change = drained h in omega arith;
   less = λ h.
       let b : sum_by (weight_back h) was ≡ sum_by (weight_back h) now + sum_by h (worker_view taker.owner).taken =
-          ap (sum_by (weight_back h)) popped ∙ sum_by_push (weight_back h) now taker in
+      ap (sum_by (weight_back h)) popped ∙ sum_by_push (weight_back h) now taker in
       let less = is.less h in omega arith;
   dealt = is.dealt;
   back = is.back;
@@ -128,7 +128,7 @@ owner_at : (pieces : Pieces) (takers : List Taker) → AreTakersOf pieces takers
 unfolding number_of
 owner_at pieces takers are k d s within =
     subst (λ (j : ℕ). IsOwner pieces.count (length pieces.thieves.items) j 0 (get_or pieces.thieves.items j s)
-        (get_or takers k d).owner) (are.numbers k d within) ((are.each k d within).owner s)
+    (get_or takers k d).owner) (are.numbers k d within) ((are.each k d within).owner s)
 
 as_many : (pieces : Pieces) (takers : List Taker) → AreTakersOf pieces takers
     → length takers ≡ length pieces.thieves.items
@@ -146,8 +146,12 @@ all_returnable pieces takers slice are same = subst AreReturnable (sym same) (re
       let owner = owner_at pieces takers are k d s k_within in
       let access = (are.each j d j_within).accesses.each k s a (omega arith) in
       record {
-        deque = (access.deque.0 ∙ ap (λ x. x.0) (sym owner.deque), access.deque.1 ∙ ap (λ x. x.1) (sym owner.deque),
-            access.deque.2, access.deque.3);
+        deque = (
+          access.deque.0 ∙ ap (λ x. x.0) (sym owner.deque),
+          access.deque.1 ∙ ap (λ x. x.1) (sym owner.deque),
+          access.deque.2,
+          access.deque.3,
+        );
         seats = access.seats;
         ends = access.ends;
       };
@@ -160,7 +164,7 @@ begins_with : (pieces : Pieces) (given now : List Taker) (left : Vec ℕ Global)
     → ((k : ℕ) (d : Taker) → k < length given → IsGathered (length given) (get_or given k d) (get_or now k d))
     → ((h : ℕ → ℕ) → sum_by (weight_back h) now ≡ sum_by (weight_back h) given + sum_by (weight_out h) given)
     → ((j k : ℕ) (d : Taker) → j < length given → k < length given → is_done (get_or given j d) ≡ true
-        → 0 < (worker_view (get_or now k d).owner).ends)
+    → 0 < (worker_view (get_or now k d).owner).ends)
     → IsGathering pieces.count given now now left
 unfolding taken_of
 begins_with pieces given now left are empty room many owners weights ended =
@@ -174,8 +178,12 @@ begins_with pieces given now left are empty room many owners weights ended =
           let marks = back.marks in
           let seats_were = own.seats_are in
           let marks_were = own.marks in
-          record { fifo = back.same.1 ∙ own.fifo; port = back.same.2 ∙ own.port; seats = omega arith;
-              some_mark = let some_worker = pieces.has_worker in omega arith };
+          record {
+            fifo = back.same.1 ∙ own.fifo;
+            port = back.same.2 ∙ own.port;
+            seats = omega arith;
+            some_mark = let some_worker = pieces.has_worker in omega arith;
+          };
       weights = λ h. let none : sum_by h left.items ≡ 0 = ap (sum_by h) empty in omega arith;
       less = λ h. omega arith;
       dealt = λ h.
@@ -184,16 +192,16 @@ begins_with pieces given now left are empty room many owners weights ended =
           let own = owner_at pieces given are k d s (omega arith) in
           ap (sum_by h) ((owners k d (omega arith)).dealt ∙ own.dealt)
           ∙ ap (λ (j : ℕ). sum_by h (dealt_to j (length pieces.thieves.items) pieces.count)) (let e : k ≡ 0 + k =
-              omega arith in e))
+          omega arith in e))
           ∙ ap (λ (m : ℕ). sum_by (λ k. sum_by h (dealt_to k (length pieces.thieves.items) pieces.count))
-              (range_with_len 0 m)) (many ∙ n)
+          (range_with_len 0 m)) (many ∙ n)
           ∙ dealt_all h (length pieces.thieves.items) pieces.count pieces.has_worker;
       back = λ h.
           let none : sum_by (weight_back h) given ≡ 0 =
-              none_in_all (weight_back h) given (λ k d within. ap (sum_by h) (are.each k d within).none_taken) in
+          none_in_all (weight_back h) given (λ k d within. ap (sum_by h) (are.each k d within).none_taken) in
           let out : sum_by (weight_out h) given ≡ sum_by (λ taker. sum_by h (taken_of taker)) given =
           sum_same (weight_out h) (λ taker. sum_by h (taken_of taker)) given
-              (λ k d within. sym ((are.each k d within).noted h)) in
+          (λ k d within. sym ((are.each k d within).noted h)) in
           let all = weights h in omega arith;
       room = room;
       done = λ k d within is. λ j e j_within. record {
@@ -208,14 +216,14 @@ pub gathering_begins : (pieces : Pieces) (given slice now rest : List Taker) (n 
     → ((k : ℕ) (d : Taker) → k < length slice → IsGathered (length slice) (get_or slice k d) (get_or now k d))
     → ((h : ℕ → ℕ) → sum_by (weight_back h) now ≡ sum_by (weight_back h) slice + sum_by (weight_out h) slice)
     → ((j k : ℕ) (d : Taker) → j < length slice → k < length slice → is_done (get_or slice j d) ≡ true
-        → 0 < (worker_view (get_or now k d).owner).ends)
+    → 0 < (worker_view (get_or now k d).owner).ends)
     → IsGathering pieces.count given (take n (now ++ rest)) (take n (now ++ rest)) left
 gathering_begins pieces given slice now rest n left are same n_is empty room many owners weights ended =
     let n_now : n ≡ length now = n_is ∙ ap length (sym same) ∙ sym many in
     let whole : take n (now ++ rest) ≡ now = ap (λ k. take k (now ++ rest)) n_now ∙ take-append_seam now rest in
     let of_slice : AreTakersOf pieces slice = subst (AreTakersOf pieces) (sym same) are in
     subst (λ (p : List Taker × List Taker). IsGathering pieces.count p.0 p.1 p.1 left) (λ i. (same i, sym whole i))
-        (begins_with pieces slice now left of_slice empty room many owners weights ended)
+    (begins_with pieces slice now left of_slice empty room many owners weights ended)
 
 no_more : {X : Type 0} (xs : List X) → length xs ≡ 0 → xs ≡ []
 no_more [] none = refl
@@ -225,7 +233,7 @@ no_more (x ∷ xs) none = absurd (omega arith)
 pub gathered : (count : ℕ) (given all now : List Taker) (left : Vec ℕ Global) (sorted : List ℕ)
     → IsGathering count given all now left → length now ≡ 0 → IsPermutation left.items sorted
     → (h : ℕ → ℕ) → sum_by h sorted + sum_by (λ taker. sum_by h (taken_of taker)) given
-        ≡ sum_by h (range_with_len 0 count)
+    ≡ sum_by h (range_with_len 0 count)
 gathered count given all now left sorted is none moved h =
     let d : sum_by (weight_dealt h) now ≡ 0 = ap (sum_by (weight_dealt h)) (no_more now none) in
     let b : sum_by (weight_back h) now ≡ 0 = ap (sum_by (weight_back h)) (no_more now none) in

@@ -54,11 +54,11 @@ returned_begins first = record {
 module _ (first takers mid : List Taker) (at : ℕ) (d : Taker) (empty accesses : Vec Access Global)
     (are : AreReturned first takers at) (within : at < length first)
     (mid_is : mid ≡ set takers at
-        (record { number = (get_or takers at d).number; owner = (get_or takers at d).owner; accesses = empty }))
+    (record { number = (get_or takers at d).number; owner = (get_or takers at d).owner; accesses = empty }))
     (accesses_are : accesses ≡ (get_or takers at d).accesses)
     (lengths : (j : ℕ) (e : Taker) → j < length first → length (get_or first j e).accesses.items ≡ length first)
     (returns : (j k : ℕ) (e : Taker) (a : Access) → j < length first → k < length first
-        → IsReturn (get_or first k e) (get_or (get_or first j e).accesses.items k a)) where
+    → IsReturn (get_or first k e) (get_or (get_or first j e).accesses.items k a)) where
   abbrev new : Taker
   new = record { number = (get_or takers at d).number; owner = (get_or takers at d).owner; accesses = empty }
 
@@ -69,12 +69,12 @@ module _ (first takers mid : List Taker) (at : ℕ) (d : Taker) (empty accesses 
   mid_owner : (k : ℕ) (e : Taker) → k < length first → (get_or mid k e).owner ≡ (get_or takers k e).owner
   mid_owner k e k_within = let many = are.many in dite (ℕ_discrete k at)
       (λ is. ap (λ (xs : List Taker). (get_or xs k e).owner) mid_is
-          ∙ ap (λ (j : ℕ). (get_or (set takers at new) j e).owner) is
+      ∙ ap (λ (j : ℕ). (get_or (set takers at new) j e).owner) is
       ∙ ap (λ t. t.owner) (get_or-set_same takers at new e (omega arith))
-          ∙ ap (λ t. t.owner) (get_or_default takers at d e (omega arith))
-          ∙ ap (λ (j : ℕ). (get_or takers j e).owner) (sym is))
+      ∙ ap (λ t. t.owner) (get_or_default takers at d e (omega arith))
+      ∙ ap (λ (j : ℕ). (get_or takers j e).owner) (sym is))
       (λ other. ap (λ (xs : List Taker). (get_or xs k e).owner) mid_is
-          ∙ ap (λ t. t.owner) (get_or-set_other takers at k new e other))
+      ∙ ap (λ t. t.owner) (get_or-set_other takers at k new e other))
 
   -- and the accesses of the others
   mid_kept : (k : ℕ) (e : Taker) → k ≢ at → (get_or mid k e).accesses ≡ (get_or takers k e).accesses
@@ -103,10 +103,10 @@ module _ (first takers mid : List Taker) (at : ℕ) (d : Taker) (empty accesses 
       let m = mid_many in
       let n = are.many in
       let back : (k : ℕ) (e : Taker) (a : Access) → k < length first → worker_view (get_or now k e).owner ≡ both
-          (worker_view (get_or takers k e).owner) (seen (get_or accesses.items k a)) =
+      (worker_view (get_or takers k e).owner) (seen (get_or accesses.items k a)) =
       λ k e a k_within. (given k e a (omega arith)).view_is
-          ∙ ap (λ (o : Owner). both (worker_view o) (seen (get_or accesses.items k a))) (mid_owner k e k_within) in
-          record {
+      ∙ ap (λ (o : Owner). both (worker_view o) (seen (get_or accesses.items k a))) (mid_owner k e k_within) in
+      record {
         many = now_many ∙ mid_many;
         owners = λ k e k_within.
             let a : Access = one_of accesses.items (let q = accesses_many in omega arith) in
@@ -114,14 +114,18 @@ module _ (first takers mid : List Taker) (at : ℕ) (d : Taker) (empty accesses 
             let one = given k e a (omega arith) in
             let view_is = back k e a k_within in
             let here : SameWorker (get_or takers k e).owner (get_or now k e).owner =
-                subst (λ (o : Owner). SameWorker o (get_or now k e).owner) (mid_owner k e k_within) one.same in
+            subst (λ (o : Owner). SameWorker o (get_or now k e).owner) (mid_owner k e k_within) one.same in
             let seats_now : (worker_view (get_or now k e).owner).seats ≡ (worker_view (get_or takers k e).owner).seats +
-                (seen (get_or accesses.items k a)).seats = ap (λ v. v.seats) view_is in
+            (seen (get_or accesses.items k a)).seats = ap (λ v. v.seats) view_is in
             let seat = (access_of k e a k_within).seats in
             let seats_was = was.seats in
             record {
-              same = (here.0 ∙ was.same.0, here.1 ∙ was.same.1, here.2 ∙ was.same.2,
-                  (let low = was.same.3 in let high = here.3 in omega arith));
+              same = (
+                here.0 ∙ was.same.0,
+                here.1 ∙ was.same.1,
+                here.2 ∙ was.same.2,
+                (let low = was.same.3 in let high = here.3 in omega arith),
+              );
               seats = omega arith;
               marks = ap (λ v. v.marks) view_is ∙ was.marks;
               dealt = ap (λ v. v.dealt) view_is ∙ was.dealt;
@@ -129,15 +133,15 @@ module _ (first takers mid : List Taker) (at : ℕ) (d : Taker) (empty accesses 
         kept = λ k e after k_within.
             let a : Access = one_of accesses.items (let q = accesses_many in omega arith) in
             (given k e a (omega arith)).kept ∙ mid_kept k e (λ is. absurd (omega arith))
-                ∙ are.kept k e (omega arith) k_within;
+            ∙ are.kept k e (omega arith) k_within;
         weights = λ h.
             let q = accesses_many in
             let all = sum_both (weight_back h) (λ (a : Access). sum_by h (seen a).taken) takers now accesses.items
-                (now_many ∙ mid_many ∙ sym n) (omega arith)
+            (now_many ∙ mid_many ∙ sym n) (omega arith)
             (λ k e a k_within. ap (λ v. sum_by h v.taken) (back k e a (omega arith)) ∙ sum_by-append h
-                (worker_view (get_or takers k e).owner).taken (seen (get_or accesses.items k a)).taken) in
+            (worker_view (get_or takers k e).owner).taken (seen (get_or accesses.items k a)).taken) in
             let out : weight_of h accesses.items ≡ weight_out h (get_or first at d) =
-                ap (λ (v : Vec Access Global). weight_of h v.items) (handed d) in
+            ap (λ (v : Vec Access Global). weight_of h v.items) (handed d) in
             let was = are.weights h in
             omega (arith, sum_by_more (weight_out h) first at d within);
         ended = λ j k e before k_within done. dite (ℕ_discrete j at)
@@ -145,19 +149,18 @@ module _ (first takers mid : List Taker) (at : ℕ) (d : Taker) (empty accesses 
             let a : Access = one_of accesses.items (let q = accesses_many in omega arith) in
             let done_here : list_all (λ (x : Access). x.ended) accesses.items ≡ true =
             ap (λ (v : Vec Access Global). list_all (λ (x : Access). x.ended) v.items) (handed e)
-                ∙ ap (λ (i : ℕ). is_done (get_or first i e)) (sym is) ∙ done in
-            let met : (get_or accesses.items k a).ended ≡ true =
-                AllPass-from_list_all (λ (x : Access). x.ended) accesses.items done_here k a (let q = accesses_many in
-                    omega arith) in
-            let one : (seen (get_or accesses.items k a)).ends ≡ 1 =
-                (access_of k e a k_within).ends ∙ ap (λ (b : Bool). if b then 1 else 0) met in
+            ∙ ap (λ (i : ℕ). is_done (get_or first i e)) (sym is) ∙ done in
+            let met : (get_or accesses.items k a).ended ≡ true = AllPass-from_list_all (λ (x : Access).
+            x.ended) accesses.items done_here k a (let q = accesses_many in omega arith) in
+            let one : (seen (get_or accesses.items k a)).ends ≡ 1 = (access_of k e a k_within).ends
+            ∙ ap (λ (b : Bool). if b then 1 else 0) met in
             let now_is : (worker_view (get_or now k e).owner).ends ≡ (worker_view (get_or takers k e).owner).ends +
-                (seen (get_or accesses.items k a)).ends = ap (λ v. v.ends) (back k e a k_within) in
+            (seen (get_or accesses.items k a)).ends = ap (λ v. v.ends) (back k e a k_within) in
             omega arith)
             (λ other.
             let a : Access = one_of accesses.items (let q = accesses_many in omega arith) in
             let was = are.ended j k e (omega arith) k_within done in
             let now_is : (worker_view (get_or now k e).owner).ends ≡ (worker_view (get_or takers k e).owner).ends +
-                (seen (get_or accesses.items k a)).ends = ap (λ v. v.ends) (back k e a k_within) in
+            (seen (get_or accesses.items k a)).ends = ap (λ v. v.ends) (back k e a k_within) in
             omega arith);
       }

@@ -85,16 +85,22 @@ puts_piece port v p is_root unmarked items views h at =
           let s = total_set (weight f) views 0 v w first in
           let was : sum_by f v.dealt ≡ sum_by f (root_of views).dealt = ap (λ u. sum_by f u.dealt) (sym root) in
           let now : sum_by f (root_of (set views 0 w)).dealt ≡ sum_by f (v.dealt ++ p ∷ []) =
-              ap (λ u. sum_by f u.dealt) new_root in
+          ap (λ u. sum_by f u.dealt) new_root in
           let balance = h.pieces_are f in omega (arith, sum_by_push f v.dealt p, sum_by_push f h.rest p);
-      ended = λ some_ended. absurd (let s = total_set ends views 0 v w first in let counted = h.marks_are in
-          omega arith);
+      ended =
+          λ some_ended. absurd (let s = total_set ends views 0 v w first in let counted = h.marks_are in omega arith);
       fits = each_set (λ _ u. Fits (root_of (set views 0 w)) u) views 0 w
-          (record { within = mine.within; idle = mine.idle;
-              told = λ some_seat. absurd (let has = total_has seats views 0 v first in omega arith) })
+          (record {
+            within = mine.within;
+            idle = mine.idle;
+            told = λ some_seat. absurd (let has = total_has seats views 0 v first in omega arith);
+          })
           (λ j u other e. let theirs = h.fits j u e in
-          record { within = theirs.within; idle = theirs.idle;
-              told = λ some_seat. absurd (let has = total_has seats views j u e in omega arith) });
+          record {
+            within = theirs.within;
+            idle = theirs.idle;
+            told = λ some_seat. absurd (let has = total_has seats views j u e in omega arith);
+          });
     } in
     subst (λ k. (u : Tally) × Holds (items ++ Piece p ∷ []) (set views k u) × (u ≡ w)) (sym is_root) (w, kept, refl)
 
@@ -107,8 +113,8 @@ puts_end port v is_root items views h at =
     let new_root = root_set views v w first in
     let was : (root_of views).marks ≡ v.marks = ap (λ u. u.marks) root in
     let now : (root_of (set views 0 w)).marks ≡ v.marks + 1 = ap (λ u. u.marks) new_root in
-    let deal : (root_of (set views 0 w)).dealt ≡ (root_of views).dealt =
-        ap (λ u. u.dealt) new_root ∙ sym (ap (λ u. u.dealt) root) in
+    let deal : (root_of (set views 0 w)).dealt ≡ (root_of views).dealt = ap (λ u. u.dealt) new_root
+    ∙ sym (ap (λ u. u.dealt) root) in
     let mine = h.fits 0 v first in
     let kept : Holds (items ++ End ∷ []) (set views 0 w) = record {
       rest = h.rest;
@@ -122,8 +128,12 @@ puts_end port v is_root items views h at =
           let balance = h.pieces_are f in omega arith;
       ended = λ some_ended. h.ended (let s = total_set ends views 0 v w first in omega arith);
       fits = each_set (λ _ u. Fits (root_of (set views 0 w)) u) views 0 w
-          (record { within = let within = mine.within in
-              omega arith; idle = λ none. absurd (omega arith); told = λ some_seat. sym (ap (λ u. u.dealt) new_root) })
+          (record {
+            within = let within = mine.within in
+                omega arith;
+            idle = λ none. absurd (omega arith);
+            told = λ some_seat. sym (ap (λ u. u.dealt) new_root);
+          })
           (λ j u other e. let theirs = h.fits j u e in
           record { within = theirs.within; idle = theirs.idle; told = λ some_seat. theirs.told some_seat ∙ sym deal });
     } in
@@ -149,9 +159,9 @@ piece_step port v x items views h p r at some_seat is items_are =
     let w : Tally = with_piece v p in
     let mine = h.fits port v at in
     let marks : (root_of (set views port w)).marks ≡ (root_of views).marks =
-        root_keeps (λ u. u.marks) views port v w at refl in
+    root_keeps (λ u. u.marks) views port v w at refl in
     let deal : (root_of (set views port w)).dealt ≡ (root_of views).dealt =
-        root_keeps (λ u. u.dealt) views port v w at refl in
+    root_keeps (λ u. u.dealt) views port v w at refl in
     let no_end : 0 < total ends (set views port w) → ⊥ = λ some_ended.
     let s = total_set ends views port v w at in
     let none : h.rest ≡ [] = h.ended (omega arith) in absurd (cc) in record {
@@ -163,13 +173,17 @@ piece_step port v x items views h p r at some_seat is items_are =
       pieces_are = λ f.
           let s = total_set (weight f) views port v w at in
           let same : sum_by f (root_of (set views port w)).dealt ≡ sum_by f (root_of views).dealt =
-              ap (sum_by f) deal in
+          ap (sum_by f) deal in
           let first : sum_by f h.rest ≡ sum_by f (p ∷ r) = ap (sum_by f) is in
           let balance = h.pieces_are f in omega (arith, sum_by_push f v.taken p, sum_by-cons f p r);
       ended = λ some_ended. absurd (no_end some_ended);
       fits = each_set (λ _ u. Fits (root_of (set views port w)) u) views port w
-          (record { within = mine.within; idle = λ none. absurd (omega arith); told = λ seat. mine.told seat
-              ∙ sym deal })
+          (record {
+            within = mine.within;
+            idle = λ none. absurd (omega arith);
+            told = λ seat. mine.told seat
+                ∙ sym deal;
+          })
           (λ j u other e. let theirs = h.fits j u e in
           record { within = theirs.within; idle = theirs.idle; told = λ seat. theirs.told seat ∙ sym deal });
     }
@@ -183,9 +197,9 @@ end_step port v x items views h l at some_right none left items_are =
     let w : Tally = with_end v in
     let mine = h.fits port v at in
     let marks : (root_of (set views port w)).marks ≡ (root_of views).marks =
-        root_keeps (λ u. u.marks) views port v w at refl in
+    root_keeps (λ u. u.marks) views port v w at refl in
     let deal : (root_of (set views port w)).dealt ≡ (root_of views).dealt =
-        root_keeps (λ u. u.dealt) views port v w at refl in record {
+    root_keeps (λ u. u.dealt) views port v w at refl in record {
       rest = [];
       left = l;
       items_are = items_are;
@@ -194,13 +208,17 @@ end_step port v x items views h l at some_right none left items_are =
       pieces_are = λ f.
           let s = total_set (weight f) views port v w at in
           let same : sum_by f (root_of (set views port w)).dealt ≡ sum_by f (root_of views).dealt =
-              ap (sum_by f) deal in
+          ap (sum_by f) deal in
           let empty : sum_by f h.rest ≡ 0 = ap (sum_by f) none in
           let balance = h.pieces_are f in omega arith;
       ended = λ some_ended. refl;
       fits = each_set (λ _ u. Fits (root_of (set views port w)) u) views port w
-          (record { within = omega arith; idle = λ no_seat. absurd (omega arith); told = λ seat. mine.told seat
-              ∙ sym deal })
+          (record {
+            within = omega arith;
+            idle = λ no_seat. absurd (omega arith);
+            told = λ seat. mine.told seat
+                ∙ sym deal;
+          })
           (λ j u other e. let theirs = h.fits j u e in
           record { within = theirs.within; idle = theirs.idle; told = λ seat. theirs.told seat ∙ sym deal });
     }
@@ -222,8 +240,11 @@ takes port v some_right (x ∷ []) items views filled few h at =
     let some_seat : 0 < v.seats = omega arith in
     ⊎_elim
     (λ (f : (p : ℕ) × (r : List ℕ) × (h.rest ≡ p ∷ r) × (x ≡ Piece p) × (items ≡ tasks r h.left)).
-    subst Goal (sym f.3) (with_piece v f.0, piece_step port v x items views h f.0 f.1 at some_seat f.2 f.4,
-        (refl, is_of port v (x ∷ items) views h f.0 f.1 at some_seat f.2)))
+    subst Goal (sym f.3) (
+      with_piece v f.0,
+      piece_step port v x items views h f.0 f.1 at some_seat f.2 f.4,
+      (refl, is_of port v (x ∷ items) views h f.0 f.1 at some_seat f.2),
+    ))
     (λ (f : (l : ℕ) × (h.rest ≡ []) × (h.left ≡ suc l) × (x ≡ End) × (items ≡ tasks [] l)).
     subst Goal (sym f.3) (with_end v, end_step port v x items views h f.0 at some_right f.1 f.2 f.4, refl))
     (first_of x items h.rest h.left h.items_are)
@@ -282,16 +303,22 @@ drains port v is_root whole some_seat (x ∷ []) items views filled few h at =
     let same : sum_by g v.dealt ≡ sum_by g (root_of views).dealt = ap (λ u. sum_by g u.dealt) (sym root) in
     let start : sum_by g h.rest ≡ sum_by g (f.0 ∷ f.1) = ap (sum_by g) f.2 in
     let balance = h.pieces_are g in omega (arith, sum_by-cons g f.0 f.1) in
-    subst Goal (sym f.3) (with_piece v f.0, piece_step port v x items views h f.0 f.1 at some_seat f.2 f.4,
-        (refl, no_end, most)))
+    subst Goal (sym f.3) (
+      with_piece v f.0,
+      piece_step port v x items views h f.0 f.1 at some_seat f.2 f.4,
+      (refl, no_end, most),
+    ))
     (λ (f : (l : ℕ) × (h.rest ≡ []) × (h.left ≡ suc l) × (x ≡ End) × (items ≡ tasks [] l)).
     let right : v.ends < v.seats =
     let has = total_has ends views port v at in
     let counted = h.marks_are in
     let left = f.2 in
     let marks : (root_of views).marks ≡ v.marks = ap (λ u. u.marks) root in omega arith in
-    subst Goal (sym f.3) (with_end v, end_step port v x items views h f.0 at right f.1 f.2 f.4,
-        (refl, settled v (x ∷ items) views h first whole f.1)))
+    subst Goal (sym f.3) (
+      with_end v,
+      end_step port v x items views h f.0 at right f.1 f.2 f.4,
+      (refl, settled v (x ∷ items) views h first whole f.1),
+    ))
     (first_of x items h.rest h.left h.items_are)
 
 no_rest : (rest : List ℕ) (left : ℕ) → [] ≡ tasks rest left → rest ≡ []
@@ -311,12 +338,12 @@ splits : (v w u : Tally) (items : List Task) (views : List Tally) → Holds item
 splits v w u items views h first seats_same marks_same ends_same no_ends deal_same taken_same none fit =
     let middle : List Tally = set views 0 w in
     let root = root_is views v first in
-    let new_root : root_of (middle ++ u ∷ []) ≡ w =
-        root_snoc middle w u (set_first views v w first) ∙ root_set views v w first in
-    let marks : (root_of (middle ++ u ∷ [])).marks ≡ (root_of views).marks =
-        ap (λ y. y.marks) new_root ∙ marks_same ∙ sym (ap (λ y. y.marks) root) in
-    let deal : (root_of (middle ++ u ∷ [])).dealt ≡ (root_of views).dealt =
-        ap (λ y. y.dealt) new_root ∙ deal_same ∙ sym (ap (λ y. y.dealt) root) in
+    let new_root : root_of (middle ++ u ∷ []) ≡ w = root_snoc middle w u (set_first views v w first)
+    ∙ root_set views v w first in
+    let marks : (root_of (middle ++ u ∷ [])).marks ≡ (root_of views).marks = ap (λ y. y.marks) new_root ∙ marks_same
+    ∙ sym (ap (λ y. y.marks) root) in
+    let deal : (root_of (middle ++ u ∷ [])).dealt ≡ (root_of views).dealt = ap (λ y. y.dealt) new_root ∙ deal_same
+    ∙ sym (ap (λ y. y.dealt) root) in
     let now = fit (root_of (middle ++ u ∷ [])) (ap (λ y. y.dealt) new_root) in
     let ends_now : total ends (middle ++ u ∷ []) ≡ total ends views =
     (let s = total_set ends views 0 v w first in let t = total_snoc ends middle u in omega arith) in record {
@@ -332,7 +359,7 @@ splits v w u items views h first seats_same marks_same ends_same no_ends deal_sa
           let same : sum_by f w.taken ≡ sum_by f v.taken = ap (sum_by f) taken_same in
           let empty : sum_by f u.taken ≡ 0 = ap (sum_by f) none in
           let dealt_now : sum_by f (root_of (middle ++ u ∷ [])).dealt ≡ sum_by f (root_of views).dealt =
-              ap (sum_by f) deal in
+          ap (sum_by f) deal in
           let balance = h.pieces_are f in omega arith;
       ended = λ some_ended. h.ended (omega arith);
       fits = each_snoc (Fits (root_of (middle ++ u ∷ []))) middle u
@@ -351,7 +378,7 @@ pub cuts : (port : ℕ) (v : Tally) → port ≡ 0 → 0 < v.seats → v.ends �
 cuts port v is_root some_seat no_ends none items views h at =
     subst (λ k. Holds items (set views k (cut v) ++ guest v ∷ [])) (sym is_root)
     (splits v (cut v) (guest v) items views h (subst (λ k. get_elem? views k ≡ some v) is_root at)
-        (omega arith) refl refl refl refl refl refl
+    (omega arith) refl refl refl refl refl refl
     (λ root deal. (
       (record { within = omega arith; idle = λ no_seat. none; told = λ seat. sym deal }),
       (record { within = omega arith; idle = λ no_seat. refl; told = λ seat. sym deal }),
@@ -380,14 +407,14 @@ gives port v other u is_root items views h at apart at' =
     let there : get_elem? middle other ≡ some u = subst (λ k. get_elem? (set views k w) other ≡ some u) is_root at' in
     let later : 0 < other = not_first other (λ zero_is. apart (zero_is ∙ sym is_root)) in
     let root = root_is views v first in
-    let new_root : root_of (set middle other blank) ≡ w =
-        root_else middle other blank later ∙ root_set views v w first in
-    let marks : (root_of (set middle other blank)).marks ≡ (root_of views).marks =
-        ap (λ y. y.marks) new_root ∙ sym (ap (λ y. y.marks) root) in
-    let deal : (root_of (set middle other blank)).dealt ≡ (root_of views).dealt =
-        ap (λ y. y.dealt) new_root ∙ sym (ap (λ y. y.dealt) root) in
+    let new_root : root_of (set middle other blank) ≡ w = root_else middle other blank later
+    ∙ root_set views v w first in
+    let marks : (root_of (set middle other blank)).marks ≡ (root_of views).marks = ap (λ y. y.marks) new_root
+    ∙ sym (ap (λ y. y.marks) root) in
+    let deal : (root_of (set middle other blank)).dealt ≡ (root_of views).dealt = ap (λ y. y.dealt) new_root
+    ∙ sym (ap (λ y. y.dealt) root) in
     let was : get_elem? views other ≡ some u =
-        ⊎_elim (λ x. absurd (let e = x.0 in omega arith)) (λ x. x.1) (at_set views 0 other w u there) in
+    ⊎_elim (λ x. absurd (let e = x.0 in omega arith)) (λ x. x.1) (at_set views 0 other w u there) in
     let mine = h.fits 0 v first in
     let theirs_u = h.fits other u was in
     let ends_now : total ends (set middle other blank) ≡ total ends views =
@@ -403,7 +430,7 @@ gives port v other u is_root items views h at apart at' =
           let s = total_set (weight f) views 0 v w first in
           let t = total_set (weight f) middle other u blank there in
           let dealt_now : sum_by f (root_of (set middle other blank)).dealt ≡ sum_by f (root_of views).dealt =
-              ap (sum_by f) deal in
+          ap (sum_by f) deal in
           let balance = h.pieces_are f in omega (arith, sum_by-append f v.taken u.taken);
       ended = λ some_ended. h.ended (omega arith);
       fits = each_set (λ _ y. Fits (root_of (set middle other blank)) y) middle other blank (blank_fits _)

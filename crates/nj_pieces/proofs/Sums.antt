@@ -35,7 +35,7 @@ sum_by_place f g [] a each = refl
 sum_by_place f g (x ∷ xs) a each =
     let first : f x ≡ g a = each 0 x (omega arith) ∙ ap g (let e : a + 0 ≡ a = omega arith in e) in
     let rest = sum_by_place f g xs (a + 1) (λ k d within. each (suc k) d (omega arith)
-        ∙ ap g (let e : a + suc k ≡ a + 1 + k = omega arith in e)) in
+    ∙ ap g (let e : a + suc k ≡ a + 1 + k = omega arith in e)) in
     omega (arith, sum_by-cons f x xs, sum_by-cons g a (range_with_len (a + 1) (length xs)))
 
 -- terms that are 0 but for one number, over a range without it and over one with it
@@ -101,20 +101,20 @@ dealt_all h workers zero filled =
 dealt_all h workers (suc n) filled =
     let e : n + 1 ≡ suc n = omega arith in
     let each : (k : ℕ) → sum_by h (dealt_to k workers (suc n)) ≡ sum_by h (dealt_to k workers n) + (if n % workers == k
-        then h n else 0) = λ k.
+    then h n else 0) = λ k.
     sym (ap (λ (m : ℕ). sum_by h (dealt_to k workers m)) e) ∙ ap (sum_by h) (dealt_more k workers n)
     ∙ sum_by-append h (dealt_to k workers n) (if n % workers == k then n ∷ [] else [])
     ∙ ap (λ (m : ℕ). sum_by h (dealt_to k workers n) + m) (one_weight h n (n % workers == k)) in
     let sums = sum_add (λ k. sum_by h (dealt_to k workers (suc n))) (λ k. sum_by h (dealt_to k workers n))
-        (λ k. if n % workers == k then h n else 0) (range_with_len 0 workers) each in
+    (λ k. if n % workers == k then h n else 0) (range_with_len 0 workers) each in
     let before = dealt_all h workers n filled in
     let small : n % workers < workers = mod-lt n filled in
     let one : sum_by (λ k. if n % workers == k then h n else 0) (range_with_len 0 workers) ≡ h n =
     one_here (λ k. if n % workers == k then h n else 0) (n % workers) 0 workers
-        (λ k other. not_chosen (n % workers) k (h n) (λ same. other (sym same))) (omega arith) (omega arith)
+    (λ k other. not_chosen (n % workers) k (h n) (λ same. other (sym same))) (omega arith) (omega arith)
     ∙ is_chosen (n % workers) (n % workers) (h n) refl in
     let longer : sum_by h (range_with_len 0 (suc n)) ≡ sum_by h (range_with_len 0 n) + h (0 + n) =
     sym (ap (λ (m : ℕ). sum_by h (range_with_len 0 m)) e) ∙ ap (sum_by h) (range_more 0 n)
-        ∙ sum_by_push h (range_with_len 0 n) (0 + n) in
+    ∙ sum_by_push h (range_with_len 0 n) (0 + n) in
     let last : h (0 + n) ≡ h n = ap h (let z : 0 + n ≡ n = omega arith in z) in
     omega arith

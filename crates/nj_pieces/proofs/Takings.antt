@@ -45,7 +45,7 @@ pub access_at : (pieces : Pieces) (taker : Taker) (at : ℕ) (a : Access) → Is
     → IsAccess pieces.count (length pieces.thieves.items) at (get_or pieces.thieves.items at s) a
 access_at pieces taker at a is within same s =
     subst (IsAccess pieces.count (length pieces.thieves.items) at (get_or pieces.thieves.items at s)) (sym same)
-        (is.accesses.each at s a within)
+    (is.accesses.each at s a within)
 
 -- an access stays one of its deque
 pub after_piece : (count workers number : ℕ) (thief : Thief) (a b : Access) (p : ℕ)
@@ -82,9 +82,9 @@ accesses_set count thieves accesses at b are within is = record {
   each = λ k s d k_within. dite (ℕ_discrete k at)
       (λ e. subst (λ j. IsAccess count (length thieves) j (get_or thieves j s) (get_or (set accesses at b) j d)) (sym e)
       (subst (IsAccess count (length thieves) at (get_or thieves at s))
-          (sym (get_or-set_same accesses at b d (let many = are.many in omega arith))) (is s)))
+      (sym (get_or-set_same accesses at b d (let many = are.many in omega arith))) (is s)))
       (λ other. subst (IsAccess count (length thieves) k (get_or thieves k s))
-          (sym (get_or-set_other accesses at k b d other)) (are.each k s d k_within));
+      (sym (get_or-set_other accesses at k b d other)) (are.each k s d k_within));
 }
 
 -- the owner's end stays the worker's when it notes a piece
@@ -116,16 +116,16 @@ piece_taken pieces taker at a b p owner accesses is within there same now ended 
   accesses = subst (AreAccesses pieces.count pieces.thieves.items) (sym items)
       (accesses_set pieces.count pieces.thieves.items taker.accesses.items at b is.accesses within
       (λ s. after_piece pieces.count (length pieces.thieves.items) at (get_or pieces.thieves.items at s) a b p
-          (access_at pieces taker at a is within there s) same now ended));
+      (access_at pieces taker at a is within there s) same now ended));
   noted = λ h.
       let list : weight_of h accesses.items ≡ weight_of h (set taker.accesses.items at b) = ap (weight_of h) items in
       let log : sum_by h (worker_view owner).log ≡ sum_by h ((worker_view taker.owner).log ++ p ∷ []) =
-          ap (λ v. sum_by h v.log) noted_now in
+      ap (λ v. sum_by h v.log) noted_now in
       let weight : sum_by h (seen b).taken ≡ sum_by h ((seen a).taken ++ p ∷ []) = ap (λ v. sum_by h v.taken) now in
       let old : sum_by h (seen (get_or taker.accesses.items at a)).taken ≡ sum_by h (seen a).taken =
-          ap (λ x. sum_by h (seen x).taken) (sym there) in
+      ap (λ x. sum_by h (seen x).taken) (sym there) in
       let change = sum_by-set (λ x. sum_by h (seen x).taken) taker.accesses.items at b a (let many = is.accesses.many in
-          omega arith) in
+      omega arith) in
       let balance = is.noted h in
       omega (arith, sum_by_push h (worker_view taker.owner).log p, sum_by_push h (seen a).taken p);
 }
@@ -145,14 +145,14 @@ mark_met pieces taker at a b accesses is within there same now not_ended ended i
   accesses = subst (AreAccesses pieces.count pieces.thieves.items) (sym items)
       (accesses_set pieces.count pieces.thieves.items taker.accesses.items at b is.accesses within
       (λ s. after_mark pieces.count (length pieces.thieves.items) at (get_or pieces.thieves.items at s) a b
-          (access_at pieces taker at a is within there s) same now not_ended ended));
+      (access_at pieces taker at a is within there s) same now not_ended ended));
   noted = λ h.
       let list : weight_of h accesses.items ≡ weight_of h (set taker.accesses.items at b) = ap (weight_of h) items in
       let weight : sum_by h (seen b).taken ≡ sum_by h (seen a).taken = ap (λ v. sum_by h v.taken) now in
       let old : sum_by h (seen (get_or taker.accesses.items at a)).taken ≡ sum_by h (seen a).taken =
-          ap (λ x. sum_by h (seen x).taken) (sym there) in
+      ap (λ x. sum_by h (seen x).taken) (sym there) in
       let change = sum_by-set (λ x. sum_by h (seen x).taken) taker.accesses.items at b a (let many = is.accesses.many in
-          omega arith) in
+      omega arith) in
       let balance = is.noted h in omega arith;
 }
 
@@ -175,7 +175,7 @@ dealt_below number workers count p there =
     let each : All (λ y. y < count) (dealt_to number workers count) =
     All-filter (λ y. y % workers == number) (λ y. y < count) (range_with_len 0 count)
     (λ k d within. subst (λ (y : ℕ). y < count) (sym (get_or-range_with_len 0 count k d (let n =
-        length-range_with_len 0 count in omega arith))) (let n = length-range_with_len 0 count in omega arith)) in
+    length-range_with_len 0 count in omega arith))) (let n = length-range_with_len 0 count in omega arith)) in
     subst (λ (y : ℕ). y < count) there.2 (each there.0 p there.1)
 
 -- what was dealt to a taker's worker

@@ -53,8 +53,8 @@ total_less f g (x ∷ xs) all zero v e =
     let rest = total_most xs (λ port. all (suc port)) in omega arith where
       total_most : (xs : List Tally) → Each (λ _ v. f v ≤ g v) xs → total f xs ≤ total g xs
       total_most [] every = omega arith
-      total_most (y ∷ ys) every = let here = every 0 y refl in let rest = total_most ys (λ port. every (suc port)) in
-          omega arith
+      total_most (y ∷ ys) every =
+          let here = every 0 y refl in let rest = total_most ys (λ port. every (suc port)) in omega arith
 total_less f g (x ∷ xs) all (suc port) v e =
     let here = all 0 x refl in
     let rest = total_less f g xs (λ k. all (suc k)) port v e in omega arith

@@ -45,8 +45,7 @@ impl Pieces {
         requires within { at < length self.now.thieves.items }
         ensures piece { IfSome result (λ piece. (worker_view taker.new.owner).log
             ≡ (worker_view taker.old.owner).log ++ piece ∷ []) }
-        ensures from {
-            IfSome result (λ piece. Contains (dealt_to at (length self.now.thieves.items) self.now.count) piece) }
+        ensures from { IfSome result (λ piece. Contains (dealt_to at (length self.now.thieves.items) self.now.count) piece) }
         ensures already { ((d : Access) → (slice_index_or taker.old.accesses.items at d).ended ≡ true) → result ≡ None }
         ensures none { IfNone result ((worker_view taker.new.owner).log ≡ (worker_view taker.old.owner).log) }
         ensures ended { IfNone result ((d : Access) → (slice_index_or taker.new.accesses.items at d).ended ≡ true) }

@@ -32,13 +32,13 @@ ends_more from (end ∷ ends) last next are later = (are.0, ends_more end ends l
 
 pub strings_more : (from : ℕ) (ends bytes more : List ℕ) → AreEnds from ends (length bytes)
     → strings_in from (ends ++ (length bytes + length more) ∷ []) (bytes ++ more)
-        ≡ strings_in from ends bytes ++ more ∷ []
+    ≡ strings_in from ends bytes ++ more ∷ []
 strings_more from [] bytes more are =
     ap (λ string. string ∷ []) (ap (λ n. slice_range (bytes ++ more) n (length bytes + length more)) are
-        ∙ part_behind bytes more)
+    ∙ part_behind bytes more)
 strings_more from (end ∷ ends) bytes more are =
     ap (λ string. string ∷ strings_in end (ends ++ (length bytes + length more) ∷ []) (bytes ++ more))
-        (part_longer bytes more from end are.0 (within_ends end ends (length bytes) are.1))
+    (part_longer bytes more from end are.0 (within_ends end ends (length bytes) are.1))
     ∙ ap (λ strings. slice_range bytes from end ∷ strings) (strings_more end ends bytes more are.1)
 
 -- as many strings as ends
@@ -86,6 +86,6 @@ is_one_more ends bytes more ends_after bytes_after last is longer later are =
     record {
       are_ends = subst (λ (n : ℕ). AreEnds 0 ends_after n) is
           (subst (λ (e : List ℕ). AreEnds 0 e last) (sym later)
-              (ends_more 0 ends (length bytes) last are (omega (arith, long))));
+          (ends_more 0 ends (length bytes) last are (omega (arith, long))));
       one_more = (λ i. strings_in 0 (same i) (longer i)) ∙ strings_more 0 ends bytes more are;
     }

@@ -17,7 +17,7 @@ octets (byte ∷ bytes) are = (omega (arith, are 0), octets bytes (λ i. are (su
 -- one packing more is that of an image, and tells it
 pub packed_more : (base room after image packed : List ℕ) (limit bytes more : ℕ) (packings later : List (List ℕ))
     → ((image base : List ℕ) → IsImageSize base → length image ≡ length base
-        → unpacked base (packing image base) ≡ image)
+    → unpacked base (packing image base) ≡ image)
     → ((image base : List ℕ) → length image ≡ length base → AreBytes image → IsPacking base (packing image base))
     → IsPacked base room limit bytes packings → length after ≡ length room → length image ≡ length base → AreBytes image
     → packed ≡ packing image base → later ≡ packings ++ packed ∷ [] → more ≡ bytes + need base image → more ≤ limit

@@ -62,14 +62,14 @@ pub has_birth : (roots : List (List ℕ)) (steps : List (List Birth)) (place k a
     → IsOnTheWay roots steps place (k + 1) at back → at < length (get_or steps k [])
 has_birth roots steps place k at back lt way =
     subst (λ n. at < n) (ap length (words_more roots steps k lt)
-        ∙ length-map (get_or steps k []) (child_word (words_after roots (take k steps)))) way.in_words
+    ∙ length-map (get_or steps k []) (child_word (words_after roots (take k steps)))) way.in_words
 
 -- and goes on from its parent
 pub went_back : (roots : List (List ℕ)) (steps : List (List Birth)) (place k at : ℕ) (back : List ℕ) (default : Birth)
     → k < length steps → IsLinked roots steps
     → IsOnTheWay roots steps place (k + 1) at back
     → IsOnTheWay roots steps place k (get_or (get_or steps k []) at default).parent
-        (back ++ (get_or (get_or steps k []) at default).pad ∷ [])
+    (back ++ (get_or (get_or steps k []) at default).pad ∷ [])
 went_back roots steps place k at back default lt linked way =
     let words : List (List ℕ) = words_after roots (take k steps) in
     let born : List Birth = get_or steps k [] in
@@ -103,7 +103,7 @@ pub linked_after : (ok : Bool) (roots : List (List ℕ)) (steps new : List (List
     → HaveParents trail.words born → IsLinked roots new
 linked_after true roots steps new born trail is view linked parents =
     subst (IsLinked roots) (sym is)
-        (linked_push roots steps born linked (subst (λ (t : Grown). HaveParents t.words born) (sym view) parents))
+    (linked_push roots steps born linked (subst (λ (t : Grown). HaveParents t.words born) (sym view) parents))
 linked_after false roots steps new born trail is view linked parents = subst (IsLinked roots) (sym is) linked
 
 -- and is seen as grown where the push was made
@@ -123,18 +123,18 @@ pub birth_before : (roots : List (List ℕ)) (steps : List (List Birth)) (place 
 birth_before roots steps place left at back some way =
     let next : left ≡ left - 1 + 1 = omega arith in
     has_birth roots steps place (left - 1) at back
-        (omega (arith, way.in_steps)) (subst (λ n. IsOnTheWay roots steps place n at back) next way)
+    (omega (arith, way.in_steps)) (subst (λ n. IsOnTheWay roots steps place n at back) next way)
 
 -- and the walk goes on from its parent
 pub step_before : (roots : List (List ℕ)) (steps : List (List Birth)) (place left at : ℕ) (back : List ℕ)
     (default : Birth) → 0 < left → IsLinked roots steps
     → IsOnTheWay roots steps place left at back
     → IsOnTheWay roots steps place (left - 1) (get_or (get_or steps (left - 1) []) at default).parent
-        (back ++ (get_or (get_or steps (left - 1) []) at default).pad ∷ [])
+    (back ++ (get_or (get_or steps (left - 1) []) at default).pad ∷ [])
 step_before roots steps place left at back default some linked way =
     let next : left ≡ left - 1 + 1 = omega arith in
     went_back roots steps place (left - 1) at back default (omega (arith, way.in_steps)) linked
-        (subst (λ n. IsOnTheWay roots steps place n at back) next way)
+    (subst (λ n. IsOnTheWay roots steps place n at back) next way)
 
 -- the last of the steps that are left, as it is read
 pub last_step : (roots : List (List ℕ)) (steps : List (List Birth)) (place left at : ℕ) (back : List ℕ)
@@ -152,8 +152,8 @@ pub read_before : (roots : List (List ℕ)) (steps : List (List Birth)) (place l
     → IsOnTheWay roots steps place (left - 1) birth.parent new
 read_before roots steps place left at back new births birth some linked way is read pushed =
     let last : births ≡ get_or steps (left - 1) [] = last_step roots steps place left at back births some way is in
-    let found : birth ≡ get_or (get_or steps (left - 1) []) at birth =
-        read ∙ ap (λ (b : List Birth). get_or b at birth) last in
+    let found : birth ≡ get_or (get_or steps (left - 1) []) at birth = read
+    ∙ ap (λ (b : List Birth). get_or b at birth) last in
     subst (λ (n : List ℕ). IsOnTheWay roots steps place (left - 1) birth.parent n) (sym pushed)
     (subst (λ (b : Birth). IsOnTheWay roots steps place (left - 1) b.parent (back ++ b.pad ∷ [])) (sym found)
     (step_before roots steps place left at back birth some linked way))

@@ -36,8 +36,14 @@ impl Model for FrontPool {
 
     ghost Value = { Front };
 
-    ghost view = { λ p. record { base = p.base.items; limit = p.limit; images = images_in p.base.items p.packings;
-        words = p.trail.words; depth = p.trail.depth; born = p.born } };
+    ghost view = { λ p. record {
+      base = p.base.items;
+      limit = p.limit;
+      images = images_in p.base.items p.packings;
+      words = p.trail.words;
+      depth = p.trail.depth;
+      born = p.born;
+    } };
 
     ghost invariant = { λ p. IsPacked p.base.items p.room.items p.limit p.bytes p.packings };
 }
@@ -93,8 +99,7 @@ impl FrontPool {
     /// Adds a state by the place of its parent in the front before and its last pad.
     pub fn push(&mut self, image: &[u8], parent: u32, pad: Pad) -> Result<(), PushRefused>
         requires long { length image.now ≡ length self.old.base }
-        ensures ok {
-            IfOk result (λ _. self.new ≡ with_birth image.now (record { parent = parent; pad = pad }) self.old) }
+        ensures ok { IfOk result (λ _. self.new ≡ with_birth image.now (record { parent = parent; pad = pad }) self.old) }
         ensures room { IfOk result (λ _. HasRoom image.now self.old) }
         ensures refused { IfErr result (Refuses image.now self.old) }
         ensures unchanged { OnErr result (self.new ≡ self.old) }

@@ -26,8 +26,10 @@ seen_in_left seen more row may =
     (may.0, record { number = may.1.number; stands = Contains-append_left seen more _ may.1.stands; less = may.1.less })
 
 seen_in_right : (seen more : List (ℕ × ℕ)) (row : Row) → MayBeDropped more row → MayBeDropped (seen ++ more) row
-seen_in_right seen more row may = (may.0,
-    record { number = may.1.number; stands = Contains-append_right seen more _ may.1.stands; less = may.1.less })
+seen_in_right seen more row may = (
+  may.0,
+  record { number = may.1.number; stands = Contains-append_right seen more _ may.1.stands; less = may.1.less },
+)
 
 -- claims through the first pass, and those of another pass that is joined to it
 pub claimed_joined : (a b : List Row) (first root given other : PassView) (xs ys : List Row) → given.claims ≡ []
@@ -40,23 +42,23 @@ claimed_joined a b first root given other xs ys no_claims no_seen no_full f g = 
   parts = parts_more a b f.placed f.refused g.placed g.refused f.parts g.parts;
   claims =
       ap (λ c. c ++ other.claims) f.claims ∙ ap (λ c. (first.claims ++ map claim_of f.placed) ++ c) (g.claims
-          ∙ ap (λ c. c ++ map claim_of g.placed) no_claims)
+      ∙ ap (λ c. c ++ map claim_of g.placed) no_claims)
       ∙ append_assoc first.claims (map claim_of f.placed) (map claim_of g.placed)
-          ∙ ap (λ c. first.claims ++ c) (sym (map-append claim_of f.placed g.placed));
+      ∙ ap (λ c. first.claims ++ c) (sym (map-append claim_of f.placed g.placed));
   full =
       ap (λ c. c ++ other.full) f.full ∙ ap (λ c. (first.full ++ map (λ row. row.key) f.refused) ++ c) (g.full
-          ∙ ap (λ c. c ++ map (λ row. row.key) g.refused) no_full)
+      ∙ ap (λ c. c ++ map (λ row. row.key) g.refused) no_full)
       ∙ append_assoc first.full (map (λ row. row.key) f.refused) (map (λ row. row.key) g.refused)
-          ∙ ap (λ c. first.full ++ c) (sym (map-append (λ (row : Row). row.key) f.refused g.refused));
+      ∙ ap (λ c. first.full ++ c) (sym (map-append (λ (row : Row). row.key) f.refused g.refused));
   more = f.more ++ other.seen;
   seen = ap (λ s. s ++ other.seen) f.seen ∙ append_assoc first.seen f.more other.seen;
   dropped = f.dropped ++ g.dropped;
   choice = parts_more a b xs f.dropped ys g.dropped f.choice g.choice;
   dropped_may = All-append (MayBeDropped (root.seen ++ other.seen)) f.dropped g.dropped
       (All-weaker (MayBeDropped root.seen) (MayBeDropped (root.seen ++ other.seen)) (seen_in_left root.seen other.seen)
-          f.dropped f.dropped_may)
+      f.dropped f.dropped_may)
       (All-weaker (MayBeDropped other.seen)
-          (MayBeDropped (root.seen ++ other.seen)) (seen_in_right root.seen other.seen) g.dropped g.dropped_may);
+      (MayBeDropped (root.seen ++ other.seen)) (seen_in_right root.seen other.seen) g.dropped g.dropped_may);
 }
 
 -- what a worker that began with nothing has claimed, and its rows
@@ -67,11 +69,11 @@ pub one_back : (table : TableView) (pieces : Pieces) (held : Held) (old new : Wo
     × (to ≤ from + held.plan.script.hold * runs_of held (taken_of new.hand.taker)) × (from ≤ to)
 one_back table pieces held old new from to seated none served =
     let took : taken_of new.hand.taker ≡ served.took = served.taken ∙ ap (λ t. t ++ served.took) none in
-    let rows : new.rows.items ≡ served.rows.added =
-        served.rows.rows_are ∙ ap (λ r. r ++ served.rows.added) seated.rows in
+    let rows : new.rows.items ≡ served.rows.added = served.rows.rows_are
+    ∙ ap (λ r. r ++ served.rows.added) seated.rows in
     let claimed : AreClaimed (rows_of held served.took) old.hand.pass new.hand.pass served.rows.added =
     subst (λ (h : Held). AreClaimed (rows_of h served.took) old.hand.pass new.hand.pass served.rows.added) seated.search
-        served.rows.claimed in (
+    served.rows.claimed in (
       subst (λ t. AreClaimed (rows_of held t) old.hand.pass new.hand.pass new.rows.items) (sym took)
           (subst (λ r. AreClaimed (rows_of held served.took) old.hand.pass new.hand.pass r) (sym rows) claimed),
       subst (λ t. to ≤ from + held.plan.script.hold * runs_of held t) (sym took)
@@ -95,12 +97,12 @@ all_back table pieces held root (old ∷ olds) (new ∷ news) (count ∷ counts)
     let rest = all_back table pieces held root olds news counts afters (All-tail (IsSeated table held) old olds seated)
     (All-tail (λ (end : WorkEnd). taken_of end.hand.taker ≡ []) old olds none) served.1 in
     subst (λ rows.
-        AreClaimed rows root (joined_pass (joined_all root news) new.hand.pass) (rows_all news ++ new.rows.items))
+    AreClaimed rows root (joined_pass (joined_all root news) new.hand.pass) (rows_all news ++ new.rows.items))
     (sym (flat_map-append (piece_rows held) (taken_all news) (taken_of new.hand.taker)))
     (claimed_joined (rows_of held (taken_all news)) (rows_of held (taken_of new.hand.taker)) root
-        (joined_all root news) old.hand.pass new.hand.pass (rows_all news) new.rows.items
+    (joined_all root news) old.hand.pass new.hand.pass (rows_all news) new.rows.items
     here.claims here.seen here.full rest (one_back table pieces held old new count after here
-        (All-head (λ (end : WorkEnd). taken_of end.hand.taker ≡ []) old olds none) served.0).0)
+    (All-head (λ (end : WorkEnd). taken_of end.hand.taker ≡ []) old olds none) served.0).0)
 
 -- the counters together, and no counter falls
 pub frames_back : (table : TableView) (pieces : Pieces) (held : Held) (olds news : List WorkEnd)
@@ -108,7 +110,7 @@ pub frames_back : (table : TableView) (pieces : Pieces) (held : Held) (olds news
     → All (IsSeated table held) olds → All (λ end. taken_of end.hand.taker ≡ []) olds
     → AllServed table pieces olds news counts afters
     → (sum afters ≤ sum counts + held.plan.script.hold * runs_of held (taken_all news)) × (sum counts ≤ sum afters)
-        × (length afters ≡ length counts)
+    × (length afters ≡ length counts)
 frames_back table pieces held [] [] counts afters seated none served =
     let same : sum afters ≡ sum counts = ap sum served in (omega arith, omega arith, ap length served)
 frames_back table pieces held [] (new ∷ news) counts afters seated none served = absurd served
@@ -118,7 +120,7 @@ frames_back table pieces held (old ∷ olds) (new ∷ news) (count ∷ counts) [
 frames_back table pieces held (old ∷ olds) (new ∷ news) (count ∷ counts) (after ∷ afters) seated none served =
     let here = All-head (IsSeated table held) old olds seated in
     let one = one_back table pieces held old new count after here
-        (All-head (λ (end : WorkEnd). taken_of end.hand.taker ≡ []) old olds none) served.0 in
+    (All-head (λ (end : WorkEnd). taken_of end.hand.taker ≡ []) old olds none) served.0 in
     let rest = frames_back table pieces held olds news counts afters (All-tail (IsSeated table held) old olds seated)
     (All-tail (λ (end : WorkEnd). taken_of end.hand.taker ≡ []) old olds none) served.1 in
     let hold = held.plan.script.hold in
@@ -127,7 +129,7 @@ frames_back table pieces held (old ∷ olds) (new ∷ news) (count ∷ counts) (
     let product : hold * (theirs + mine) ≡ hold * theirs + hold * mine = mul-add hold theirs mine in
     let most : sum (after ∷ afters) ≤ sum (count ∷ counts) + hold * (theirs + mine) =
     (let a = one.1 in let b = rest.0 in
-        omega (arith, sum_by-cons (λ (n : ℕ). n) after afters, sum_by-cons (λ (n : ℕ). n) count counts)) in (
+    omega (arith, sum_by-cons (λ (n : ℕ). n) after afters, sum_by-cons (λ (n : ℕ). n) count counts)) in (
       subst (λ (n : ℕ). sum (after ∷ afters) ≤ sum (count ∷ counts) + hold * n)
           (sym (sum_by-append (piece_runs held) (taken_all news) (taken_of new.hand.taker))) most,
       (let a = one.2 in let b = rest.1 in
@@ -198,9 +200,9 @@ pub own_next : (table : TableView) (ends rest : List WorkEnd) (end : WorkEnd) �
     → All (λ e. e.hand.pass.table ≡ table.id) ends → All (λ e. e.hand.pass.table ≡ table.id) rest
 own_next table ends rest end is own =
     let all : All (λ (e : WorkEnd). e.hand.pass.table ≡ table.id) (rest ++ end ∷ []) =
-        subst (All (λ (e : WorkEnd). e.hand.pass.table ≡ table.id)) is own in
+    subst (All (λ (e : WorkEnd). e.hand.pass.table ≡ table.id)) is own in
     λ k d within. subst (λ (e : WorkEnd). e.hand.pass.table ≡ table.id) (get_or_append_left rest (end ∷ []) d k within)
-        (all k d (omega (arith, length-append rest (end ∷ []))))
+    (all k d (omega (arith, length-append rest (end ∷ []))))
 
 -- all are back
 pub joined_end : (pass : PassView) (ends : List WorkEnd) (all : PassView) → length ends ≡ 0 → joined_all pass ends ≡ all

@@ -19,21 +19,21 @@ use Rattle.nj_workers.specs.Claimed.{MayBeDropped, IsSamePass, AreClaimed, AddsC
 four : (w x y z : List Row) → IsPermutation ((w ++ x) ++ (y ++ z)) ((w ++ y) ++ (x ++ z))
 four w x y z =
     let inner : IsPermutation ((x ++ y) ++ z) ((y ++ x) ++ z) =
-        IsPermutation-append _ _ _ _ (IsPermutation-append_comm x y) (IsPermutation-refl z) in
+    IsPermutation-append _ _ _ _ (IsPermutation-append_comm x y) (IsPermutation-refl z) in
     let outer : IsPermutation (w ++ ((x ++ y) ++ z)) (w ++ ((y ++ x) ++ z)) =
-        IsPermutation-append _ _ _ _ (IsPermutation-refl w) inner in
-    let left : w ++ ((x ++ y) ++ z) ≡ (w ++ x) ++ (y ++ z) =
-        ap (λ r. w ++ r) (append_assoc x y z) ∙ sym (append_assoc w x (y ++ z)) in
-    let right : w ++ ((y ++ x) ++ z) ≡ (w ++ y) ++ (x ++ z) =
-        ap (λ r. w ++ r) (append_assoc y x z) ∙ sym (append_assoc w y (x ++ z)) in
+    IsPermutation-append _ _ _ _ (IsPermutation-refl w) inner in
+    let left : w ++ ((x ++ y) ++ z) ≡ (w ++ x) ++ (y ++ z) = ap (λ r. w ++ r) (append_assoc x y z)
+    ∙ sym (append_assoc w x (y ++ z)) in
+    let right : w ++ ((y ++ x) ++ z) ≡ (w ++ y) ++ (x ++ z) = ap (λ r. w ++ r) (append_assoc y x z)
+    ∙ sym (append_assoc w y (x ++ z)) in
     subst (λ r. IsPermutation ((w ++ x) ++ (y ++ z)) r) right
-        (subst (λ l. IsPermutation l (w ++ ((y ++ x) ++ z))) left outer)
+    (subst (λ l. IsPermutation l (w ++ ((y ++ x) ++ z))) left outer)
 
 pub parts_more : (a b p q r s : List Row) → IsPermutation a (p ++ q) → IsPermutation b (r ++ s)
     → IsPermutation (a ++ b) ((p ++ r) ++ (q ++ s))
 parts_more a b p q r s first second =
     IsPermutation-trans (a ++ b) ((p ++ q) ++ (r ++ s)) ((p ++ r) ++ (q ++ s))
-        (IsPermutation-append a (p ++ q) b (r ++ s) first second) (four p q r s)
+    (IsPermutation-append a (p ++ q) b (r ++ s) first second) (four p q r s)
 
 -- what was seen stays seen
 still_dropped : (seen more : List (ℕ × ℕ)) (row : Row) → MayBeDropped seen row → MayBeDropped (seen ++ more) row
@@ -44,7 +44,7 @@ all_still_dropped : (seen more now : List (ℕ × ℕ)) (rows : List Row) → no
     → All (MayBeDropped now) rows
 all_still_dropped seen more now rows now_is may =
     subst (λ s. All (MayBeDropped s) rows) (sym now_is)
-        (All-weaker (MayBeDropped seen) (MayBeDropped (seen ++ more)) (still_dropped seen more) rows may)
+    (All-weaker (MayBeDropped seen) (MayBeDropped (seen ++ more)) (still_dropped seen more) rows may)
 
 -- no rows, no claims
 pub claimed_none : (pass : PassView) → AreClaimed [] pass pass []
@@ -203,7 +203,7 @@ pub adds_next : (found : List Row) (at : ℕ) (d : Row) (p q s : PassView) (xs y
     → AddsClaimed (take (at + 1) found) p s xs zs
 adds_next found at d p q s xs ys zs within so_far next =
     subst (λ rows. AddsClaimed rows p s xs zs) (sym (take_more found at d within))
-        (adds_more (take at found) (get_or found at d ∷ []) p q s xs ys zs so_far next)
+    (adds_more (take at found) (get_or found at d ∷ []) p q s xs ys zs so_far next)
 
 pub adds_all : (found : List Row) (at : ℕ) (p q : PassView) (xs ys : List Row) → length found ≤ at
     → AddsClaimed (take at found) p q xs ys → AddsClaimed found p q xs ys
@@ -216,5 +216,5 @@ pub adds_beaten : (opening : List ℕ) (row : Row) (p q : PassView) (answer : Cl
     → AddsClaimed (row ∷ []) p q xs xs
 adds_beaten opening row p q answer xs is told beaten =
     adds_dropped row p q beaten.0 xs (is
-        ∙ ap (λ (a : Claimed). after_claim row.key (first_claim + row.number) a p) beaten.1)
+    ∙ ap (λ (a : Claimed). after_claim row.key (first_claim + row.number) a p) beaten.1)
     (subst (λ (a : Claimed). IsTold opening row.key (first_claim + row.number) a p) beaten.1 told).0 beaten.2

@@ -77,12 +77,12 @@ not_owned : (opening closed : List ℕ) (claims seen : List (ℕ × ℕ)) (row :
     → is_owned closed row ≡ false
 not_owned opening closed claims seen row were saw =
     let was : WasOwner opening closed claims row.key saw.number = All-contains (λ entry.
-        WasOwner opening closed claims entry.0 entry.1) seen (row.key, saw.number) were saw.stands in
+    WasOwner opening closed claims entry.0 entry.1) seen (row.key, saw.number) were saw.stands in
     let owner : ℕ = was.bound.0 in
     let below : owner ≤ saw.number = was.bound.2 in
     let less = saw.less in
     ap (is_owner (first_claim + row.number)) was.bound.1
-        ∙ ne_eqb owner (first_claim + row.number) (λ is. absurd (omega arith))
+    ∙ ne_eqb owner (first_claim + row.number) (λ is. absurd (omega arith))
 
 -- the rows that were kept of the live ones serve the end of the step
 pub rows_serve : (held : Held) (opening closed : List ℕ) (claims seen : List (ℕ × ℕ)) (rows dropped : List Row)
@@ -102,7 +102,7 @@ rows_serve held opening closed claims seen rows dropped moved may were owned ris
       place (get_or (live_rows held) k d) (here k d within) (λ is_dropped. absurd (absurd_win (is_dropped.0) win));
   fresh = λ k d within fresh. place (get_or (live_rows held) k d) (here k d within)
       (λ is_dropped. absurd (absurd_win (not_owned opening closed claims seen (get_or (live_rows held) k d) were
-          is_dropped.1) (owned k d within ∙ first k d fresh)));
+      is_dropped.1) (owned k d within ∙ first k d fresh)));
 } where
   -- what is fresh is so where nothing is seen
   first : (k : ℕ) (d : Row)
@@ -137,7 +137,7 @@ keys_there : (rows others : List Row) → All (Contains others) rows
     → All (λ row. Contains (map (λ other. other.key) others) row.key) rows
 keys_there rows others there =
     All-weaker (Contains others) (λ row. Contains (map (λ other. other.key) others) row.key)
-        (λ row is. one_key row others is) rows there
+    (λ row is. one_key row others is) rows there
   where
     one_key : (row : Row) (others : List Row) → Contains others row → Contains (map (λ other. other.key) others) row.key
     one_key row others is = (
@@ -178,16 +178,16 @@ no_refusal : (laws : Laws) (held : Held) (opening closed : List ℕ) (root pass 
     → (claimed : AreClaimed lives root pass rows) → IsClosedAfter opening closed pass → claimed.refused ≡ []
 no_refusal laws held opening closed root pass lives rows opened few moved no_claims no_full claimed after =
     none_refused claimed.refused (sym full_is
-        ∙ laws.room opening closed keys pass.full pass.claims opened.table after.table after.size
+    ∙ laws.room opening closed keys pass.full pass.claims opened.table after.table after.size
     (let many_keys : length keys ≡ length all = length-map all (λ (row : Row). row.key) in
     let as_many : length all ≡ length lives = length_permutation lives all claimed.parts in
     let as_lives : length lives ≡ length (live_rows held) = length_permutation (live_rows held) lives moved in
     let room = opened.room in omega arith)
     after.owners
     (subst (λ c. All (λ claim. Contains keys claim.0) c) (sym claims_are)
-        (All-map (λ claim. Contains keys claim.0) claim_of claimed.placed (keys_there claimed.placed all in_left)))
+    (All-map (λ claim. Contains keys claim.0) claim_of claimed.placed (keys_there claimed.placed all in_left)))
     (subst (λ f. All (Contains keys) f) (sym full_is)
-        (All-map (Contains keys) (λ (row : Row). row.key) claimed.refused (keys_there claimed.refused all in_right)))
+    (All-map (Contains keys) (λ (row : Row). row.key) claimed.refused (keys_there claimed.refused all in_right)))
     after.full)
   where
     all : List Row
@@ -220,36 +220,37 @@ pub all_serves : (laws : Laws) (held : Held) (opening closed : List ℕ) (root p
     → AreRowsOf held rows × IsClosedFor held closed
 all_serves laws held opening closed root pass lives rows opened step rising few moved no_claims no_seen no_full claimed
     after = (
-  rows_serve held opening closed pass.claims pass.seen rows claimed.dropped (IsPermutation-trans (live_rows held) lives
-      (rows ++ claimed.dropped) moved claimed.choice) claimed.dropped_may after.seen
-      (laws.owned opening closed [] held.state.step (live_rows held) pass.claims opened.seen step are_claims
+      rows_serve held opening closed pass.claims pass.seen rows claimed.dropped
+          (IsPermutation-trans (live_rows held) lives
+          (rows ++ claimed.dropped) moved claimed.choice) claimed.dropped_may after.seen
+          (laws.owned opening closed [] held.state.step (live_rows held) pass.claims opened.seen step are_claims
           after.owners) rising,
-  record {
-    opening = opening;
-    claims = pass.claims;
-    older = length (seen_of held.bounds held.state);
-    table = after.table;
-    seen = subst (λ (seen : Seen). HoldsSeen opening seen held.state.step)
-        (sym (drop_all (length (seen_of held.bounds held.state)) (seen_of held.bounds held.state) (omega arith)))
-        opened.seen;
-    claimed = are_claims;
-    owners = after.owners;
-  },
-) where
-  none : claimed.refused ≡ []
-  none = no_refusal laws held opening closed root pass lives rows opened few moved no_claims no_full claimed after
+      record {
+        opening = opening;
+        claims = pass.claims;
+        older = length (seen_of held.bounds held.state);
+        table = after.table;
+        seen = subst (λ (seen : Seen). HoldsSeen opening seen held.state.step)
+            (sym (drop_all (length (seen_of held.bounds held.state)) (seen_of held.bounds held.state) (omega arith)))
+            opened.seen;
+        claimed = are_claims;
+        owners = after.owners;
+      },
+    ) where
+      none : claimed.refused ≡ []
+      none = no_refusal laws held opening closed root pass lives rows opened few moved no_claims no_full claimed after
 
-  placed : IsPermutation (live_rows held) claimed.placed
-  placed = IsPermutation-trans (live_rows held) lives claimed.placed moved
-      (subst (λ r. IsPermutation lives r) (ap (λ r. claimed.placed ++ r) none
+      placed : IsPermutation (live_rows held) claimed.placed
+      placed = IsPermutation-trans (live_rows held) lives claimed.placed moved
+          (subst (λ r. IsPermutation lives r) (ap (λ r. claimed.placed ++ r) none
           ∙ append-nil claimed.placed) claimed.parts)
 
-  claims_are : pass.claims ≡ map claim_of claimed.placed
-  claims_are = claimed.claims ∙ ap (λ c. c ++ map claim_of claimed.placed) no_claims
+      claims_are : pass.claims ≡ map claim_of claimed.placed
+      claims_are = claimed.claims ∙ ap (λ c. c ++ map claim_of claimed.placed) no_claims
 
-  are_claims : AreClaims (live_rows held) pass.claims
-  are_claims = subst (λ c. AreClaims (live_rows held) c) (sym claims_are)
-      (laws.moved (live_rows held) (map claim_of (live_rows held)) (map claim_of claimed.placed)
+      are_claims : AreClaims (live_rows held) pass.claims
+      are_claims = subst (λ c. AreClaims (live_rows held) c) (sym claims_are)
+          (laws.moved (live_rows held) (map claim_of (live_rows held)) (map claim_of claimed.placed)
           (IsPermutation-map claim_of (live_rows held) claimed.placed placed) (laws.own (live_rows held)))
 
 -- the closed table, where the words that the table was opened with have another name
@@ -260,4 +261,4 @@ pub closed_after : (first opening closed : List ℕ) (pass : PassView) → first
     → IsClosedAfter opening closed pass
 closed_after first opening closed pass same table size owners seen full =
     subst (λ words. IsClosedAfter words closed pass) same
-        (record { table = table; size = size; owners = owners; seen = seen; full = full })
+    (record { table = table; size = size; owners = owners; seen = seen; full = full })

@@ -36,7 +36,7 @@ rows_upto held zero within = refl
 rows_upto held (suc n) within =
     let front : List Word = held.state.front in
     let long : 0 + length (take (16 * n) front) ≡ 16 * n =
-        (let e = length-take-le (16 * n) front (omega arith) in omega (arith, e)) in
+    (let e = length-take-le (16 * n) front (omega arith) in omega (arith, e)) in
     let far : 16 * suc n ≡ 16 * n + 16 = omega arith in
     ap (rows_of held) (range_next n)
     ∙ flat_map-append (piece_rows held) (range_with_len 0 n) (n ∷ [])
@@ -66,7 +66,7 @@ pub all_rows : (held : Held) → rows_of held (range_with_len 0 (pieces_in held)
 unfolding pieces_in
 all_rows held =
     rows_upto held (pieces_in held) (omega arith)
-        ∙ ap (rows_from held 0) (take_all (16 * pieces_in held) held.state.front (omega arith))
+    ∙ ap (rows_from held 0) (take_all (16 * pieces_in held) held.state.front (omega arith))
 
 pub all_runs : (held : Held) → runs_of held (range_with_len 0 (pieces_in held)) ≡ runs_from held.plan held.state.front
 unfolding pieces_in
@@ -121,15 +121,19 @@ rest_sums : (x : ℕ) (xs ys : List ℕ) (found : Has ys x) → SameSums (x ∷ 
 rest_sums x xs ys found sums h =
     let left = sum_by-cons h x xs in
     let both : sum_by h (x ∷ xs) ≡ sum_by h (found.before ++ x ∷ found.after) = sums h ∙ ap (sum_by h) found.is in
-    omega (arith, sum_by-append h found.before (x ∷ found.after), sum_by-append h found.before found.after,
-        sum_by-cons h x found.after)
+    omega (
+      arith,
+      sum_by-append h found.before (x ∷ found.after),
+      sum_by-append h found.before found.after,
+      sum_by-cons h x found.after,
+    )
 
 -- rows in front of others go behind them
 pass_by : (a b c : List Row) → IsPermutation (a ++ (b ++ c)) (b ++ (a ++ c))
 pass_by a b c =
     subst (λ l. IsPermutation l (b ++ (a ++ c))) (append_assoc a b c)
     (subst (λ r. IsPermutation ((a ++ b) ++ c) r) (append_assoc b a c)
-        (IsPermutation-append (a ++ b) (b ++ a) c c (IsPermutation-append_comm a b) (IsPermutation-refl c)))
+    (IsPermutation-append (a ++ b) (b ++ a) c c (IsPermutation-append_comm a b) (IsPermutation-refl c)))
 
 -- the rows of pieces, where two lists have the same pieces, each as often
 pub rows_moved : (f : ℕ → List Row) (xs ys : List ℕ) → SameSums xs ys → IsPermutation (flat_map f xs) (flat_map f ys)
@@ -141,13 +145,13 @@ rows_moved f (x ∷ xs) ys sums =
     let back : List Row = flat_map f found.after in
     let rest : IsPermutation (flat_map f xs) (front ++ back) =
     subst (λ r. IsPermutation (flat_map f xs) r) (flat_map-append f found.before found.after)
-        (rows_moved f xs (found.before ++ found.after) (rest_sums x xs ys found sums)) in
+    (rows_moved f xs (found.before ++ found.after) (rest_sums x xs ys found sums)) in
     let here : IsPermutation (f x ++ flat_map f xs) (front ++ (f x ++ back)) =
     IsPermutation-trans (f x ++ flat_map f xs) (f x ++ (front ++ back)) (front ++ (f x ++ back))
     (IsPermutation-append (f x) (f x) (flat_map f xs) (front ++ back) (IsPermutation-refl (f x)) rest)
-        (pass_by (f x) front back) in
+    (pass_by (f x) front back) in
     subst (λ r. IsPermutation (f x ++ flat_map f xs) r) (sym (flat_map-append f found.before (x ∷ found.after))
-        ∙ ap (flat_map f) (sym found.is)) here
+    ∙ ap (flat_map f) (sym found.is)) here
 
 -- pieces that weigh no more than others have no more candidates
 pub fewer_frames : (hold from to : ℕ) (f : ℕ → ℕ) (taken all : List ℕ) → sum_by f taken ≤ sum_by f all

@@ -45,7 +45,7 @@ pub many_news : (table : TableView) (pieces : Pieces) (held : Held) (workers : �
     → IsMeeting table pieces held workers olds news counts afters takers → length news ≡ workers
 many_news table pieces held workers olds news counts afters takers meeting =
     many_back table pieces olds news counts afters meeting.served
-        ∙ many_olds table pieces held workers olds news counts afters takers meeting
+    ∙ many_olds table pieces held workers olds news counts afters takers meeting
 
 -- the counters together rise by no more than the frames of all candidates
 pub counted_after : (table : TableView) (pieces : Pieces) (held : Held) (workers : ℕ) (olds news : List WorkEnd)
@@ -53,18 +53,18 @@ pub counted_after : (table : TableView) (pieces : Pieces) (held : Held) (workers
     → length (candidates_in held) ≡ runs_from held.plan held.state.front
     → IsMeeting table pieces held workers olds news counts afters takers → back ≡ map taker_of news
     → ((h : ℕ → ℕ) → sum_by h left + sum_by (λ taker. sum_by h (taken_of taker)) back
-        ≡ sum_by h (range_with_len 0 (count_of pieces)))
+    ≡ sum_by h (range_with_len 0 (count_of pieces)))
     → AreCounted workers counts afters (held.plan.script.hold * length (candidates_in held))
 counted_after table pieces held workers olds news counts afters takers back left runs meeting back_is whole =
     let fewer : runs_of held (taken_all news) ≤ runs_of held (range_with_len 0 (count_of pieces)) =
-        none_twice (piece_runs held) (count_of pieces) left back news back_is whole in
+    none_twice (piece_runs held) (count_of pieces) left back news back_is whole in
     let frames = (frames_back table pieces held olds news counts afters meeting.seated
-        (none_all olds takers meeting.same meeting.none) meeting.served).0 in
+    (none_all olds takers meeting.same meeting.none) meeting.served).0 in
     let all : runs_of held (range_with_len 0 (count_of pieces)) ≡ length (candidates_in held) =
     ap (λ (n : ℕ). runs_of held (range_with_len 0 n)) meeting.count ∙ all_runs held ∙ sym runs in
     let together : sum afters ≤ sum counts + held.plan.script.hold * runs_of held (range_with_len 0 (count_of pieces)) =
     fewer_frames held.plan.script.hold (sum counts) (sum afters) (piece_runs held) (taken_all news)
-        (range_with_len 0 (count_of pieces)) fewer frames in
+    (range_with_len 0 (count_of pieces)) fewer frames in
     counted table pieces workers (held.plan.script.hold * length (candidates_in held)) olds news counts afters
     (many_olds table pieces held workers olds news counts afters takers meeting) meeting.served
     (subst (λ (n : ℕ). sum afters ≤ sum counts + held.plan.script.hold * n) all together)
@@ -92,7 +92,7 @@ pub claimed_after : (table : TableView) (pieces : Pieces) (held : Held) (workers
     → live_rows held ≡ rows_from held 0 held.state.front
     → IsMeeting table pieces held workers olds news counts afters takers → back ≡ map taker_of news
     → ((h : ℕ → ℕ) → sum_by h left + sum_by (λ taker. sum_by h (taken_of taker)) back
-        ≡ sum_by h (range_with_len 0 (count_of pieces)))
+    ≡ sum_by h (range_with_len 0 (count_of pieces)))
     → left ≡ [] → root ≡ record (first_pass table.id) { out = n } → pass ≡ joined_all root news → rows ≡ rows_all news
     → AreClaimed (live_rows held) (first_pass table.id) pass rows
 claimed_after table pieces held workers olds news counts afters takers back left root pass n rows lives meeting back_is
@@ -102,16 +102,16 @@ claimed_after table pieces held workers olds news counts afters takers back left
     let moved : IsPermutation (live_rows held) (rows_of held (taken_all news)) =
     subst (λ rows. IsPermutation rows (rows_of held (taken_all news))) all
     (rows_moved (piece_rows held) (range_with_len 0 (count_of pieces)) (taken_all news)
-        (all_taken (count_of pieces) left back news back_is none whole)) in
+    (all_taken (count_of pieces) left back news back_is none whole)) in
     let claimed : AreClaimed (rows_of held (taken_all news)) root (joined_all root news) (rows_all news) =
     all_back table pieces held root olds news counts afters meeting.seated
-        (none_all olds takers meeting.same meeting.none) meeting.served in
+    (none_all olds takers meeting.same meeting.none) meeting.served in
     from_first table n (live_rows held) pass rows
     (subst (λ (r : PassView). AreClaimed (live_rows held) r pass rows) root_is
     (subst (λ (p : PassView). AreClaimed (live_rows held) root p rows) (sym pass_is)
     (subst (λ rs. AreClaimed (live_rows held) root (joined_all root news) rs) (sym rows_is)
     (claimed_moved (rows_of held (taken_all news)) (live_rows held) root (joined_all root news)
-        (rows_all news) moved claimed))))
+    (rows_all news) moved claimed))))
 
 -- the first pass: of its table, the first, and none is out
 pub pass_after : (table : TableView) (pieces : Pieces) (held : Held) (workers : ℕ) (olds news : List WorkEnd)
@@ -124,7 +124,7 @@ pass_after table pieces held workers olds news counts afters takers root pass me
   ap (λ (p : PassView). p.is_root) pass_is ∙ joined_root root news ∙ ap (λ (p : PassView). p.is_root) root_is,
   ap (λ (p : PassView). p.out) pass_is ∙ joined_out root news ∙ ap (λ (p : PassView). p.out - length news) root_is
       ∙ (let many = many_news table pieces held workers olds news counts afters takers meeting in
-          let dealt = meeting.are.many in let asked = meeting.many in
+      let dealt = meeting.are.many in let asked = meeting.many in
       let none : length takers - length news ≡ 0 = omega arith in none),
 )
 

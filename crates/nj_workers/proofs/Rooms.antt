@@ -18,7 +18,7 @@ pub room_fits : (given : Given) (script : Record) (bounds : Bounds) (front : ℕ
 room_fits given script bounds front is few fits =
     let most : given.front ≡ bounds.most = ap (λ (b : Bounds). b.most) is in
     let more : front * given.inputs ≤ given.front * given.inputs =
-        mul-le-mul_right given.inputs (let e : front ≤ given.front = omega arith in e) in
+    mul-le-mul_right given.inputs (let e : front ≤ given.front = omega arith in e) in
     omega arith
 
 -- an empty table with room is open for the step
@@ -29,7 +29,7 @@ pub opened_for : (held : Held) (given : Given) (words : List ℕ) (front exponen
 opened_for held given words front exponent is many table slots empty seen fits =
     let inputs : given.inputs ≡ held.bounds.inputs = ap (λ (b : Bounds). b.inputs) is in
     let rooms : front * given.inputs ≡ length held.state.front * held.bounds.inputs =
-        ap (λ (n : ℕ). n * given.inputs) many ∙ ap (λ (n : ℕ). length held.state.front * n) inputs in
+    ap (λ (n : ℕ). n * given.inputs) many ∙ ap (λ (n : ℕ). length held.state.front * n) inputs in
     let none : length (entries_in words) ≡ 0 = ap length empty in record {
       table = table;
       seen = seen;

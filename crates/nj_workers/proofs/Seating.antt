@@ -70,5 +70,5 @@ pub lent_more : (table : TableView) (pass lent : PassView) (ends next : List Wor
     → next ≡ ends ++ end ∷ [] → lent ≡ record (first_pass table.id) { out = length next }
 lent_more table pass lent ends next end is lent_is next_is =
     let many : length ends + 1 ≡ length next =
-        (let e = ap length next_is in omega (arith, length-append ends (end ∷ []))) in
+    (let e = ap length next_is in omega (arith, length-append ends (end ∷ []))) in
     lent_is ∙ ap lent_pass is ∙ ap (λ (n : ℕ). record (first_pass table.id) { out = n }) many

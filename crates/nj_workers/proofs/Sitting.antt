@@ -24,7 +24,7 @@ pub still_all : {D X : Type 0} (f : D → X) (there next : List D) (d : D) (x : 
     → map f there ++ reverse before ≡ all → map f next ++ reverse rest ≡ all
 still_all f there next d x before rest all is next_is before_is whole =
     ap (λ ds. map f ds ++ reverse rest) next_is ∙ gone_over f there d rest
-        ∙ ap (λ y. map f there ++ reverse (rest ++ y ∷ [])) is
+    ∙ ap (λ y. map f there ++ reverse (rest ++ y ∷ [])) is
     ∙ ap (λ xs. map f there ++ reverse xs) (sym before_is) ∙ whole
 
 -- and back
@@ -33,7 +33,7 @@ pub still_back : {D X : Type 0} (f : D → X) (there next : List D) (d : D) (x :
     → map f there ++ reverse before ≡ all → map f next ++ reverse rest ≡ all
 still_back f there next d x before rest all is there_is rest_is whole =
     ap (λ xs. map f next ++ reverse xs) (rest_is ∙ ap (λ y. before ++ y ∷ []) (sym is))
-        ∙ sym (gone_over f next d before)
+    ∙ sym (gone_over f next d before)
     ∙ ap (λ ds. map f ds ++ reverse before) (sym there_is) ∙ whole
 
 -- what holds at each place, as of two lists
@@ -81,10 +81,11 @@ pub all_at : {D X : Type 0} (P : X → Type 0) (f : D → X) (there slice : List
     → map f there ≡ all → All P all → All (λ d. P (f d)) slice
 all_at {D} {X} P f there slice all same is each =
     subst (All (λ d. P (f d))) (sym same) (from_map there (subst (All P) (sym is) each)) where
-  from_map : (ds : List D) → All P (map f ds) → All (λ d. P (f d)) ds
-  from_map [] each = All-nil (λ d. P (f d))
-  from_map (d ∷ ds) each =
-      All-cons (λ d. P (f d)) d ds (All-head P (f d) (map f ds) each) (from_map ds (All-tail P (f d) (map f ds) each))
+      from_map : (ds : List D) → All P (map f ds) → All (λ d. P (f d)) ds
+      from_map [] each = All-nil (λ d. P (f d))
+      from_map (d ∷ ds) each =
+          All-cons (λ d. P (f d)) d ds (All-head P (f d) (map f ds) each)
+          (from_map ds (All-tail P (f d) (map f ds) each))
 
 -- all who worked have stood up again, with their counters behind which the others stand
 pub all_stood_up : {D : Type 0} (end : D → WorkEnd) (count : D → ℕ) (table : TableView) (pieces : Pieces)
@@ -98,14 +99,14 @@ all_stood_up {D} end count table pieces olds slice news back before after counts
     before_is counts_are after_is afters_are =
     let zipped : AllZip (λ old new. Served table pieces (end old) (end new) (count old) (count new)) olds back =
     subst (λ (os : List D). AllZip (λ old new. Served table pieces (end old) (end new) (count old) (count new)) os back)
-        slice_is
+    slice_is
     (subst (λ (ns : List D). AllZip (λ old new. Served table pieces (end old) (end new) (count old) (count new)) slice
-        ns) (sym back_is) zip) in
+    ns) (sym back_is) zip) in
     subst (λ b. AllServed table pieces b after counts afters) before_is
     (subst (λ a. AllServed table pieces (map end olds) a counts afters) (sym after_is)
     (subst (λ cs. AllServed table pieces (map end olds) (map end back) cs afters) counts_are
     (subst (λ ts. AllServed table pieces (map end olds) (map end back) (map count olds ++ reverse mid) ts)
-        (sym afters_are)
+    (sym afters_are)
     (all_served end count table pieces olds back (reverse mid) zipped))))
 
 -- what a list has become of which a slice was lent
@@ -125,6 +126,6 @@ pub all_stood_within : {D : Type 0} (end : D → WorkEnd) (count : D → ℕ) (t
 all_stood_within {D} end count table pieces n olds slice news rest before after counts afters mid slice_is many as_many
     each before_is counts_are after_is afters_are =
     all_stood_up end count table pieces olds slice news (take n (news ++ rest)) before after counts afters mid slice_is
-        (left_by_slice n olds slice news rest slice_is many as_many)
+    (left_by_slice n olds slice news rest slice_is many as_many)
     (zip_from_each (λ (old new : D). Served table pieces (end old) (end new) (count old) (count new)) slice news as_many
-        each) before_is counts_are after_is afters_are
+    each) before_is counts_are after_is afters_are

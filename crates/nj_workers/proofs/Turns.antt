@@ -21,7 +21,7 @@ pub frames_more : (hold : ℕ) (f : ℕ → ℕ) (xs ys : List ℕ) (from to aft
     → after ≤ to + hold * sum_by f ys → after ≤ from + hold * sum_by f (xs ++ ys)
 frames_more hold f xs ys from to after first second =
     let product : hold * (sum_by f xs + sum_by f ys) ≡ hold * sum_by f xs + hold * sum_by f ys =
-        mul-add hold (sum_by f xs) (sum_by f ys) in
+    mul-add hold (sum_by f xs) (sum_by f ys) in
     let sum : after ≤ from + hold * (sum_by f xs + sum_by f ys) = omega arith in
     subst (λ (n : ℕ). after ≤ from + hold * n) (sym (sum_by-append f xs ys)) sum
 
@@ -62,7 +62,7 @@ took_one table pieces before after piece old new from to may worker search numbe
       (sym (append-nil (piece_rows before.search.now piece))) rows;
   frames = subst (λ (n : ℕ). to ≤ from + before.search.now.plan.script.hold * n)
       (let one : piece_runs before.search.now piece ≡ runs_of before.search.now (piece ∷ []) =
-          omega (arith, sum_by-cons (piece_runs before.search.now) piece []) in one) frames;
+      omega (arith, sum_by-cons (piece_runs before.search.now) piece []) in one) frames;
   rises = rises;
 }
 
@@ -96,7 +96,7 @@ pub took_next : (table : TableView) (pieces : Pieces) (a b c : Hand) (xs ys ws z
     → HasWorked table pieces b c ws zs to after → HasWorked table pieces a c xs zs from after
 took_next table pieces a b c xs ys ws zs from to after same f g =
     took_more table pieces a b c xs ys zs from to after f
-        (subst (λ rows. HasWorked table pieces b c rows zs to after) same g)
+    (subst (λ rows. HasWorked table pieces b c rows zs to after) same g)
 
 -- what a hand that began without rows has done, by the pieces that it took
 pub record IsWorkOf (table : TableView) (pieces : Pieces) (before after : Hand) (rows : List Row) (from to : ℕ)
@@ -114,7 +114,7 @@ work_of table pieces before after old new from to none worked = record {
   taken = worked.taken ∙ ap (λ t. taken_of before.taker ++ t) (sym took_is);
   claimed = subst (λ t. AreClaimed (rows_of before.search.now t) before.pass after.pass new) (sym took_is)
       (subst (λ rows. AreClaimed (rows_of before.search.now worked.took) before.pass after.pass rows)
-          (sym (worked.rows.rows_are ∙ ap (λ r. r ++ worked.rows.added) none)) worked.rows.claimed);
+      (sym (worked.rows.rows_are ∙ ap (λ r. r ++ worked.rows.added) none)) worked.rows.claimed);
   pass = worked.rows.pass;
   frames = subst (λ t. to ≤ from + before.search.now.plan.script.hold * runs_of before.search.now t)
       (sym took_is) worked.frames;

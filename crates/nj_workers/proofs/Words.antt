@@ -24,18 +24,18 @@ rows_append held i (word ∷ xs) ys =
     ap (λ rows. word_rows held i word ++ rows) (rows_append held (i + 1) xs ys)
     ∙ sym (append_assoc (word_rows held i word) (rows_from held (i + 1) xs) (rows_from held (i + 1 + length xs) ys))
     ∙ ap (λ n. (word_rows held i word ++ rows_from held (i + 1) xs) ++ rows_from held n ys)
-        (let e : i + 1 + length xs ≡ i + length (word ∷ xs) = omega arith in e)
+    (let e : i + 1 + length xs ≡ i + length (word ∷ xs) = omega arith in e)
 
 -- of one word more
 rows_next : (held : Held) (first n : ℕ) (words : List Word) → n < length words
     → rows_from held first (take (n + 1) words)
-        ≡ rows_from held first (take n words) ++ word_rows held (first + n) (get_or words n [])
+    ≡ rows_from held first (take n words) ++ word_rows held (first + n) (get_or words n [])
 rows_next held first n words within =
     let long : length (take n words) ≡ n = length-take-le n words (omega arith) in
     ap (rows_from held first) (take_more words n [] within)
     ∙ rows_append held first (take n words) (get_or words n [] ∷ [])
     ∙ ap (λ rows. rows_from held first (take n words) ++ rows)
-        (append-nil (word_rows held (first + length (take n words)) (get_or words n [])))
+    (append-nil (word_rows held (first + length (take n words)) (get_or words n [])))
     ∙ ap (λ m. rows_from held first (take n words) ++ word_rows held (first + m) (get_or words n [])) long
 
 -- the words of a piece from its first on, before a place
@@ -73,69 +73,71 @@ pub one_done : (held : Held) (first place : ℕ) (p q s : PassView) (xs ys zs : 
     → then ≤ now + held.bounds.inputs → rom_of next ≡ rom_in held.plan
     → IsDone held first (place + 1) p s xs zs from after long then next
 one_done held first place p q s xs ys zs from to after long now
-    then machine next low within done claimed frames rises few cartridge = record {
-  rows = subst (λ rows. AddsClaimed rows p s xs zs) (sym rows_are)
-      (adds_more (rows_from held first (take n words)) (word_rows held place word) p q s xs ys zs done.rows claimed);
-  frames =
-      let hold = held.plan.script.hold in
-      let runs : ℕ = runs_from held.plan (take n words) in
-      let one : ℕ = length (allowed_of held.plan word) in
-      let product : hold * (runs + one) ≡ hold * runs + hold * one = mul-add hold runs one in
-      let was : to ≤ from + hold * runs = done.frames in
-      let is : after ≤ to + hold * one = frames in
-      let sum : after ≤ from + hold * (runs + one) = omega arith in
-      subst (λ (m : ℕ). after ≤ from + hold * m) (sym runs_are) sum;
-  rises = (let was = done.rises in omega arith);
-  room =
-      let inputs = held.bounds.inputs in
-      let product : (n + 1) * inputs ≡ n * inputs + 1 * inputs = add-mul n 1 inputs in
-      let was : now ≤ long + n * inputs = done.room in
-      let sum : then ≤ long + (n + 1) * inputs = omega arith in
-      subst (λ (m : ℕ). then ≤ long + m * inputs) count sum;
-  cartridge = cartridge;
-} where
-  n : ℕ
-  n = place - first
+    then machine next low within done claimed frames rises few cartridge =
+    record {
+      rows = subst (λ rows. AddsClaimed rows p s xs zs) (sym rows_are)
+          (adds_more (rows_from held first (take n words)) (word_rows held place word) p q s xs ys zs done.rows
+          claimed);
+      frames =
+          let hold = held.plan.script.hold in
+          let runs : ℕ = runs_from held.plan (take n words) in
+          let one : ℕ = length (allowed_of held.plan word) in
+          let product : hold * (runs + one) ≡ hold * runs + hold * one = mul-add hold runs one in
+          let was : to ≤ from + hold * runs = done.frames in
+          let is : after ≤ to + hold * one = frames in
+          let sum : after ≤ from + hold * (runs + one) = omega arith in
+          subst (λ (m : ℕ). after ≤ from + hold * m) (sym runs_are) sum;
+      rises = (let was = done.rises in omega arith);
+      room =
+          let inputs = held.bounds.inputs in
+          let product : (n + 1) * inputs ≡ n * inputs + 1 * inputs = add-mul n 1 inputs in
+          let was : now ≤ long + n * inputs = done.room in
+          let sum : then ≤ long + (n + 1) * inputs = omega arith in
+          subst (λ (m : ℕ). then ≤ long + m * inputs) count sum;
+      cartridge = cartridge;
+    } where
+      n : ℕ
+      n = place - first
 
-  words : List Word
-  words = drop first held.state.front
+      words : List Word
+      words = drop first held.state.front
 
-  word : Word
-  word = get_or held.state.front place []
+      word : Word
+      word = get_or held.state.front place []
 
-  count : n + 1 ≡ place + 1 - first
-  count = omega arith
+      count : n + 1 ≡ place + 1 - first
+      count = omega arith
 
-  here : first + n ≡ place
-  here = omega arith
+      here : first + n ≡ place
+      here = omega arith
 
-  long_enough : n < length words
-  long_enough = let e = length-drop first held.state.front in omega arith
+      long_enough : n < length words
+      long_enough = let e = length-drop first held.state.front in omega arith
 
-  same : get_or words n [] ≡ word
-  same = get_or-drop first held.state.front n [] ∙ ap (λ m. get_or held.state.front m []) here
+      same : get_or words n [] ≡ word
+      same = get_or-drop first held.state.front n [] ∙ ap (λ m. get_or held.state.front m []) here
 
-  rows_are : rows_from held first (words_before held first (place + 1))
-      ≡ rows_from held first (take n words) ++ word_rows held place word
-  rows_are = ap (λ m. rows_from held first (take m words)) (sym count) ∙ rows_next held first n words long_enough
-      ∙ ap (λ m. rows_from held first (take n words) ++ word_rows held m (get_or words n [])) here
-      ∙ ap (λ w. rows_from held first (take n words) ++ word_rows held place w) same
+      rows_are : rows_from held first (words_before held first (place + 1))
+          ≡ rows_from held first (take n words) ++ word_rows held place word
+      rows_are = ap (λ m. rows_from held first (take m words)) (sym count) ∙ rows_next held first n words long_enough
+          ∙ ap (λ m. rows_from held first (take n words) ++ word_rows held m (get_or words n [])) here
+          ∙ ap (λ w. rows_from held first (take n words) ++ word_rows held place w) same
 
-  runs_are : runs_from held.plan (words_before held first (place + 1))
-      ≡ runs_from held.plan (take n words) + length (allowed_of held.plan word)
-  runs_are = ap (λ m. runs_from held.plan (take m words)) (sym count)
-      ∙ ap (runs_from held.plan) (take_more words n [] long_enough)
-      ∙ sum_by_push (λ w. length (allowed_of held.plan w)) (take n words) (get_or words n [])
-      ∙ ap (λ w. runs_from held.plan (take n words) + length (allowed_of held.plan w)) same
+      runs_are : runs_from held.plan (words_before held first (place + 1))
+          ≡ runs_from held.plan (take n words) + length (allowed_of held.plan word)
+      runs_are = ap (λ m. runs_from held.plan (take m words)) (sym count)
+          ∙ ap (runs_from held.plan) (take_more words n [] long_enough)
+          ∙ sum_by_push (λ w. length (allowed_of held.plan w)) (take n words) (get_or words n [])
+          ∙ ap (λ w. runs_from held.plan (take n words) + length (allowed_of held.plan w)) same
 
 -- there is room for one word more
 pub still_room : (first place inputs long now cap : ℕ) → place < first + 16 → first ≤ place
     → now ≤ long + (place - first) * inputs → long + 16 * inputs ≤ cap → now + inputs ≤ cap
 still_room first place inputs long now cap below low so_far room =
     let most : (place - first + 1) * inputs ≤ 16 * inputs =
-        mul-le-mul_right inputs (let e : place - first + 1 ≤ 16 = omega arith in e) in
+    mul-le-mul_right inputs (let e : place - first + 1 ≤ 16 = omega arith in e) in
     let product : (place - first + 1) * inputs ≡ (place - first) * inputs + 1 * inputs =
-        add-mul (place - first) 1 inputs in
+    add-mul (place - first) 1 inputs in
     omega arith
 
 -- all words of the piece are done

@@ -16,7 +16,7 @@ returns-clause-table c = entry_table c.args.words.now c.args.key c.args.owner c.
 pub returns-clause-entries : goal.returns-clause-entries
 returns-clause-entries c = let free = c.free_slot-slot.ensures in
     put_entries (length c.args.words.now / 2) c.args.words.now c.args.key c.args.owner c.free_slot-slot.result
-        (two_each c.args.words.now c.requires.table) free.inside c.requires.key free.empty
+    (two_each c.args.words.now c.requires.table) free.inside c.requires.key free.empty
 
 pub returns-clause-owners : goal.returns-clause-owners
 returns-clause-owners c = entry_owners c.args.words.now c.args.key c.args.owner c.free_slot-slot.result c.requires.table
@@ -25,4 +25,4 @@ returns-clause-owners c = entry_owners c.args.words.now c.args.key c.args.owner 
 pub returns-clause-count : goal.returns-clause-count
 returns-clause-count c = let free = c.free_slot-slot.ensures in
     one_more (length c.args.words.now / 2) c.args.words.now c.args.key c.args.owner c.free_slot-slot.result
-        (two_each c.args.words.now c.requires.table) free.inside c.requires.key free.empty
+    (two_each c.args.words.now c.requires.table) free.inside c.requires.key free.empty

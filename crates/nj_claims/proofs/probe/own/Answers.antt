@@ -15,5 +15,5 @@ fetch_min-requires g c = let q = c.requires in let n = q.number in (
       c.args.seat.now.me (2 * c.args.slot + 1) (λ x. min x k)
       (Owns g.C.Asked.key g.C.Asked.number g.C.Asked.most c.args.seat.now.me)) n.0
       (own_allowed c.args.board.now.key g.C.Asked.key g.C.Asked.number g.C.Asked.most _ _ c.args.seat.now.me c.args.slot
-          (subst (λ (k : ℕ). k < no_owner) (sym n.0) n.1) q.found q.living q.first),
+      (subst (λ (k : ℕ). k < no_owner) (sym n.0) n.1) q.found q.living q.first),
 )

@@ -13,7 +13,7 @@ returns-then-not-is_power_of_two c = tells_no c.args.words.now
 pub returns-then-not-fits : goal.returns-then-not-fits
 returns-then-not-fits c = tells_no c.args.words.now (λ t.
     absurd (let e : false ≡ true = sym c.if-not-fits.true ∙ c.fits.ensures.1
-        (slot_fits c.args.words.now (length c.args.words.now / 2) c.loop-slot.slot refl c.loop-slot-test.true t) in cc))
+    (slot_fits c.args.words.now (length c.args.words.now / 2) c.loop-slot.slot refl c.loop-slot-test.true t) in cc))
 
 pub returns : goal.returns
 returns c = (

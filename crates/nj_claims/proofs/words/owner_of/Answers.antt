@@ -16,9 +16,9 @@ find-requires-clause-slots c = let w = two_each c.args.words.now c.requires in
 pub returns-in_err-slot : goal.returns-in_err-slot
 returns-in_err-slot c = let W = c.args.words.now in
     c.from_residual.ensures ∙ sym (found_none (slot_count W) W c.args.key (two_each W c.requires) c.requires.placed
-        c.if-key-eq0.false c.in_err-slot.ensures)
+    c.if-key-eq0.false c.in_err-slot.ensures)
 
 pub returns : goal.returns
 returns c = let W = c.args.words.now in let f = c.in_ok-slot.ensures in
     sym (found_owner (slot_count W) W c.args.key c.in_ok-slot.slot (two_each W c.requires) c.requires.placed
-        c.if-key-eq0.false f.0 f.1)
+    c.if-key-eq0.false f.0 f.1)

@@ -11,9 +11,9 @@ returns-then-v-workers-clause-rest c =
 pub returns-clause-piece : goal.returns-clause-piece
 returns-clause-piece c =
     c.take_first.ensures.piece
-        ∙ sym (read_at first_piece c.args.workers.now c.args.v _ (omega (arith, c.if-v-workers.false)))
+    ∙ sym (read_at first_piece c.args.workers.now c.args.v _ (omega (arith, c.if-v-workers.false)))
 
 pub returns-clause-rest : goal.returns-clause-rest
 returns-clause-rest c =
     set_changed without_first c.args.workers.now c.args.v _ _
-        (omega (arith, c.if-v-workers.false)) c.take_first.ensures.rest
+    (omega (arith, c.if-v-workers.false)) c.take_first.ensures.rest

@@ -15,5 +15,5 @@ returns-clause-pages c p below =
     mask-made c.args.image.now c.args.base.now _ (c.loop-place.invariant.size ∙ c.requires.mask)
     (λ k below. c.loop-place.invariant.done k (omega (arith, below))) in
     subst (λ (mask : List ℕ). (flag_in mask p ≡ true) ↔ (page_at c.args.image.now p ≢ page_at c.args.base.now p))
-        (sym made)
+    (sym made)
     (mask-tells c.args.image.now c.args.base.now p c.requires.base c.requires.image below)

@@ -48,4 +48,4 @@ returns-clause-ends g c =
     let none = c.in_default.ensures.cases in
     let long = c.loop-end.ends.ok.0 in
     over_all (λ (desk : Desk g.row.L.Denot). desk.end) c.loop-end.desks.items c.loop-end.ends.items
-        c.args.ends.now.items (omega arith) c.loop-end.invariant.0
+    c.args.ends.now.items (omega arith) c.loop-end.invariant.0

@@ -42,11 +42,11 @@ returns-clause-ends g c =
     let none = c.in_default.ensures.cases in
     let long = c.loop-desk.desks.ok.0 in
     c.reverse.ensures.items ∙ over_back (λ (desk : Desk g.row.L.Denot). desk.end) c.loop-desk.desks.items
-        c.loop-desk.ends.items _ (omega arith) c.loop-desk.invariant.0
+    c.loop-desk.ends.items _ (omega arith) c.loop-desk.invariant.0
 
 pub returns-clause-counters : goal.returns-clause-counters
 returns-clause-counters g c =
     let none = c.in_default.ensures.cases in
     let long = c.loop-desk.desks.ok.0 in
     c.reverse-2.ensures.items ∙ over_back (λ (desk : Desk g.row.L.Denot). desk.steps) c.loop-desk.desks.items
-        c.loop-desk.steps.items _ (omega arith) c.loop-desk.invariant.1
+    c.loop-desk.steps.items _ (omega arith) c.loop-desk.invariant.1

@@ -5,7 +5,7 @@ use Rattle.nj_workers.proofs.serving.work.Goals as goal
 pub returns-clause-pieces : goal.returns-clause-pieces
 returns-clause-pieces g c =
     (work_of c.args.table.now c.args.pieces.now c.args.hand c.serve.new.end.hand c.new.result.items
-        c.serve.new.end.rows.items c.args.steps.now c.serve.new.steps c.new.ensures.items c.serve.ensures.worked).taken
+    c.serve.new.end.rows.items c.args.steps.now c.serve.new.steps c.new.ensures.items c.serve.ensures.worked).taken
 
 pub returns-clause-claimed : goal.returns-clause-claimed
 returns-clause-claimed g c =
@@ -15,9 +15,9 @@ returns-clause-claimed g c =
 pub returns-clause-pass : goal.returns-clause-pass
 returns-clause-pass g c =
     (work_of c.args.table.now c.args.pieces.now c.args.hand c.serve.new.end.hand c.new.result.items
-        c.serve.new.end.rows.items c.args.steps.now c.serve.new.steps c.new.ensures.items c.serve.ensures.worked).pass
+    c.serve.new.end.rows.items c.args.steps.now c.serve.new.steps c.new.ensures.items c.serve.ensures.worked).pass
 
 pub returns-clause-frames : goal.returns-clause-frames
 returns-clause-frames g c =
     (work_of c.args.table.now c.args.pieces.now c.args.hand c.serve.new.end.hand c.new.result.items
-        c.serve.new.end.rows.items c.args.steps.now c.serve.new.steps c.new.ensures.items c.serve.ensures.worked).frames
+    c.serve.new.end.rows.items c.args.steps.now c.serve.new.steps c.new.ensures.items c.serve.ensures.worked).frames

@@ -8,7 +8,7 @@ pub loop-taker-init : goal.loop-taker-init
 loop-taker-init c =
     let none = c.in_ok-ends.ensures.items in
     let all = seated_none c.args.table.now c.args.search.now c.in_ok-ends.ends.items c.args.takers.now.items
-        c.reverse.new.self.items none c.reverse.ensures.items in (
+    c.reverse.new.self.items none c.reverse.ensures.items in (
       all.0,
       all.1,
       c.requires.first ∙ sym (ap (λ ends. record (first_pass c.args.table.now.id) { out = length ends }) none),
@@ -21,9 +21,9 @@ pub loop-taker-preserved : goal.loop-taker-preserved
 loop-taker-preserved c =
     let was = c.loop-taker.invariant in
     let all = seated_more c.args.table.now c.args.search.now c.loop-taker.ends.items c.push_reserved.new.self.items _
-        c.loop-taker.takers.items c.pop.new.self.items c.args.takers.now.items
+    c.loop-taker.takers.items c.pop.new.self.items c.args.takers.now.items
     refl (of_cartridge c.args.search.now.plan c.in_ok-machine.machine c.in_ok-machine.ensures)
-        (blank_given c.args.table.now c.loop-taker.pass c.split.result _ was.2 c.split.ensures.given)
+    (blank_given c.args.table.now c.loop-taker.pass c.split.result _ was.2 c.split.ensures.given)
     c.new.ensures.items was.0 was.1 c.in-Some.ensures.items c.push_reserved.ensures.items in (
       all.0,
       all.1,

@@ -8,8 +8,8 @@ use Rattle.nj_claims.proofs.Passing.{joins, is_zero, has_words}
 use Rattle.nj_claims.proofs.shared.ClaimTable.join.Goals as goal
 
 pub join_seat-requires : goal.join_seat-requires
-join_seat-requires c = let root =
-    is_zero c.pass.inside.seat.id (ap (λ (p : PassView). p.is_root) c.pass.view_is ∙ c.requires.root) in
+join_seat-requires c =
+    let root = is_zero c.pass.inside.seat.id (ap (λ (p : PassView). p.is_root) c.pass.view_is ∙ c.requires.root) in
     let table = sym (ap (λ (t : TableView). t.id) c.self.view_is) in (
       ap (λ (p : PassView). p.table) c.pass.view_is ∙ (c.requires.own.0 ∙ table),
       ap (λ (p : PassView). p.table) c.other.view_is ∙ (c.requires.own.1 ∙ table),
@@ -19,5 +19,5 @@ join_seat-requires c = let root =
           c.other.inside.seat.me.0
           (joined_view c.pass.inside.seat.me.0 c.other.inside.seat.me.0) spent_view) (sym root)
           (joins c.self.inside.table.shared.key c.pass.inside.seat.me.0 c.other.inside.seat.me.0 c.other.inside.seat.id
-              c.pass.invariant.0 c.other.invariant.0 c.pass.invariant.1 c.other.invariant.1),
+          c.pass.invariant.0 c.other.invariant.0 c.pass.invariant.1 c.other.invariant.1),
     )

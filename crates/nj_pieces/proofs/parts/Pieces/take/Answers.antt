@@ -18,7 +18,7 @@ returns-in-Some-clause-below g c = dealt_below _ _ _ _ c.in-Some.ensures.from
 pub returns-in-Some-clause-own_first : goal.returns-in-Some-clause-own_first
 returns-in-Some-clause-own_first g c =
     inl (subst (λ pieces. Contains pieces c.in-Some.piece) (sym (own_dealt c.args.self.now c.args.taker.now c.requires))
-        c.in-Some.ensures.from)
+    c.in-Some.ensures.from)
 
 pub returns-in-Some-take_at-clause-below : goal.returns-in-Some-take_at-clause-below
 unfolding count_of
