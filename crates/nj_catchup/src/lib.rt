@@ -113,7 +113,8 @@ impl CatchUp {
     fn run_all(&mut self, dots: u32, pattern: &[u8])
         requires { length pattern.now ≡ 8192 }
         ensures pending { pending_of self.new.lull ≡ 0 }
-        ensures screen { self.new.screen ≡ after_dots dots pattern.now (after_dots (pending_of self.old.lull) pattern.now self.old.screen) }
+        ensures screen { self.new.screen
+            ≡ after_dots dots pattern.now (after_dots (pending_of self.old.lull) pattern.now self.old.screen) }
     {
         self.catch_up(pattern);
         advance(&mut self.screen, dots, pattern);

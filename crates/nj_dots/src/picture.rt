@@ -77,7 +77,8 @@ pub trait Picture {
         requires long { 4448 ≤ length image.now }
         requires stored { (p : List ℕ) × IsStored (meaning self.old p).vram.vertical image.now }
         ensures pending { settled self.new }
-        ensures state { (p : List ℕ) (s : Screen) → Holds image.now s → s.vram.vertical ≡ (meaning self.old p).vram.vertical
+        ensures state { (p : List ℕ) (s : Screen) → Holds image.now s
+            → s.vram.vertical ≡ (meaning self.old p).vram.vertical
             → meaning self.new p ≡ s };
 
     // Position and registers stay in their ranges, the memories keep their sizes.

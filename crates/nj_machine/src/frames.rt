@@ -37,12 +37,16 @@ impl<P: Picture> Model for Console<P> {
 
     ghost view = { λ m. record {
       cpu = m.cpu;
-      cells = cells_of (P.meaning m.recorder.cells.picture (pattern_of m.recorder.cells.board)) m.recorder.cells.ram m.recorder.cells.board m.recorder.cells.bus_byte m.recorder.cells.page m.recorder.cells.odd m.recorder.cells.port_one m.recorder.cells.port_two;
+      cells = cells_of (P.meaning m.recorder.cells.picture (pattern_of m.recorder.cells.board)) m.recorder.cells.ram
+        m.recorder.cells.board m.recorder.cells.bus_byte m.recorder.cells.page m.recorder.cells.odd
+        m.recorder.cells.port_one m.recorder.cells.port_two;
     } };
 
     ghost invariant = { λ m. IsReady (record {
       cpu = m.cpu;
-      cells = cells_of (P.meaning m.recorder.cells.picture (pattern_of m.recorder.cells.board)) m.recorder.cells.ram m.recorder.cells.board m.recorder.cells.bus_byte m.recorder.cells.page m.recorder.cells.odd m.recorder.cells.port_one m.recorder.cells.port_two;
+      cells = cells_of (P.meaning m.recorder.cells.picture (pattern_of m.recorder.cells.board)) m.recorder.cells.ram
+        m.recorder.cells.board m.recorder.cells.bus_byte m.recorder.cells.page m.recorder.cells.odd
+        m.recorder.cells.port_one m.recorder.cells.port_two;
     }) };
 }
 

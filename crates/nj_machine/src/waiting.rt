@@ -96,10 +96,11 @@ impl Turn {
 }
 
 impl<P: Picture + Drop + Waiting> Cells<P> {
-    // A turn of the loop that the processor is in, if it waits. Where it is known to poll $2002 and the status stays for a
-    // few dots alone, no turn is tried, and none is known.
+    // A turn of the loop that the processor is in, if it waits. Where it is known to poll $2002 and the status stays
+    // for a few dots alone, no turn is tried, and none is known.
     fn turn(&self, cpu: &Cpu, polls: &mut bool) -> Option<Turn>
-        ensures { IfSome result (λ turn. IsWait cpu.now (⟦<Cells<P> as Bus>⟧.held self.now).cells turn.cycles turn.dots) }
+        ensures { IfSome result
+            (λ turn. IsWait cpu.now (⟦<Cells<P> as Bus>⟧.held self.now).cells turn.cycles turn.dots) }
     {
         if self.page.is_some() {
             return None;

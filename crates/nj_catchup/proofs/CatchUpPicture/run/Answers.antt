@@ -10,7 +10,9 @@ pub invariant_of-self : goal.invariant_of-self
 invariant_of-self c =
     let s = c.args.self.now in
     let small = spare-small s.lull s.screen s.fits s.lulls in
-    let same : c.give_back.new.self ≡ s.lull = c.give_back.ensures ∙ ap (λ n. record s.lull { spare = n }) (given-back s.lull.spare c.args.dots small c.ranges.dots.fits) in
+    let same : c.give_back.new.self ≡ s.lull =
+      c.give_back.ensures
+      ∙ ap (λ n. record s.lull { spare = n }) (given-back s.lull.spare c.args.dots small c.ranges.dots.fits) in
     record { fits = s.fits; lulls = subst (λ l. IsLull l s.screen) (sym same) s.lulls }
 
 pub invariant_of-self-else-past : goal.invariant_of-self-else-past
@@ -19,14 +21,17 @@ invariant_of-self-else-past c =
     let left = taken s.lull.spare c.args.dots (spare-small s.lull s.screen s.fits s.lulls) c.if-past.false in
     record {
       fits = s.fits;
-      lulls = subst (λ n. IsLull (record s.lull { spare = n }) s.screen) (sym left) (lull-goes-on s.lull s.screen c.args.dots s.lulls c.if-past.false);
+      lulls = subst (λ n. IsLull (record s.lull { spare = n }) s.screen) (sym left)
+        (lull-goes-on s.lull s.screen c.args.dots s.lulls c.if-past.false);
     }
 
 pub returns-then-past : goal.returns-then-past
 returns-then-past c =
     let s = c.args.self.now in
     let small = spare-small s.lull s.screen s.fits s.lulls in
-    let same : c.give_back.new.self ≡ s.lull = c.give_back.ensures ∙ ap (λ n. record s.lull { spare = n }) (given-back s.lull.spare c.args.dots small c.ranges.dots.fits) in
+    let same : c.give_back.new.self ≡ s.lull =
+      c.give_back.ensures
+      ∙ ap (λ n. record s.lull { spare = n }) (given-back s.lull.spare c.args.dots small c.ranges.dots.fits) in
     let e = c.run_all.new.self in
     dots-zero (pending_of e.lull) c.args.pattern.now e.screen c.run_all.ensures.pending ∙ c.run_all.ensures.screen
     ∙ ap (λ l. after_dots c.args.dots c.args.pattern.now (after_dots (pending_of l) c.args.pattern.now s.screen)) same
@@ -35,5 +40,6 @@ pub returns-else-past : goal.returns-else-past
 returns-else-past c =
     let s = c.args.self.now in
     let left = taken s.lull.spare c.args.dots (spare-small s.lull s.screen s.fits s.lulls) c.if-past.false in
-    let all : s.lull.limit - (s.lull.spare + (4294967296 - c.args.dots)) % 4294967296 ≡ c.args.dots + pending_of s.lull = omega (arith, left, s.lulls.within, c.if-past.false) in
+    let all : s.lull.limit - (s.lull.spare + (4294967296 - c.args.dots)) % 4294967296
+      ≡ c.args.dots + pending_of s.lull = omega (arith, left, s.lulls.within, c.if-past.false) in
     sym (dots-sum _ c.args.dots (pending_of s.lull) c.args.pattern.now s.screen all)
