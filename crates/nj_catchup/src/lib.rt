@@ -6,13 +6,15 @@
 //! blank flag (an event), so the NMI line is known without running them. Dots before an event are *calm*: they leave
 //! all registers and memories but the position, v, the shift register, the OAM address, the row of sprite zero and the
 //! two flags of sprites. A read of $2002 leaves them pending where it is *steady*: none of them raises such a flag.
-//! When they are run, *idle* dots move the position alone, so a run of them is one step; *quiet* dots are those of
-//! visible pixels none of which can be a hit, so of many tiles the last two alone are fetched; a whole line with a row
-//! of sprite zero is one step with one search for the first hit; each other dot is run by itself. Each step is one
-//! equation with the definition of single dots.
+//! When they are run, *idle* dots of a line move the position alone, so a run of them is one step, and *blank* ones do
+//! so over many lines; *quiet* dots are those of visible pixels none of which can be a hit, so of many tiles the last
+//! two alone are fetched; of *plain* lines, which have no row of sprite zero and no ninth sprite, nothing is left but
+//! Y, so many of them are one step; a whole line with a row of sprite zero is one step with one search for the first
+//! hit; each other dot is run by itself. Each step is one equation with the definition of single dots.
 //!
-//! Read first `IsLull` (specs/Limit.antt: what is kept beside the pending dots), then `IsSteady` (specs/Steady.antt),
-//! `is_idle` (specs/Idle.antt) and `IsQuiet` (specs/Tiles.antt).
+//! Read first `IsLull` (specs/Limit.antt: what is kept beside the pending dots), then `IsSteady` and `IsAway`
+//! (specs/Steady.antt), `is_idle` (specs/Idle.antt), `IsBlank` (specs/Place.antt), `IsQuiet` (specs/Tiles.antt) and
+//! `IsPlain` (specs/Skip.antt).
 #![tactic(auto)]
 
 mod advance;
