@@ -149,14 +149,21 @@ impl Picture for CatchUp {
         CatchUp::new(vertical)
     }
 
-    #[inline(always)]
     fn run(&mut self, dots: u32, pattern: &[u8]) {
+        if !self.defer(dots) {
+            self.run_all(dots, pattern);
+        }
+    }
+
+    #[inline(always)]
+    fn defer(&mut self, dots: u32) -> bool {
         let past = self.lull.spare < dots;
         self.lull.spare = self.lull.spare.wrapping_sub(dots);
         if past {
             self.lull.give_back(dots);
-            self.run_all(dots, pattern);
+            return false;
         }
+        true
     }
 
     fn read(&mut self, reg: u8, pattern: &[u8]) -> u8 {

@@ -6,7 +6,7 @@ use crate::position::Position;
 /// the next; registers are numbered 0 to 7, for $2000 to $2007. A read of $2002 may leave dots pending: after it the
 /// caller hands in the same pattern until another register was accessed or the picture was settled.
 pub trait Picture {
-    ghost use Rattle.std.specs.Prelude.{◌≡◌, ◌≤◌, ◌<◌, ℕ, List, false, length};
+    ghost use Rattle.std.specs.Prelude.{◌≡◌, ◌≤◌, ◌<◌, ℕ, List, true, false, length};
     ghost use Rattle.nj_dots.specs.declared.screen.Screen.{Screen};
     ghost use Rattle.nj_dots.specs.Screen.{IsScreen, nmi_line_of, power_on};
     ghost use Rattle.nj_dots.specs.Dots.{after_dots, to_event};
@@ -27,6 +27,12 @@ pub trait Picture {
     fn run(&mut self, dots: u32, pattern: &[u8])
         requires { length pattern.now ≡ 8192 }
         ensures { meaning self.new pattern.now ≡ after_dots dots pattern.now (meaning self.old pattern.now) };
+
+    /// Leaves the next dots pending, if no one has to know yet what they do: a run that needs no pattern memory. Tells
+    /// whether it did; where not, nothing has changed.
+    fn defer(&mut self, dots: u32) -> bool
+        ensures pending { (p : List ℕ) → result ≡ true → meaning self.new p ≡ after_dots dots p (meaning self.old p) }
+        ensures same { (p : List ℕ) → result ≡ false → meaning self.new p ≡ meaning self.old p };
 
     /// Reads a register.
     fn read(&mut self, reg: u8, pattern: &[u8]) -> u8

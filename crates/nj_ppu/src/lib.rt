@@ -40,6 +40,10 @@ impl Picture for DotPicture {
         }
     }
 
+    fn defer(&mut self, _dots: u32) -> bool {
+        false
+    }
+
     fn read(&mut self, reg: u8, pattern: &[u8]) -> u8 {
         self.screen.read(reg, pattern)
     }
