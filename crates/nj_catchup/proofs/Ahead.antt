@@ -63,12 +63,12 @@ past-dot : (k : ℕ) (p : List ℕ) (s e : Screen) → IsScreen s → IsScreen e
     → Past (suc k) s (dot_of p e)
 past-dot k p s e fits there below h =
     let close : to-event-at (place_of s.position) (skips-of s) + place_of s.position
-      ≤ frame_dots (place_of s.position) (skips-of s) + 82183 =
+    ≤ frame_dots (place_of s.position) (skips-of s) + 82183 =
     event-near (place_of s.position) (skips-of s) (place_of-lt s fits.placed) in
     let early : place_of e.position < 89340 = omega (arith, close, to_event-at s, below, h.place) in
     let next : GoesOn e (dot_of p e) = goes-on p e (not-last e early) in
     let further : place_of (dot_of p e).position ≡ place_of e.position + 1 =
-      ap place_of next.position ∙ place_of-after e.position there.placed.dot in
+    ap place_of next.position ∙ place_of-after e.position there.placed.dot in
     record { place = omega (arith, further, h.place) }
 
 -- the frame's last dot ends it
@@ -77,11 +77,15 @@ before-last : (k : ℕ) (s e : Screen) → IsScreen s → IsScreen e → Before 
 before-last k s e fits there h last =
     let l : IsLastPlace e = last-place e last in
     let same : skips-of e ≡ skips-of s =
-      ap (λ b. b && is_rendering e.mask) h.odd_frame ∙ ap (λ m. s.odd_frame && is_rendering m) h.mask in
+    ap (λ b. b && is_rendering e.mask) h.odd_frame ∙ ap (λ m. s.odd_frame && is_rendering m) h.mask in
     elim (cases_eq (place_of e.position) 89340) [
       | inl at ↦
-        omega (arith, at, h.place,
-        dots-odd (place_of s.position) (skips-of s) (omega (arith, at, h.place)) (sym same ∙ l.skips at))
+          omega (
+            arith,
+            at,
+            h.place,
+            dots-odd (place_of s.position) (skips-of s) (omega (arith, at, h.place)) (sym same ∙ l.skips at),
+          )
       | inr apart ↦ (elim (dots-cases (place_of s.position) (skips-of s)) [
         | inl whole ↦ omega (arith, apart, l.late, h.place, h.below, whole)
         | inr odd ↦ omega (arith, apart, l.late, h.place, h.below, odd.0)
@@ -93,15 +97,15 @@ before-more : (k : ℕ) (s e : Screen) → IsScreen e → Before k s e → is_la
     → place_of s.position + suc k < frame_dots (place_of s.position) (skips-of s)
 before-more k s e there h goes_on =
     let same : skips-of e ≡ skips-of s =
-      ap (λ b. b && is_rendering e.mask) h.odd_frame ∙ ap (λ m. s.odd_frame && is_rendering m) h.mask in
+    ap (λ b. b && is_rendering e.mask) h.odd_frame ∙ ap (λ m. s.odd_frame && is_rendering m) h.mask in
     elim (cases_lt (place_of s.position + suc k) (frame_dots (place_of s.position) (skips-of s))) [
       | inl below ↦ below
       | inr from ↦ (elim (dots-cases (place_of s.position) (skips-of s)) [
         | inl whole ↦
-          absurd (true≢false (sym (is-last e there.placed (omega (arith, whole, from, h.place, h.below))) ∙ goes_on))
+            absurd (true≢false (sym (is-last e there.placed (omega (arith, whole, from, h.place, h.below))) ∙ goes_on))
         | inr odd ↦
-          absurd (true≢false
-          (sym (is-last-odd e there.placed (omega (arith, odd.0, from, h.place, h.below)) (same ∙ odd.1)) ∙ goes_on))
+            absurd (true≢false
+            (sym (is-last-odd e there.placed (omega (arith, odd.0, from, h.place, h.below)) (same ∙ odd.1)) ∙ goes_on))
       ])
     ]
 
@@ -115,7 +119,7 @@ before-dot k p s e fits there h = elim (cases_Bool (is_last_dot e)) [
   | inr goes_on ↦ (
       let next : GoesOn e (dot_of p e) = goes-on p e goes_on in
       let further : place_of (dot_of p e).position ≡ place_of e.position + 1 =
-        ap place_of next.position ∙ place_of-after e.position there.placed.dot in
+      ap place_of next.position ∙ place_of-after e.position there.placed.dot in
       inl (record {
         place = omega (arith, further, h.place);
         below = before-more k s e there h goes_on;
@@ -129,7 +133,7 @@ pub ahead : (k : ℕ) (p : List ℕ) (s : Screen) → IsScreen s → k < to_even
 unfolding after_dots
 ahead zero p s fits below =
     let within : place_of s.position < frame_dots (place_of s.position) (skips-of s) =
-      dots-above (place_of s.position) (skips-of s) (place_of-lt s fits.placed) in
+    dots-above (place_of s.position) (skips-of s) (place_of-lt s fits.placed) in
     inl (record { place = omega arith; below = omega (arith, within); odd_frame = refl; mask = refl })
 ahead (suc k) p s fits below =
     let there : IsScreen (after_dots k p s) = after_dots-fits k p s fits in
@@ -162,9 +166,11 @@ position-at n q within at =
     (λ i. record { line = l i; dot = d i })
 
 pub position-after : (k : ℕ) (p : List ℕ) (s : Screen) → IsScreen s → k < to_event s
-    → record { line = place_ahead k (place_of s.position) (skips-of s) / 341;
-    dot = place_ahead k (place_of s.position) (skips-of s) % 341 } ≡ (after_dots k p s).position
+    → record {
+      line = place_ahead k (place_of s.position) (skips-of s) / 341;
+      dot = place_ahead k (place_of s.position) (skips-of s) % 341;
+    } ≡ (after_dots k p s).position
 position-after k p s fits below =
     let there : IsScreen (after_dots k p s) = after_dots-fits k p s fits in
     position-at (place_ahead k (place_of s.position) (skips-of s)) (after_dots k p s).position there.placed.dot
-      (place-after k p s fits below)
+    (place-after k p s fits below)

@@ -57,7 +57,7 @@ unfolding drawn
 none-drawn p s h at out =
     none-if (is_drawn_line s.position.line) _ _
     (none-if (is_rendering s.mask) _ _ (subst NoRow (sym (there-shown p s at)) (none-latched p s out))
-      (none-hidden s h)) h
+    (none-hidden s h)) h
 
 none-raised : (s : Screen) → s.sprite_row ≡ None → NoRow (raised s)
 unfolding raised
@@ -76,7 +76,7 @@ none-there : (p : List ℕ) (s : Screen) → (IsEvent s → ⊥) → s.sprite_ro
 none-there p s apart none at out =
     let moves : Moves (drawn p (raised s)) (moved (drawn p (raised s))) = moves-moved (drawn p (raised s)) in
     let here : NoRow (drawn p (raised s)) =
-      none-drawn p (raised s) (none-raised s none) (at-raised s ∙ at) (outside-raised s out) in
+    none-drawn p (raised s) (none-raised s none) (at-raised s ∙ at) (outside-raised s out) in
     ap (λ e. e.sprite_row) (dot-apart p s apart ∙ moves.same) ∙ here.row
 
 none-dot : (p : List ℕ) (s : Screen) → (IsEvent s → ⊥) → s.sprite_row ≡ None → (s.position.dot ≡ 257 → IsOutside s)
@@ -106,7 +106,7 @@ outside n k p s fits within below away at =
     let tall : Bool = has_bit s.control 5 in
     let top : ℕ = slice_index s.oam 0 in
     let line_out : is_in_range top e.position.line tall ≡ false =
-      (elim (ahead n p s fits (omega (arith, below, within))) [
+    (elim (ahead n p s fits (omega (arith, below, within))) [
       | inl before ↦ (elim away.lines [
         | inl first ↦ line-before top e.position.line tall (omega (arith, first, before.place, at, within))
         | inr last ↦ line-behind top e.position.line tall (omega (arith, last, before.place, at, fits.placed.dot))
@@ -121,7 +121,7 @@ unfolding after_dots
 away-row zero k p s fits within below away = away.row
 away-row (suc n) k p s fits within below away =
     none-dot p (after_dots n p s) (no-event n p s fits (omega (arith, within, below)))
-      (away-row n k p s fits (omega (arith, within)) below away)
+    (away-row n k p s fits (omega (arith, within)) below away)
     (outside n k p s fits (omega (arith, within)) below away)
 
 -- so no pixel is a hit
@@ -156,5 +156,5 @@ few-none n p s fits below few h =
     let calm : Calm s e = calm-after n p s fits below in
     let same : e.oam ≡ s.oam = ap (λ (x : Screen). x.oam) calm.same in
     let more : 9 ≤ in_range_of s.oam e.position.line (has_bit e.control 5) =
-      subst (λ o. 9 ≤ in_range_of o e.position.line (has_bit e.control 5)) same h.sprites in
+    subst (λ o. 9 ≤ in_range_of o e.position.line (has_bit e.control 5)) same h.sprites in
     absurd (omega (arith, more, few e.position.line (has_bit e.control 5) h.line))

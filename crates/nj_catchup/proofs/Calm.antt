@@ -57,11 +57,13 @@ calm-dot p s apart =
     let b : is_next 261 1 (raised s) ≡ false = raised-next 261 1 s ∙ not-next 261 1 s (λ at. apart (inr at)) in
     let still : flagged (raised s) ≡ raised s = flagged-apart (raised s) a b in
     let begun : Calm s (flagged (raised s)) =
-      record { same = still ∙ (let r : Calm s (raised s) = calm-raised s in r.same)
-      ∙ ap (λ m. with_calm s m) (sym still) } in
+    record {
+      same = still ∙ (let r : Calm s (raised s) = calm-raised s in r.same)
+          ∙ ap (λ m. with_calm s m) (sym still);
+    } in
     calm-trans s (flagged (raised s)) _ begun
     (calm-trans (flagged (raised s)) (drawn p (flagged (raised s))) _
-      (calm-drawn _ _ (stays-drawn p (flagged (raised s))))
+    (calm-drawn _ _ (stays-drawn p (flagged (raised s))))
     (calm-moved (drawn p (flagged (raised s))) _ (moves-moved _)))
 
 pub calm-after : (k : ℕ) (p : List ℕ) (s : Screen) → IsScreen s → k < to_event s → Calm s (after_dots k p s)
@@ -72,7 +74,7 @@ calm-after (suc k) p s fits below =
     let here : Calm s e = calm-after k p s fits (omega (arith, below)) in
     let left : to_event e + k ≡ to_event s = to_event-after k p s fits (omega (arith, below)) in
     let apart : IsEvent e → ⊥ =
-      λ at. (let one : to_event e ≡ 1 = event-one e at in absurd (omega (arith, one, left, below))) in
+    λ at. (let one : to_event e ≡ 1 = event-one e at in absurd (omega (arith, one, left, below))) in
     calm-trans s e _ here (calm-dot p e apart)
 
 -- so the NMI line and the mark stand

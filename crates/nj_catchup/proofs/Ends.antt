@@ -26,13 +26,23 @@ apart : (d : ℕ) → IsEnd d → Apart d
 unfolding IsEnd
 apart d h = elim h [
   | inl late ↦
-    record { tile = grind (arith, nat_tests, late); latch = grind (arith, nat_tests, late);
-    fetch = grind (arith, nat_tests, late); ahead = grind (arith, nat_tests, late); one =
-    grind (arith, nat_tests, late) }
+      record {
+        tile = grind (arith, nat_tests, late);
+        latch = grind (arith, nat_tests, late);
+        fetch = grind (arith, nat_tests, late);
+        ahead = grind (arith, nat_tests, late);
+        one =
+            grind (arith, nat_tests, late);
+      }
   | inr first ↦
-    record { tile = grind (arith, nat_tests, first); latch = grind (arith, nat_tests, first);
-    fetch = grind (arith, nat_tests, first); ahead = grind (arith, nat_tests, first); one =
-    grind (arith, nat_tests, first) }
+      record {
+        tile = grind (arith, nat_tests, first);
+        latch = grind (arith, nat_tests, first);
+        fetch = grind (arith, nat_tests, first);
+        ahead = grind (arith, nat_tests, first);
+        one =
+            grind (arith, nat_tests, first);
+      }
 ]
 
 shown-end : (p : List ℕ) (s : Screen) → Apart s.position.dot → shown p s ≡ s
@@ -106,6 +116,6 @@ line-ends k n p s far line from last count =
     sym (ap (λ i. after_dots i p s) count
     ∙ ap (λ x. dot_of p (dot_of p x)) (to-last n p s far (omega (arith, line)) from (omega (arith, last)))
     ∙ ap (dot_of p) (end-dot p e far (omega (arith, line)) (inl (omega (arith, from)))
-      ∙ ap (λ q. record e { position = q }) (next-last e.position last))
+    ∙ ap (λ q. record e { position = q }) (next-last e.position last))
     ∙ end-dot p f far (omega (arith, line)) (inr refl)
-      ∙ ap (λ q. record f { position = q }) (next-inner f.position (λ at. absurd (omega (arith, at)))))
+    ∙ ap (λ q. record f { position = q }) (next-inner f.position (λ at. absurd (omega (arith, at)))))

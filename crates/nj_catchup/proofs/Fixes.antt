@@ -35,12 +35,12 @@ steady-less fallen d n p s fits less h =
           same-flag s.sprite_zero_hit e.sprite_zero_hit (after_dots n p s).sprite_zero_hit
           (λ up. hit-after d p s fits (omega (arith, h.apart, less)) up)
           (λ up. ap (λ x. x.sprite_zero_hit) (sym rest)
-            ∙ hit-after (n - d) p e there (omega (arith, left, h.apart, less)) up) h.hit;
+          ∙ hit-after (n - d) p e there (omega (arith, left, h.apart, less)) up) h.hit;
       overflow =
           same-flag s.sprite_overflow e.sprite_overflow (after_dots n p s).sprite_overflow
           (λ up. overflow-up fallen d p s fits (omega (arith, h.apart, less)) up)
           (λ up. ap (λ x. x.sprite_overflow) (sym rest)
-            ∙ overflow-up fallen (n - d) p e there (omega (arith, left, h.apart, less)) up) h.overflow;
+          ∙ overflow-up fallen (n - d) p e there (omega (arith, left, h.apart, less)) up) h.overflow;
     }
 
 -- what was read stays read
@@ -58,8 +58,11 @@ read-after d p s fits steady h =
 read-again : (s : Screen) → is_next 241 1 s ≡ false → IsRead s → after_status s ≡ s
 read-again s apart h =
     status-taken s apart
-    ∙ (λ i. record s { latch = sym h.latch i; vertical_blank = sym h.vertical_blank i;
-      scroll = (let c = s.scroll in record c { w = sym h.w i }) })
+    ∙ (λ i. record s {
+      latch = sym h.latch i;
+      vertical_blank = sym h.vertical_blank i;
+      scroll = (let c = s.scroll in record c { w = sym h.w i });
+    })
 
 -- the status is fixed
 pub fixed : IsFallen → (pending dots : ℕ) (p : List ℕ) (s : Screen) → IsScreen s → IsRead s
@@ -84,10 +87,10 @@ fixed fallen pending dots p s fits was steady = record { byte = byte; same = sam
         let e : Screen = after_dots (d + pending) p s in
         let steady_here : IsSteady (d + pending) p s = here d below in
         let left : to_event e + (d + pending) ≡ to_event s =
-          to_event-after (d + pending) p s fits (omega (arith, steady_here.apart)) in
+        to_event-after (d + pending) p s fits (omega (arith, steady_here.apart)) in
         let apart : is_next 241 1 e ≡ false =
-          not-next 241 1 e
-          (λ next. (let one : to_event e ≡ 1 =
-          event-one e (inl next) in absurd (omega (arith, one, left, steady_here.apart)))) in
+        not-next 241 1 e
+        (λ next. (let one : to_event e ≡ 1 =
+        event-one e (inl next) in absurd (omega (arith, one, left, steady_here.apart)))) in
         ap (after_read 2 p) (at d below) ∙ read-two 2 p e refl
         ∙ read-again e apart (read-after (d + pending) p s fits steady_here was) ∙ sym (at d below)

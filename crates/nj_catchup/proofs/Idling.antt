@@ -28,9 +28,9 @@ fetched-idle : (s : Screen) → s.position.line < 240 → s.oam_address ≡ 0 �
 unfolding sprites_fetched vertical_copied
 fetched-idle s line clear =
     let visible : (s.position.line == 261 && nat_le 280 s.position.dot && nat_le s.position.dot 304) ≡ false =
-      grind (arith, nat_tests, line) in
+    grind (arith, nat_tests, line) in
     ap (λ (c : Scroll). record s { oam_address = 0; scroll = c })
-      (if-false (s.position.line == 261 && nat_le 280 s.position.dot && nat_le s.position.dot 304) _ _ visible)
+    (if-false (s.position.line == 261 && nat_le 280 s.position.dot && nat_le s.position.dot 304) _ _ visible)
     ∙ ap (λ n. record s { oam_address = n }) (sym clear)
 
 -- a choice whose ways are one
@@ -68,7 +68,7 @@ shown-idle : (p : List ℕ) (s : Screen) → Away (is_cleared s) s.position.dot 
 unfolding shown
 shown-idle p s h =
     if-false _ _ _ h.tile ∙ if-false _ _ _ h.latch
-      ∙ elim (cases_Bool (nat_le 258 s.position.dot && nat_le s.position.dot 320)) [
+    ∙ elim (cases_Bool (nat_le 258 s.position.dot && nat_le s.position.dot 320)) [
       | inl fetches ↦ if-true _ _ _ fetches ∙ (let c = cleared-parts s (h.fetch fetches) in fetched-idle s c.0 c.1)
       | inr does_not ↦ if-false _ _ _ does_not ∙ if-false _ _ _ h.ahead
     ]
@@ -99,7 +99,7 @@ unfolding drawn
 drawn-idle p s h = elim (cases_Bool (is_drawn_line s.position.line)) [
   | inl draws ↦ if-true _ _ _ draws ∙ elim (cases_Bool (is_rendering s.mask)) [
     | inl renders ↦
-      if-true _ _ _ renders ∙ shown-idle p s (away (is_cleared s) s.position.dot h.last (h.shown_ draws renders))
+        if-true _ _ _ renders ∙ shown-idle p s (away (is_cleared s) s.position.dot h.last (h.shown_ draws renders))
     | inr hides ↦ if-false _ _ _ hides ∙ hidden-idle s (h.hidden_ draws hides)
   ]
   | inr blank ↦ if-false _ _ _ blank
@@ -111,7 +111,7 @@ unfolding moved advanced is_last_dot is_next after_position
 moved-along s last =
     if-false (is_last_dot s) _ _ (grind (arith, nat_tests, last))
     ∙ ap (λ (q : Position). record s { position = q })
-      (if-false (s.position.dot == 340) _ _ (grind (arith, nat_tests, last)))
+    (if-false (s.position.dot == 340) _ _ (grind (arith, nat_tests, last)))
 
 not-one : (l : ℕ) (s : Screen) → 2 ≤ s.position.dot → is_next l 1 s ≡ false
 unfolding is_next
@@ -138,14 +138,14 @@ idle-dot p s d far idle =
 -- idle dots
 pub idle-dots : (n : ℕ) (p : List ℕ) (s : Screen) → s.near ≡ false
     → ((d : ℕ) → s.position.dot ≤ d → d < s.position.dot + n
-      → is_idle (is_drawn_line s.position.line) (is_rendering s.mask) (is_cleared s) d ≡ true)
+    → is_idle (is_drawn_line s.position.line) (is_rendering s.mask) (is_cleared s) d ≡ true)
     → after_dots n p s ≡ at_dot s (s.position.dot + n)
 unfolding after_dots
 idle-dots zero p s far idle = let e : s.position.dot ≡ s.position.dot + zero = omega arith in ap (at_dot s) e
 idle-dots (suc n) p s far idle =
     let before : after_dots n p s ≡ at_dot s (s.position.dot + n) =
-      idle-dots n p s far (λ d from below. idle d from (omega (arith, below))) in
+    idle-dots n p s far (λ d from below. idle d from (omega (arith, below))) in
     let one : dot_of p (at_dot s (s.position.dot + n)) ≡ at_dot s (s.position.dot + n + 1) =
-      idle-dot p s (s.position.dot + n) far (idle (s.position.dot + n) (omega arith) (omega arith)) in
+    idle-dot p s (s.position.dot + n) far (idle (s.position.dot + n) (omega arith) (omega arith)) in
     let e : s.position.dot + n + 1 ≡ s.position.dot + suc n = omega arith in
     ap (dot_of p) before ∙ one ∙ ap (at_dot s) e

@@ -38,12 +38,20 @@ pub lull-goes-on : (l : Lull) (s : Screen) (dots : ℕ) → IsLull l s → dots 
 lull-goes-on l s dots h below = elim (cases_Bool s.ended) [
   | inl marked ↦ (
       let none : limit_of s ≡ 0 = limit-marked s marked in
-      record { limit = h.limit; within = omega (arith, h.within);
-        before_event = omega (arith, none, h.limit, h.before_event); line = h.line })
+      record {
+        limit = h.limit;
+        within = omega (arith, h.within);
+        before_event = omega (arith, none, h.limit, h.before_event);
+        line = h.line;
+      })
   | inr unmarked ↦ (
       let most : limit_of s ≡ to_event s - 1 = limit-unmarked s unmarked in
-      record { limit = h.limit; within = omega (arith, h.within);
-        before_event = omega (arith, most, below, h.limit, h.within, h.before_event); line = h.line })
+      record {
+        limit = h.limit;
+        within = omega (arith, h.within);
+        before_event = omega (arith, most, below, h.limit, h.within, h.before_event);
+        line = h.line;
+      })
 ]
 
 -- once the pending dots have run the limit is less by them
@@ -58,7 +66,7 @@ limit-after k p s fits below none = elim (cases_Bool s.ended) [
       let left : to_event (after_dots k p s) + k ≡ to_event s = to_event-after k p s fits below in
       let here : limit_of s ≡ to_event s - 1 = limit-unmarked s unmarked in
       let there : limit_of (after_dots k p s) ≡ to_event (after_dots k p s) - 1 =
-        limit-unmarked (after_dots k p s) (ended-after k p s fits below ∙ unmarked) in
+      limit-unmarked (after_dots k p s) (ended-after k p s fits below ∙ unmarked) in
       omega (arith, left, here, there))
 ]
 
@@ -67,7 +75,7 @@ pub lull-after : (l : Lull) (p : List ℕ) (s e : Screen) → IsScreen s → IsS
     → e ≡ after_dots (pending_of l) p s → IsLull (record l { limit = l.spare }) e
 lull-after l p s e fits there h run =
     let less : limit_of s - pending_of l ≡ limit_of (after_dots (pending_of l) p s) =
-      limit-after (pending_of l) p s fits h.before_event (none-marked l s h) in
+    limit-after (pending_of l) p s fits h.before_event (none-marked l s h) in
     let same : limit_of e ≡ limit_of (after_dots (pending_of l) p s) = ap limit_of run in
     lull-begins (record l { limit = l.spare }) e there.placed (omega (arith, less, same, h.limit, h.within)) refl
     (h.line ∙ sym (nmi_line-after (pending_of l) p s fits h.before_event) ∙ ap nmi_line_of (sym run))

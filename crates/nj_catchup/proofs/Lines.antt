@@ -34,7 +34,7 @@ unfolding shifted
 shifted-bit zero x z hr hx = let e : 15 - x ≡ 15 - x - zero = omega arith in ap (λ k. z / 2 ^ k % 2) e
 shifted-bit (suc r) x z hr hx =
     let word : 2 ^ (x + 1 + (15 - x)) ≡ 65536 =
-      (let e : x + 1 + (15 - x) ≡ 16 = omega (arith, hx) in ap (λ k. 2 ^ k) e) in
+    (let e : x + 1 + (15 - x) ≡ 16 = omega (arith, hx) in ap (λ k. 2 ^ k) e) in
     let parts : 15 - x ≡ suc r + (15 - x - suc r) = omega (arith, hr, hx) in
     ap (λ m. m / 2 ^ (15 - x) % 2) (shifted-is r z) ∙ ap (λ m. z * 2 ^ suc r % m / 2 ^ (15 - x) % 2) (sym word)
     ∙ low-bit (z * 2 ^ suc r) (15 - x) x
@@ -69,9 +69,9 @@ same-parts : (a b c d e f b2 d2 e2 g h : Bool) → a ≡ true → b ≡ b2 → c
     → (a && b && c && d && e && f) ≡ (b2 && (h || g) && e2 && d2)
 same-parts a b c d e f b2 d2 e2 g h ha hb hc hd he hf =
     ap (λ x. x && b && c && d && e && f) ha ∙ ap (λ x. true && x && c && d && e && f) hb
-      ∙ ap (λ x. true && b2 && x && d && e && f) hc
+    ∙ ap (λ x. true && b2 && x && d && e && f) hc
     ∙ ap (λ x. true && b2 && true && x && e && f) hd ∙ ap (λ x. true && b2 && true && d2 && x && f) he
-      ∙ ap (λ x. true && b2 && true && d2 && e2 && x) hf
+    ∙ ap (λ x. true && b2 && true && d2 && e2 && x) hf
     ∙ asked b2 d2 e2 g h
 
 -- the picture after so many tiles and pixels
@@ -80,14 +80,14 @@ tiles-pixels : (j r : ℕ) (p : List ℕ) (s : Screen) → IsQuiet 256 s → s.p
 tiles-pixels j r p s h first hj hr =
     let t : Screen = tiles_run j p s in
     let whole : after_dots (8 * j) p s ≡ t =
-      tiles-inner j p s 0 (fewer-quiet 256 (8 * j) s (omega (arith, hj)) h) first (omega (arith, first, hj)) in
+    tiles-inner j p s 0 (fewer-quiet 256 (8 * j) s (omega (arith, hj)) h) first (omega (arith, first, hj)) in
     let is : t ≡ with_shift (jumped j s) t.shift = tiles-jump j p s (omega (arith, hj)) in
     let at : t.position.dot ≡ j * 8 + suc 0 =
-      ap (λ (e : Screen). e.position.dot) is ∙ jumped-dot j s ∙ omega (arith, first) in
+    ap (λ (e : Screen). e.position.dot) is ∙ jumped-dot j s ∙ omega (arith, first) in
     let quiet : IsQuiet r t =
-      subst (IsQuiet r) whole (quiet-after (8 * j) r p s (fewer-quiet 256 (8 * j + r) s (omega (arith, hj, hr)) h)) in
+    subst (IsQuiet r) whole (quiet-after (8 * j) r p s (fewer-quiet 256 (8 * j + r) s (omega (arith, hj, hr)) h)) in
     sym (dots-sum (8 * j + r) r (8 * j) p s (omega arith)) ∙ ap (after_dots r p) whole
-      ∙ pixels r p t j 0 quiet at (omega (arith, hr))
+    ∙ pixels r p t j 0 quiet at (omega (arith, hr))
     ∙ ap (after_pixels r) is
 
 -- one of its pixels
@@ -102,17 +102,17 @@ background-is j r i x z opaque hr hx at byte =
     let tile : i / 8 ≡ j = omega (arith, at, hr) in
     let pixel : i % 8 ≡ r = omega (arith, at, hr) in
     bit-is r x z hr hx ∙ ap (λ n. has_bit n (7 - r)) (sym byte)
-      ∙ ap (λ k. has_bit (slice_index opaque k) (7 - r)) (sym tile)
+    ∙ ap (λ k. has_bit (slice_index opaque k) (7 - r)) (sym tile)
     ∙ ap (λ k. has_bit (slice_index opaque (i / 8)) (7 - k)) (sym pixel)
 
 last-is : (d i : ℕ) → d ≡ i + 1 → nat_le d 255 ≡ nat_lt i 255
 last-is d i at = ap (λ k. nat_le k 255) at ∙ (elim (cases_lt i 255) [
   | inl below ↦
-    (let a : nat_le (i + 1) 255 ≡ true = grind (arith, nat_tests, below) in let b : nat_lt i 255 ≡ true =
-    grind (arith, nat_tests, below) in a ∙ sym b)
+      (let a : nat_le (i + 1) 255 ≡ true = grind (arith, nat_tests, below) in let b : nat_lt i 255 ≡ true =
+      grind (arith, nat_tests, below) in a ∙ sym b)
   | inr past ↦
-    (let a : nat_le (i + 1) 255 ≡ false = grind (arith, nat_tests, past) in let b : nat_lt i 255 ≡ false =
-    grind (arith, nat_tests, past) in a ∙ sym b)
+      (let a : nat_le (i + 1) 255 ≡ false = grind (arith, nat_tests, past) in let b : nat_lt i 255 ≡ false =
+      grind (arith, nat_tests, past) in a ∙ sym b)
 ])
 
 hit-at : (j r i z : ℕ) (s : Screen) (row : SpriteRow) (opaque : List ℕ) → s.position.line < 240 → s.position.dot ≡ 1
@@ -125,10 +125,10 @@ hit-at j r i z s row opaque line first both fine hr at byte =
     let here : d - 1 ≡ i = omega (arith, first, at) in
     let visible : nat_lt s.position.line 240 ≡ true = grind (arith, nat_tests, line) in
     same-parts (nat_lt s.position.line 240) (nat_le d 255) (shows_both_layers s.mask)
-      (background_bit (shifted r z) s.scroll.x) (is_opaque_at row (d - 1)) (is_shown_column s.mask (d - 1))
+    (background_bit (shifted r z) s.scroll.x) (is_opaque_at row (d - 1)) (is_shown_column s.mask (d - 1))
     (nat_lt i 255) (background_at opaque i) (is_opaque_at row i) (nat_le 8 i) (shows_left_columns s.mask)
     visible (last-is d i (omega (arith, first, at))) both (background-is j r i s.scroll.x z opaque hr fine at byte)
-      (ap (is_opaque_at row) here) (ap (is_shown_column s.mask) here ∙ column-is s.mask i)
+    (ap (is_opaque_at row) here) (ap (is_shown_column s.mask) here ∙ column-is s.mask i)
 
 -- what a line's hits depend on: the line's bytes, both layers shown, no row of its own
 pub record IsLine (s : Screen) (opaque p : List ℕ) : Type 0 where
@@ -157,7 +157,7 @@ hit-line i s row opaque p h within =
     ap (λ k. hit-of (after_dots k p s) (Some row)) at
     ∙ ap (λ (e : Screen). hit-of e (Some row)) (tiles-pixels j r p s h.quiet h.first hj hr)
     ∙ hit-at j r i (tiles_run j p s).shift s row opaque h.quiet.line h.first h.both h.fine_x hr at
-      (line-byte j s opaque p h hj)
+    (line-byte j s opaque p h hj)
 
 -- the last pixel is none
 last-apart : (row : SpriteRow) (opaque : List ℕ) (left : Bool) → meets_at row opaque left 255 ≡ false
@@ -169,16 +169,16 @@ near-last : (n : ℕ) (s : Screen) (row : SpriteRow) (opaque p : List ℕ) → n
 unfolding near-after
 near-last n s row opaque p last h =
     hit-line n s row opaque p h (omega (arith, last)) ∙ ap (meets_at row opaque (shows_left_columns s.mask)) last
-      ∙ last-apart row opaque (shows_left_columns s.mask)
+    ∙ last-apart row opaque (shows_left_columns s.mask)
 
 -- the line with a row: no hit is near at its end, and the flag is up where one was met
 pub line-after : (n : ℕ) (s : Screen) (row : SpriteRow) (opaque p : List ℕ) (hit : Bool) → n ≡ 255 → IsLine s opaque p
     → after_dots (suc n) p (with_hit s (Some row) false hit)
-      ≡ with_hit (after_dots (suc n) p s) (Some row) false (hit || any-after (suc n) p s (Some row))
+    ≡ with_hit (after_dots (suc n) p s) (Some row) false (hit || any-after (suc n) p s (Some row))
 line-after n s row opaque p hit last h =
     hits-after (suc n) p s (Some row) hit (fewer-quiet 256 (suc n) s (omega (arith, last)) h.quiet)
     ∙ ap (λ b. with_hit (after_dots (suc n) p s) (Some row) b (hit || any-after (suc n) p s (Some row)))
-      (near-last n s row opaque p last h)
+    (near-last n s row opaque p last h)
 
 pub line-none : (n : ℕ) (s : Screen) (row : SpriteRow) (opaque p : List ℕ) → n ≡ 255 → IsLine s opaque p
     → ((i : ℕ) → meets_at row opaque (shows_left_columns s.mask) i ≡ false) → any-after (suc n) p s (Some row) ≡ false
@@ -194,7 +194,7 @@ pub line-some : (n i : ℕ) (s : Screen) (row : SpriteRow) (opaque p : List ℕ)
 line-some n i s row opaque p last h meets =
     let below : i < 255 = below-last row opaque (shows_left_columns s.mask) i meets in
     any-some n i p s (Some row) (omega (arith, below, last)) (hit-line i s row opaque p h (omega (arith, below))
-      ∙ meets)
+    ∙ meets)
 
 -- the tiles do not look at the row
 pub tiles-with_hit : (n : ℕ) (p : List ℕ) (s : Screen) (row : Option SpriteRow) (near hit : Bool)

@@ -40,9 +40,9 @@ unfolding tile_ended
 hit-tile_ended p s row near hit =
     let t : Screen = with_hit s row near hit in
     hit-if (s.position.dot == 256) (line_ended p s) (if s.position.dot % 8 == 0 then tile_fetched p s else s)
-      (line_ended p t) _ row near hit (hit-line_ended p s row near hit)
+    (line_ended p t) _ row near hit (hit-line_ended p s row near hit)
     (hit-if (s.position.dot % 8 == 0) (tile_fetched p s) s (tile_fetched p t) t row near hit
-      (hit-tile_fetched p s row near hit) refl)
+    (hit-tile_fetched p s row near hit) refl)
 
 hit-raised : (s : Screen) (row : Option SpriteRow) (near hit : Bool)
     → raised (with_hit s row near hit) ≡ with_hit s row false (hit || near)
@@ -66,7 +66,7 @@ hit-drawn p s row hit h =
     if-true _ _ _ (drawn-line s.position.line h.line) ∙ if-true _ _ _ h.renders
     ∙ if-true _ _ _ (pixel-dot s.position.dot h.from (omega (arith, h.last)))
     ∙ ap (tile_ended p) (hit-pixel s row hit)
-      ∙ hit-tile_ended p (record s { shift = s.shift * 2 % 65536 }) row (hit-of s row) hit
+    ∙ hit-tile_ended p (record s { shift = s.shift * 2 % 65536 }) row (hit-of s row) hit
 
 -- a dot
 hit-moved : (p : List ℕ) (s : Screen) (row : Option SpriteRow) (near hit : Bool) → s.position.dot ≤ 256
@@ -106,7 +106,7 @@ quiet-next m p s h =
       renders = ap is_rendering mask ∙ h.renders;
       far = n.near ∙ h.far;
       misses = λ d from below. ap (λ k. may_hit k e.sprite_row d) mask ∙ ap (λ k. may_hit s.mask k d) r.row
-        ∙ h.misses d (omega (arith, from)) (omega (arith, below));
+          ∙ h.misses d (omega (arith, from)) (omega (arith, below));
     })
 
 pub quiet-after : (n m : ℕ) (p : List ℕ) (s : Screen) → IsQuiet (n + m) s → IsQuiet m (after_dots n p s)
@@ -156,7 +156,7 @@ unfolding any-after near-after
 any-none zero p s row none = refl
 any-none (suc n) p s row none =
     ap (λ b. b || hit-of (after_dots n p s) row) (any-none n p s row (λ i within. none i (omega (arith, within))))
-      ∙ none n (omega arith)
+    ∙ none n (omega arith)
 
 pub any-some : (n i : ℕ) (p : List ℕ) (s : Screen) (row : Option SpriteRow) → i < n
     → hit-of (after_dots i p s) row ≡ true → any-after (suc n) p s row ≡ true
@@ -165,5 +165,5 @@ any-some zero i p s row within here = absurd (omega (arith, within))
 any-some (suc n) i p s row within here = elim (cases_eq i n) [
   | inl last ↦ or-true (any-after (suc n) p s row) _ (ap (λ k. hit-of (after_dots k p s) row) (sym last) ∙ here)
   | inr before ↦
-    ap (λ b. b || hit-of (after_dots n p s) row) (any-some n i p s row (omega (arith, within, before)) here)
+      ap (λ b. b || hit-of (after_dots n p s) row) (any-some n i p s row (omega (arith, within, before)) here)
 ]

@@ -187,7 +187,7 @@ far-dot : (p : List ℕ) (s : Screen) → (IsEvent s → ⊥) → (1 ≤ s.posit
 far-dot p s apart miss =
     let moves : Moves (drawn p (raised s)) (moved (drawn p (raised s))) = moves-moved (drawn p (raised s)) in
     let here : Far (drawn p (raised s)) =
-      far-drawn p (raised s) (λ from. raised-hit s ∙ miss (subst (λ d. 1 ≤ d) (raised-dot s) from)) (raised-near s) in
+    far-drawn p (raised s) (λ from. raised-hit s ∙ miss (subst (λ d. 1 ≤ d) (raised-dot s) from)) (raised-near s) in
     ap (λ e. e.near) (dot-apart p s apart ∙ moves.same) ∙ here.far
 
 pub row-dot : (p : List ℕ) (s : Screen) → (IsEvent s → ⊥) → (s.position.dot ≡ 257 → ⊥)
@@ -195,7 +195,7 @@ pub row-dot : (p : List ℕ) (s : Screen) → (IsEvent s → ⊥) → (s.positio
 row-dot p s apart aside =
     let moves : Moves (drawn p (raised s)) (moved (drawn p (raised s))) = moves-moved (drawn p (raised s)) in
     let here : SameRow (raised s) (drawn p (raised s)) =
-      row-drawn p (raised s) (ap (λ d. d == 257) (raised-dot s) ∙ ne_eqb _ _ aside) in
+    row-drawn p (raised s) (ap (λ d. d == 257) (raised-dot s) ∙ ne_eqb _ _ aside) in
     ap (λ e. e.sprite_row) (dot-apart p s apart ∙ moves.same) ∙ here.row ∙ raised-row s
 
 -- dots before an event
@@ -203,7 +203,7 @@ pub no-event : (k : ℕ) (p : List ℕ) (s : Screen) → IsScreen s → suc k < 
 no-event k p s fits below at =
     let left : to_event (after_dots k p s) + k ≡ to_event s = to_event-after k p s fits (omega (arith, below)) in
     let one : to_event (after_dots k p s) ≡ 1 =
-      event-one (after_dots k p s) at in absurd (omega (arith, one, left, below))
+    event-one (after_dots k p s) at in absurd (omega (arith, one, left, below))
 
 -- none of which is a hit
 record Missed (k : ℕ) (p : List ℕ) (s : Screen) : Type 0 where
@@ -221,7 +221,7 @@ missed zero p s fits below far miss = record { far = far; hit = refl }
 missed (suc k) p s fits below far miss =
     let e : Screen = after_dots k p s in
     let before : Missed k p s =
-      missed k p s fits (omega (arith, below)) far (λ n within. miss n (omega (arith, within))) in
+    missed k p s fits (omega (arith, below)) far (λ n within. miss n (omega (arith, within))) in
     let apart : IsEvent e → ⊥ = no-event k p s fits below in
     record {
       far = far-dot p e apart (miss k (omega arith));
@@ -264,8 +264,8 @@ along-dot p s from n within h = elim (cases_Bool (is_last_dot s)) [
       let next : GoesOn s (dot_of p s) = goes-on p s goes_on in
       elim (next-dot s.position) [
         | inl end ↦
-          along-back from n s.position.dot _ (omega (arith, end.0)) h (ap (λ (q : Position). q.dot) next.position
-          ∙ end.1)
+            along-back from n s.position.dot _ (omega (arith, end.0)) h (ap (λ (q : Position). q.dot) next.position
+            ∙ end.1)
         | inr on ↦ along-on from n s.position.dot _ within h (ap (λ (q : Position). q.dot) next.position ∙ on)
       ])
 ]
@@ -295,14 +295,14 @@ layers-miss n p s fits below hides =
     let e : Screen = after_dots n p s in
     let h : Calm s e = calm-after n p s fits below in
     misses-hit e (ap (λ x. shows_both_layers x.mask && shows_at e.sprite_row (e.position.dot - 1)) h.same
-      ∙ ap (λ b. b && shows_at e.sprite_row (e.position.dot - 1)) hides)
+    ∙ ap (λ b. b && shows_at e.sprite_row (e.position.dot - 1)) hides)
 
 line-misses : (s : Screen) → 240 ≤ s.position.line → is_hit_pixel s ≡ false
 unfolding is_hit_pixel
 line-misses s from =
     let past : nat_lt s.position.line 240 ≡ false = grind (arith, nat_tests, from) in
     ap (λ a. a && nat_le s.position.dot 255 && shows_both_layers s.mask && background_bit s.shift s.scroll.x
-      && shows_at s.sprite_row (s.position.dot - 1) && is_shown_column s.mask (s.position.dot - 1)) past
+    && shows_at s.sprite_row (s.position.dot - 1) && is_shown_column s.mask (s.position.dot - 1)) past
 
 pub below-miss : (n k : ℕ) (p : List ℕ) (s : Screen) → IsScreen s → n < k → k < to_event s → 240 ≤ s.position.line
     → place_of s.position + k ≤ 89341 → is_hit_pixel (after_dots n p s) ≡ false
@@ -322,9 +322,9 @@ unfolding is_hit_pixel
 dot-misses s from =
     let late : nat_le s.position.dot 255 ≡ false = grind (arith, nat_tests, from) in
     let past : (nat_lt s.position.line 240 && nat_le s.position.dot 255) ≡ false =
-      and-false (nat_lt s.position.line 240) _ late in
+    and-false (nat_lt s.position.line 240) _ late in
     ap (λ a. a && shows_both_layers s.mask && background_bit s.shift s.scroll.x
-      && shows_at s.sprite_row (s.position.dot - 1) && is_shown_column s.mask (s.position.dot - 1)) past
+    && shows_at s.sprite_row (s.position.dot - 1) && is_shown_column s.mask (s.position.dot - 1)) past
 
 pub shown-misses : (s : Screen) → shows_at s.sprite_row (s.position.dot - 1) ≡ false → is_hit_pixel s ≡ false
 unfolding may_hit
@@ -338,9 +338,9 @@ row-miss n k p s fits within below aside from =
     let h : IsAside s.sprite_row e.position.dot = aside n e.position.dot within (along n p s fits) in
     let same : e.sprite_row ≡ s.sprite_row = row-after n p s fits (omega (arith, below, within))
     (λ m before. (let there : IsAside s.sprite_row (after_dots m p s).position.dot =
-      aside m _ (omega (arith, before, within)) (along m p s fits) in there.latch)) in
+    aside m _ (omega (arith, before, within)) (along m p s fits) in there.latch)) in
     elim (cases_lt e.position.dot 256) [
       | inl pixel_dot ↦
-        shown-misses e (ap (λ r. shows_at r (e.position.dot - 1)) same ∙ h.miss from (omega (arith, pixel_dot)))
+          shown-misses e (ap (λ r. shows_at r (e.position.dot - 1)) same ∙ h.miss from (omega (arith, pixel_dot)))
       | inr past ↦ dot-misses e past
     ]

@@ -41,7 +41,7 @@ unfolding after_dots
 overflow-up fallen zero p s fits below up = up
 overflow-up fallen (suc k) p s fits below up =
     stays-up fallen p (after_dots k p s) (no-event k p s fits below)
-      (overflow-up fallen k p s fits (omega (arith, below)) up)
+    (overflow-up fallen k p s fits (omega (arith, below)) up)
 
 overflow-down : IsRisen → (k : ℕ) (p : List ℕ) (s : Screen) → ((n : ℕ) → n < k → IsOverflow (after_dots n p s) → ⊥)
     → s.sprite_overflow ≡ false → (after_dots k p s).sprite_overflow ≡ false
@@ -49,7 +49,7 @@ unfolding after_dots
 overflow-down risen zero p s none down = down
 overflow-down risen (suc k) p s none down =
     stays-down risen p (after_dots k p s) (none k (omega arith))
-      (overflow-down risen k p s (λ n within. none n (omega (arith, within))) down)
+    (overflow-down risen k p s (λ n within. none n (omega (arith, within))) down)
 
 pub overflow-kept : IsRisen → IsFallen → (k : ℕ) (p : List ℕ) (s : Screen) → IsScreen s → k < to_event s
     → ((n : ℕ) → n < k → IsOverflow (after_dots n p s) → ⊥) → (after_dots k p s).sprite_overflow ≡ s.sprite_overflow

@@ -80,7 +80,7 @@ blank-dot p s n far h =
     ap (λ x. moved (drawn p (flagged x))) (raised-far e far)
     ∙ ap (λ x. moved (drawn p x))
     (flagged-apart e (not-next 241 1 e (λ next. h.between.begins (omega (arith, next.line, next.dot))))
-      (not-next 261 1 e (λ next. h.between.ends (omega (arith, next.line, next.dot)))))
+    (not-next 261 1 e (λ next. h.between.ends (omega (arith, next.line, next.dot)))))
     ∙ ap moved (drawn-blank p s n h) ∙ moved-blank s n h
 
 -- many

@@ -133,8 +133,8 @@ record Kin (s e : Screen) : Type 0 where
 kin-trans : (a b c : Screen) → Kin a b → Kin b c → Kin a c
 kin-trans a b c h k = record {
   same = k.same
-    ∙ ap (λ (m : Screen). with_line m c.position c.scroll.v c.shift c.oam_address c.sprite_row c.sprite_overflow)
-    h.same;
+      ∙ ap (λ (m : Screen). with_line m c.position c.scroll.v c.shift c.oam_address c.sprite_row c.sprite_overflow)
+      h.same;
   rows = rows-trans a.scroll.v b.scroll.v c.scroll.v h.rows k.rows;
 }
 
@@ -167,7 +167,7 @@ kin-prepared p s =
     let b : Screen = prefetched p a in
     let c : Screen = prefetched p b in
     kin-trans s c _ (kin-trans s b c (kin-trans s a b (kin-latched p s) (kin-prefetched p a)) (kin-prefetched p b))
-      (kin-placed c (let q = c.position in record q { dot = 337 }))
+    (kin-placed c (let q = c.position in record q { dot = 337 }))
 
 -- dot 257, the idle dots behind it, and the two dots that fetch a tile
 latch-dot : (p : List ℕ) (s : Screen) → IsLineEnd s → dot_of p s ≡ at_dot (latched p s) 258
@@ -201,8 +201,11 @@ idle-behind n p s h from last aside =
     (λ d after before. ap (λ b. is_idle b (is_rendering s.mask) (is_cleared s) d) (drawn-line s.position.line h.line)
     ∙ ap (λ b. is_idle true b (is_cleared s) d) h.renders ∙ ap (λ b. is_idle true true b d) (cleared-is s h)
     ∙ idle-is d (omega (arith, from, after)) (omega (arith, before, last))
-      (λ at. (elim aside [ inl a ↦ absurd (omega (arith, at, a, before)) | inr b ↦
-      absurd (omega (arith, at, b, after)) ])))
+    (λ at. (elim aside [
+      | inl a ↦ absurd (omega (arith, at, a, before))
+      | inr b ↦
+          absurd (omega (arith, at, b, after))
+    ])))
 
 record Fetches (d : ℕ) : Type 0 where
   tile : (nat_le 1 d && nat_le d 256) ≡ false
@@ -213,11 +216,19 @@ record Fetches (d : ℕ) : Type 0 where
 fetches : (d : ℕ) → (d ≡ 328) ⊎ (d ≡ 336) → Fetches d
 fetches d at = elim at [
   | inl a ↦
-    record { tile = grind (arith, nat_tests, a); latch = grind (arith, nat_tests, a);
-    fetch = grind (arith, nat_tests, a); ahead = grind (arith, nat_tests, a) }
+      record {
+        tile = grind (arith, nat_tests, a);
+        latch = grind (arith, nat_tests, a);
+        fetch = grind (arith, nat_tests, a);
+        ahead = grind (arith, nat_tests, a);
+      }
   | inr b ↦
-    record { tile = grind (arith, nat_tests, b); latch = grind (arith, nat_tests, b);
-    fetch = grind (arith, nat_tests, b); ahead = grind (arith, nat_tests, b) }
+      record {
+        tile = grind (arith, nat_tests, b);
+        latch = grind (arith, nat_tests, b);
+        fetch = grind (arith, nat_tests, b);
+        ahead = grind (arith, nat_tests, b);
+      }
 ]
 
 fetch-shown : (p : List ℕ) (s : Screen) → (s.position.dot ≡ 328) ⊎ (s.position.dot ≡ 336) → shown p s ≡ prefetched p s
@@ -264,12 +275,12 @@ line-end p s h =
     let one : after_dots 1 p s ≡ a = dots-one p s ∙ latch-dot p s h in
     let two : after_dots 70 p a ≡ b = idle-behind 70 p a ha (lit≤ tt) (lit≤ tt) (inl (lit≤ tt)) in
     let three : after_dots 1 p b ≡ c =
-      dots-one p b ∙ fetch-dot p b (behind-at a 328 ha) (inl refl)
-      ∙ ap (λ (e : Screen). at_dot e 329) (fetch-apart p a 328) in
+    dots-one p b ∙ fetch-dot p b (behind-at a 328 ha) (inl refl)
+    ∙ ap (λ (e : Screen). at_dot e 329) (fetch-apart p a 328) in
     let four : after_dots 7 p c ≡ d = idle-behind 7 p c hc (lit≤ tt) (lit≤ tt) (inr (lit≤ tt)) in
     let five : after_dots 1 p d ≡ at_dot (prefetched p c) 337 =
-      dots-one p d ∙ fetch-dot p d (behind-at c 336 hc) (inr refl)
-      ∙ ap (λ (e : Screen). at_dot e 337) (fetch-apart p c 336) in
+    dots-one p d ∙ fetch-dot p d (behind-at c 336 hc) (inr refl)
+    ∙ ap (λ (e : Screen). at_dot e 337) (fetch-apart p c 336) in
     let last : at_dot (prefetched p c) 337 ≡ at_dot (prefetched p (prefetched p (latched p s))) 337 =
     ap (λ (e : Screen). at_dot e 337) (fetch-apart p (prefetched p a) 329)
     ∙ ap (λ (e : Screen). at_dot (prefetched p e) 337) (fetch-apart p (latched p s) 258)
@@ -338,7 +349,7 @@ next-line p s n h plain =
     sym (dots-sum 341 256 85 p s refl) ∙ ap (after_dots 256 p)
     (sym (dots-sum 85 5 80 p s refl) ∙ ap (after_dots 5 p) (line-end p s h)
     ∙ sym (line-ends 5 3 p e (prepared-near p s
-      ∙ h.far) (omega (arith, line, h.line)) (omega (arith, dot)) (omega (arith, dot)) refl)
+    ∙ h.far) (omega (arith, line, h.line)) (omega (arith, dot)) (omega (arith, dot)) refl)
     ∙ ap (λ l. record e { position = record { line = l + 1; dot = 1 } }) line)
     ∙ line-tiles 31 p (next_line p s) refl quiet refl
 
@@ -356,7 +367,7 @@ tiles-at zero p s = let e : s.position.dot ≡ s.position.dot + 8 * zero =
 tiles-at (suc n) p s =
     let e : s.position.dot + 8 * n + 8 ≡ s.position.dot + 8 * suc n = omega arith in
     ap (λ (q : Position). record { line = q.line; dot = q.dot + 8 }) (tiles-at n p s)
-      ∙ (λ i. record { line = s.position.line; dot = e i })
+    ∙ (λ i. record { line = s.position.line; dot = e i })
 
 tiles-overflow : (n : ℕ) (p : List ℕ) (s : Screen) → (tiles_run n p s).sprite_overflow ≡ s.sprite_overflow
 unfolding tiles_run tile_run prefetched
@@ -370,19 +381,19 @@ line-leaves p s n h plain =
     let f : Screen = next_line p s in
     let w : Screen = tiles_run 32 p f in
     let kin : Kin s w =
-      kin-trans s f w
-      (kin-trans s e f (kin-prepared p s) (kin-placed e (record { line = s.position.line + 1; dot = 1 })))
-      (kin-tiles 32 p f) in
+    kin-trans s f w
+    (kin-trans s e f (kin-prepared p s) (kin-placed e (record { line = s.position.line + 1; dot = 1 })))
+    (kin-tiles 32 p f) in
     let at : w.position ≡ record { line = s.position.line + 1; dot = 257 } = tiles-at 32 p f in
     let over : w.sprite_overflow ≡ s.sprite_overflow =
-      tiles-overflow 32 p f ∙ prepared-overflow p s ∙ plain.overflow s.position.line (omega arith) (omega arith) in
+    tiles-overflow 32 p f ∙ prepared-overflow p s ∙ plain.overflow s.position.line (omega arith) (omega arith) in
     let is : after_dots 341 p s ≡ record w { scroll = row_stepped w.scroll } =
-      next-line p s n h plain ∙ finished-last w (ap (λ (q : Position). q.dot) at) in
+    next-line p s n h plain ∙ finished-last w (ap (λ (q : Position). q.dot) at) in
     let left : IsNextLine s (record w { scroll = row_stepped w.scroll }) = record {
       same = ap (λ (x : Screen). record x { scroll = row_stepped x.scroll }) kin.same
           ∙ ap (λ q. with_line s q (next_row w.scroll.v) w.shift w.oam_address w.sprite_row w.sprite_overflow) at
           ∙ ap (with_line s (record { line = s.position.line + 1; dot = 257 }) (next_row w.scroll.v) w.shift
-            w.oam_address w.sprite_row) over;
+          w.oam_address w.sprite_row) over;
       rows = rows-row s.scroll.v w.scroll.v kin.rows;
     } in
     subst (IsNextLine s) (sym is) left
@@ -394,31 +405,34 @@ twice-apart : (p : List ℕ) (s : Screen) (z d : ℕ)
 unfolding prefetched fetched_row
 twice-apart p s z d =
     let e : (z % 256 * 256 + fetched_row p s) % 256 * 256 ≡ (s.shift % 256 * 256 + fetched_row p s) % 256 * 256 =
-      omega arith in
+    omega arith in
     ap (λ n. at_dot
-      (record s { shift =
-      n + fetched_row p (record s { scroll = (let c = s.scroll in record c { v = next_column c.v }) }); scroll =
-      (let c = s.scroll in record c { v = next_column (next_column c.v) }) }) d) e
+    (record s {
+      shift =
+          n + fetched_row p (record s { scroll = (let c = s.scroll in record c { v = next_column c.v }) });
+      scroll =
+          (let c = s.scroll in record c { v = next_column (next_column c.v) });
+    }) d) e
 
 latched-apart : (p : List ℕ) (s : Screen) (v z address : ℕ) (row : Option SpriteRow) → SameRows s.scroll.v v
     → latched p (with_line s s.position v z address row s.sprite_overflow) ≡ record (latched p s) { shift = z }
 unfolding latched
 latched-apart p s v z address row h =
     ap (λ n. record (latched p s) { shift = z; scroll = (let c = s.scroll in record c { v = n }) })
-      (sym (with-rows s.scroll.t s.scroll.v v h))
+    (sym (with-rows s.scroll.t s.scroll.v v h))
 
 prepared-apart : (p : List ℕ) (s : Screen) (v z address : ℕ) (row : Option SpriteRow) → SameRows s.scroll.v v
     → line_prepared p (with_line s s.position v z address row s.sprite_overflow) ≡ line_prepared p s
 unfolding line_prepared
 prepared-apart p s v z address row h =
     ap (λ e. at_dot (prefetched p (prefetched p e)) 337) (latched-apart p s v z address row h)
-      ∙ twice-apart p (latched p s) z 337
+    ∙ twice-apart p (latched p s) z 337
 
 -- lines and then the end of one
 end-next : (s e : Screen) (n : ℕ) → IsLineEnd s → IsPlain (suc n) s → IsNextLine s e → IsLineEnd e
 end-next s e n h plain next = record {
   line = (let l : e.position.line ≡ s.position.line + 1 =
-    ap (λ (x : Screen). x.position.line) next.same in omega (arith, l, plain.within));
+      ap (λ (x : Screen). x.position.line) next.same in omega (arith, l, plain.within));
   dot = ap (λ (x : Screen). x.position.dot) next.same;
   renders = ap (λ (x : Screen). is_rendering x.mask) next.same ∙ h.renders;
   far = ap (λ (x : Screen). x.near) next.same ∙ h.far;
@@ -438,7 +452,7 @@ plain-next s e n plain next =
           ∙ plain.row l (omega (arith, from, line)) (omega (arith, below, line));
       overflow = λ l from below. ap (λ (x : Screen). x.sprite_overflow || overflows x.oam x.control l) next.same
           ∙ plain.overflow l (omega (arith, from, line)) (omega (arith, below, line))
-            ∙ sym (ap (λ (x : Screen). x.sprite_overflow) next.same);
+          ∙ sym (ap (λ (x : Screen). x.sprite_overflow) next.same);
     }
 
 lines-next : (n : ℕ) (p : List ℕ) (s e : Screen) → IsLineEnd s → IsNextLine s e
@@ -451,10 +465,12 @@ lines-next n p s e h next =
     let rows : SameRows (repeated (suc n) next_row s.scroll.v) v =
     subst (λ w. SameRows w v) (repeated-on n s.scroll.v) (rows-repeated n (next_row s.scroll.v) e.scroll.v next.rows) in
     ap (λ (x : Screen). line_prepared p
-      (record x { position = (let q = x.position in record q { line = q.line + n });
-      scroll = (let c = x.scroll in record c { v = v }) })) next.same
+    (record x {
+      position = (let q = x.position in record q { line = q.line + n });
+      scroll = (let c = x.scroll in record c { v = v });
+    })) next.same
     ∙ (λ i. line_prepared p
-      (with_line s (record { line = on i; dot = sym h.dot i }) v e.shift e.oam_address e.sprite_row s.sprite_overflow))
+    (with_line s (record { line = on i; dot = sym h.dot i }) v e.shift e.oam_address e.sprite_row s.sprite_overflow))
     ∙ prepared-apart p f v e.shift e.oam_address e.sprite_row rows
 
 pub lines-run : (n : ℕ) (p : List ℕ) (s : Screen) → IsLineEnd s → IsPlain n s
@@ -473,8 +489,12 @@ pub fits-on : (n : ℕ) (s e : Screen) → e ≡ lines_on n s → IsScreen s →
 unfolding lines_on
 fits-on n s e is fits within =
     let there : IsScreen (lines_on n s) =
-      record { placed = record { line = omega (arith, within); dot = fits.placed.dot }; fine_x = fits.fine_x;
-      oam = fits.oam; vram = fits.vram } in
+    record {
+      placed = record { line = omega (arith, within); dot = fits.placed.dot };
+      fine_x = fits.fine_x;
+      oam = fits.oam;
+      vram = fits.vram;
+    } in
     subst IsScreen (sym is) there
 
 pub end-on : (n : ℕ) (s e : Screen) → e ≡ lines_on n s → IsLineEnd s → s.position.line + n < 240 → IsLineEnd e

@@ -51,7 +51,7 @@ taken-tile_ended byte p s =
     let tile : Screen = if s.position.dot % 8 == 0 then tile_fetched p s else s in
     taken-if (s.position.dot == 256) byte (line_ended p s) tile (line_ended p t) _ (taken-line_ended byte p s)
     (taken-if (s.position.dot % 8 == 0) byte (tile_fetched p s) s (tile_fetched p t) t (taken-tile_fetched byte p s)
-      refl)
+    refl)
 
 taken-latched : (byte : ℕ) (p : List ℕ) (s : Screen) → latched p (status_taken byte s) ≡ status_taken byte (latched p s)
 unfolding latched
@@ -69,7 +69,7 @@ unfolding sprites_fetched vertical_copied
 taken-sprites_fetched byte s =
     ap (λ (c : Scroll). record s { latch = byte; vertical_blank = false; oam_address = 0; scroll = c })
     (copied-if (s.position.line == 261 && nat_le 280 s.position.dot && nat_le s.position.dot 304) s.scroll
-      (with_vertical s.scroll.t s.scroll.v))
+    (with_vertical s.scroll.t s.scroll.v))
 
 taken-prefetched : (byte : ℕ) (p : List ℕ) (s : Screen)
     → prefetched p (status_taken byte s) ≡ status_taken byte (prefetched p s)
@@ -85,10 +85,10 @@ taken-shown byte p s =
     let fetch : Screen = if nat_le 258 d && nat_le d 320 then sprites_fetched s else ahead in
     let latch : Screen = if d == 257 then latched p s else fetch in
     taken-if (nat_le 1 d && nat_le d 256) byte (tile_ended p (pixel s)) latch (tile_ended p (pixel t)) _
-      (ap (tile_ended p) (taken-pixel byte s) ∙ taken-tile_ended byte p (pixel s))
+    (ap (tile_ended p) (taken-pixel byte s) ∙ taken-tile_ended byte p (pixel s))
     (taken-if (d == 257) byte (latched p s) fetch (latched p t) _ (taken-latched byte p s)
     (taken-if (nat_le 258 d && nat_le d 320) byte (sprites_fetched s) ahead (sprites_fetched t) _
-      (taken-sprites_fetched byte s)
+    (taken-sprites_fetched byte s)
     (taken-if (d == 328 || d == 336) byte (prefetched p s) s (prefetched p t) t (taken-prefetched byte p s) refl)))
 
 taken-hidden : (byte : ℕ) (s : Screen) → hidden (status_taken byte s) ≡ status_taken byte (hidden s)
@@ -102,7 +102,7 @@ taken-drawn byte p s =
     let work : Screen = if is_rendering s.mask then shown p s else hidden s in
     taken-if (is_drawn_line s.position.line) byte work s (if is_rendering s.mask then shown p t else hidden t) t
     (taken-if (is_rendering s.mask) byte (shown p s) (hidden s) (shown p t) (hidden t) (taken-shown byte p s)
-      (taken-hidden byte s)) refl
+    (taken-hidden byte s)) refl
 
 taken-moved : (byte : ℕ) (s : Screen) → moved (status_taken byte s) ≡ status_taken byte (moved s)
 unfolding moved is_last_dot is_next frame_begun advanced
@@ -122,8 +122,8 @@ taken-dot byte p s apart =
     let still : flagged (raised s) ≡ raised s = flagged-apart (raised s) a b in
     ap (λ e. moved (drawn p (flagged e))) (taken-raised byte s)
     ∙ ap (λ e. moved (drawn p e))
-      (flagged-apart (status_taken byte (raised s)) (taken-next 241 1 byte (raised s)
-      ∙ a) (taken-next 261 1 byte (raised s) ∙ b))
+    (flagged-apart (status_taken byte (raised s)) (taken-next 241 1 byte (raised s)
+    ∙ a) (taken-next 261 1 byte (raised s) ∙ b))
     ∙ ap moved (taken-drawn byte p (raised s))
     ∙ taken-moved byte (drawn p (raised s))
     ∙ ap (λ e. status_taken byte (moved (drawn p e))) (sym still)
@@ -136,7 +136,7 @@ taken-after byte (suc k) p s fits below =
     let e : Screen = after_dots k p s in
     let left : to_event e + k ≡ to_event s = to_event-after k p s fits (omega (arith, below)) in
     let apart : IsEvent e → ⊥ =
-      λ at. (let one : to_event e ≡ 1 = event-one e at in absurd (omega (arith, one, left, below))) in
+    λ at. (let one : to_event e ≡ 1 = event-one e at in absurd (omega (arith, one, left, below))) in
     ap (dot_of p) (taken-after byte k p s fits (omega (arith, below))) ∙ taken-dot byte p e apart
 
 or-false : (b : Bool) → (b || false) ≡ b
@@ -147,10 +147,18 @@ or-false false = refl
 pub status-taken : (s : Screen) → is_next 241 1 s ≡ false → after_status s ≡ status_taken (status_byte s) s
 unfolding after_status
 status-taken s apart =
-    ap (λ b. record s { latch = status_byte s; vertical_blank = false;
-      scroll = (let c = s.scroll in record c { w = false }); hold = s.hold || b }) apart
-    ∙ ap (λ b. record s { latch = status_byte s; vertical_blank = false;
-      scroll = (let c = s.scroll in record c { w = false }); hold = b }) (or-false s.hold)
+    ap (λ b. record s {
+      latch = status_byte s;
+      vertical_blank = false;
+      scroll = (let c = s.scroll in record c { w = false });
+      hold = s.hold || b;
+    }) apart
+    ∙ ap (λ b. record s {
+      latch = status_byte s;
+      vertical_blank = false;
+      scroll = (let c = s.scroll in record c { w = false });
+      hold = b;
+    }) (or-false s.hold)
 
 -- the byte stands where the two flags do
 pub status_byte-after : (k : ℕ) (p : List ℕ) (s : Screen) → IsScreen s → IsSteady k p s
@@ -171,11 +179,11 @@ status-after k p s fits steady =
     let below : k + 1 < to_event s = steady.apart in
     let left : to_event e + k ≡ to_event s = to_event-after k p s fits (omega (arith, below)) in
     let here : is_next 241 1 s ≡ false =
-      not-next 241 1 s
-      (λ at. (let one : to_event s ≡ 1 = event-one s (inl at) in absurd (omega (arith, one, below)))) in
+    not-next 241 1 s
+    (λ at. (let one : to_event s ≡ 1 = event-one s (inl at) in absurd (omega (arith, one, below)))) in
     let there : is_next 241 1 e ≡ false =
-      not-next 241 1 e
-      (λ at. (let one : to_event e ≡ 1 = event-one e (inl at) in absurd (omega (arith, one, left, below)))) in
+    not-next 241 1 e
+    (λ at. (let one : to_event e ≡ 1 = event-one e (inl at) in absurd (omega (arith, one, left, below)))) in
     ap (after_dots k p) (status-taken s here)
     ∙ taken-after (status_byte s) k p s fits (omega (arith, below))
     ∙ ap (λ n. status_taken n e) (sym (status_byte-after k p s fits steady))
@@ -189,9 +197,9 @@ hit-dot p s apart =
     let b : is_next 261 1 (raised s) ≡ false = raised-next 261 1 s ∙ not-next 261 1 s (λ at. apart (inr at)) in
     let stays : Stays (flagged (raised s)) (drawn p (flagged (raised s))) = stays-drawn p (flagged (raised s)) in
     let moves : Moves (drawn p (flagged (raised s))) (moved (drawn p (flagged (raised s)))) =
-      moves-moved (drawn p (flagged (raised s))) in
+    moves-moved (drawn p (flagged (raised s))) in
     ap (λ e. e.sprite_zero_hit) moves.same ∙ ap (λ e. e.sprite_zero_hit) stays.same
-      ∙ ap (λ e. e.sprite_zero_hit) (flagged-apart (raised s) a b)
+    ∙ ap (λ e. e.sprite_zero_hit) (flagged-apart (raised s) a b)
 
 -- a hit flag that is up stays up before the event
 pub hit-after : (k : ℕ) (p : List ℕ) (s : Screen) → IsScreen s → k < to_event s → s.sprite_zero_hit ≡ true
@@ -202,7 +210,7 @@ hit-after (suc k) p s fits below up =
     let e : Screen = after_dots k p s in
     let left : to_event e + k ≡ to_event s = to_event-after k p s fits (omega (arith, below)) in
     let apart : IsEvent e → ⊥ =
-      λ at. (let one : to_event e ≡ 1 = event-one e at in absurd (omega (arith, one, left, below))) in
+    λ at. (let one : to_event e ≡ 1 = event-one e at in absurd (omega (arith, one, left, below))) in
     hit-dot p e apart ∙ ap (λ b. b || e.near) (hit-after k p s fits (omega (arith, below)) up)
 
 -- the read of $2002 by its number

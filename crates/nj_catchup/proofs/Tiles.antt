@@ -30,7 +30,7 @@ pub misses-hit : (s : Screen) → may_hit s.mask s.sprite_row s.position.dot ≡
 unfolding may_hit is_hit_pixel
 misses-hit s h =
     hit-apart (nat_lt s.position.line 240) (nat_le s.position.dot 255) (shows_both_layers s.mask)
-      (background_bit s.shift s.scroll.x)
+    (background_bit s.shift s.scroll.x)
     (shows_at s.sprite_row (s.position.dot - 1)) (is_shown_column s.mask (s.position.dot - 1)) h
 
 -- the shift register moved on by a pixel
@@ -90,7 +90,7 @@ shifted-is zero shift = refl
 shifted-is (suc n) shift =
     ap (λ k. k * 2 % 65536) (shifted-is n shift) ∙ mul-mod_first (shift * 2 ^ suc n) 2 65536
     ∙ (let e : shift * 2 ^ suc n * 2 ≡ shift * 2 ^ suc (suc n) =
-      mul_assoc shift (2 ^ suc n) 2 ∙ ap (λ k. shift * k) (sym (pow-suc 2 (suc n))) in ap (λ k. k % 65536) e)
+    mul_assoc shift (2 ^ suc n) 2 ∙ ap (λ k. shift * k) (sym (pow-suc 2 (suc n))) in ap (λ k. k % 65536) e)
 
 -- inside a tile nothing else is done
 tile-inside : (p : List ℕ) (s : Screen) (q r : ℕ) → s.position.dot ≡ q * 8 + suc r → r < 7 → tile_ended p s ≡ s
@@ -134,7 +134,7 @@ pixels zero p s q r h at inside = let e : s.position.dot ≡ s.position.dot + ze
 pixels (suc n) p s q r h at inside =
     let e : Screen = after_pixels n s in
     let before : after_dots n p s ≡ e =
-      pixels n p s q r (fewer-quiet (suc n) n s (omega arith) h) at (omega (arith, inside)) in
+    pixels n p s q r (fewer-quiet (suc n) n s (omega arith) h) at (omega (arith, inside)) in
     let quiet : IsQuiet 1 e = later-quiet (suc n) n 1 (shifted n s.shift) s (omega arith) h in
     let stays : tile_ended p (with_shift e (e.shift * 2 % 65536)) ≡ with_shift e (e.shift * 2 % 65536) =
     tile-inside p (with_shift e (e.shift * 2 % 65536)) q (r + n) (omega (arith, at)) (omega (arith, inside)) in
@@ -171,7 +171,7 @@ tile-last : (p : List ℕ) (s : Screen) (q : ℕ) → s.position.dot ≡ q * 8 +
     → at_dot (tile_ended p s) (s.position.dot + 1) ≡ line_finished (at_dot (tile_fetched p s) (s.position.dot + 1))
 tile-last p s q at = elim (cases_eq s.position.dot 256) [
   | inl last ↦
-    ap (λ (e : Screen). at_dot e (s.position.dot + 1)) (line-ends p s last) ∙ line_ended-is p s (s.position.dot + 1)
+      ap (λ (e : Screen). at_dot e (s.position.dot + 1)) (line-ends p s last) ∙ line_ended-is p s (s.position.dot + 1)
       ∙ sym (finished-last (at_dot (tile_fetched p s) (s.position.dot + 1)) (omega (arith, last)))
   | inr inner ↦ ap (λ (e : Screen). at_dot e (s.position.dot + 1)) (tile-ends p s q at inner)
       ∙ sym (finished-inner (at_dot (tile_fetched p s) (s.position.dot + 1)) (λ e. inner (omega (arith, e))))
@@ -187,13 +187,13 @@ fetched-apart p s k d = refl
 pub pixels-last : (n : ℕ) (p : List ℕ) (s : Screen) (q r : ℕ) → IsQuiet (suc n) s → s.position.dot ≡ q * 8 + suc r
     → r + n ≡ 7
     → after_dots (suc n) p s
-      ≡ line_finished (tile_fetched p (at_dot (record s { shift = shifted (suc n) s.shift }) (s.position.dot + suc n)))
+    ≡ line_finished (tile_fetched p (at_dot (record s { shift = shifted (suc n) s.shift }) (s.position.dot + suc n)))
 unfolding after_dots shifted
 pixels-last n p s q r h at whole =
     let e : Screen = after_pixels n s in
     let z : ℕ = e.shift * 2 % 65536 in
     let before : after_dots n p s ≡ e =
-      pixels n p s q r (fewer-quiet (suc n) n s (omega arith) h) at (omega (arith, whole)) in
+    pixels n p s q r (fewer-quiet (suc n) n s (omega arith) h) at (omega (arith, whole)) in
     let quiet : IsQuiet 1 e = later-quiet (suc n) n 1 (shifted n s.shift) s (omega arith) h in
     let on : s.position.dot + n + 1 ≡ s.position.dot + suc n = omega arith in
     ap (dot_of p) before ∙ quiet-dot p e quiet ∙ tile-last p (with_shift e z) q (omega (arith, at, whole))
@@ -209,8 +209,8 @@ fetched-whole : (p : List ℕ) (s : Screen)
 unfolding tile_fetched fetched_row prefetched tile_run
 fetched-whole p s =
     ap (λ n. at_dot
-      (record s { shift = n + fetched_row p s; scroll = (let c = s.scroll in record c { v = next_column c.v }) })
-      (s.position.dot + 8)) (eight-shifted s.shift)
+    (record s { shift = n + fetched_row p s; scroll = (let c = s.scroll in record c { v = next_column c.v }) })
+    (s.position.dot + 8)) (eight-shifted s.shift)
 
 pub tile : (p : List ℕ) (s : Screen) (q : ℕ) → IsQuiet 8 s → s.position.dot ≡ q * 8 + 1
     → after_dots 8 p s ≡ line_finished (tile_run p s)
@@ -238,7 +238,7 @@ next-out v at = if-true _ _ _ (eq-eqb _ _ at)
 column-after : (n v : ℕ) → v % 32 + n < 63 → next_column (columns_on n v) ≡ columns_on (suc n) v
 column-after n v within = elim (cases_lt (v % 32 + n) 31) [
   | inl inside ↦
-    ap next_column (columns-inside n v (omega (arith, inside))) ∙ next-inside (v + n) (omega (arith, inside))
+      ap next_column (columns-inside n v (omega (arith, inside))) ∙ next-inside (v + n) (omega (arith, inside))
       ∙ (let e : v + n + 1 ≡ v + suc n = omega arith in e) ∙ sym (columns-inside (suc n) v (omega (arith, inside)))
   | inr past ↦ (elim (cases_eq (v % 32 + n) 31) [
     | inl last ↦ (
@@ -269,9 +269,9 @@ jumped-on n p s z within =
     let x : ℕ = (tile_run p (with_shift (jumped n s) z)).shift in
     let d : s.position.dot + 8 * n + 8 ≡ s.position.dot + 8 * suc n = omega arith in
     ap (λ (v : ℕ). at_dot (record s { shift = x; scroll = (let c = s.scroll in record c { v = v }) })
-      (s.position.dot + 8 * n + 8)) (column-after n s.scroll.v within)
+    (s.position.dot + 8 * n + 8)) (column-after n s.scroll.v within)
     ∙ ap (at_dot
-      (record s { shift = x; scroll = (let c = s.scroll in record c { v = columns_on (suc n) s.scroll.v }) })) d
+    (record s { shift = x; scroll = (let c = s.scroll in record c { v = columns_on (suc n) s.scroll.v }) })) d
 
 jumped-none : (s : Screen) → s ≡ with_shift (jumped 0 s) s.shift
 unfolding jumped
@@ -279,7 +279,7 @@ jumped-none s =
     let d : s.position.dot ≡ s.position.dot + 8 * 0 = omega arith in
     ap (at_dot s) d
     ∙ ap (λ (v : ℕ). at_dot (record s { scroll = (let c = s.scroll in record c { v = v }) }) (s.position.dot + 8 * 0))
-      (columns-none s.scroll.v)
+    (columns-none s.scroll.v)
 
 pub tiles-jump : (n : ℕ) (p : List ℕ) (s : Screen) → n ≤ 31
     → tiles_run n p s ≡ with_shift (jumped n s) (tiles_run n p s).shift
@@ -287,7 +287,7 @@ unfolding tiles_run
 tiles-jump zero p s within = jumped-none s
 tiles-jump (suc n) p s within =
     let before : tiles_run n p s ≡ with_shift (jumped n s) (tiles_run n p s).shift =
-      tiles-jump n p s (omega (arith, within)) in
+    tiles-jump n p s (omega (arith, within)) in
     ap (tile_run p) before ∙ jumped-on n p s (tiles_run n p s).shift (omega (arith, within))
     ∙ ap (λ (x : Screen). with_shift (jumped (suc n) s) (tile_run p x).shift) (sym before)
 
@@ -298,7 +298,7 @@ tile-twice p s z =
     let e : tile_run p (tile_run p s) ≡ tile_run p (tile_run p s) = refl in
     let gone : (z % 256 * 256 + fetched_row p s) % 256 ≡ (s.shift % 256 * 256 + fetched_row p s) % 256 = omega arith in
     ap (λ (n : ℕ). let x : Screen =
-      tile_run p (tile_run p s) in with_shift x (n * 256 + fetched_row p (tile_run p s))) gone
+    tile_run p (tile_run p s) in with_shift x (n * 256 + fetched_row p (tile_run p s))) gone
 
 -- so many tiles, and one more
 jumped-quiet : (n m z : ℕ) (s : Screen) → 8 * n + 8 ≤ m → IsQuiet m s → IsQuiet 8 (with_shift (jumped n s) z)
@@ -343,11 +343,11 @@ tiles-inner (suc n) p s q h at inner =
     let e : Screen = with_shift (jumped n s) z in
     let is : tiles_run n p s ≡ e = tiles-jump n p s (omega (arith, h.last, h.from)) in
     let before : after_dots (8 * n) p s ≡ tiles_run n p s =
-      tiles-inner n p s q (fewer-quiet (8 * suc n) (8 * n) s (omega arith) h) at (omega (arith, inner)) in
+    tiles-inner n p s q (fewer-quiet (8 * suc n) (8 * n) s (omega arith) h) at (omega (arith, inner)) in
     let there : (tile_run p (tiles_run n p s)).position.dot ≡ s.position.dot + 8 * n + 8 =
-      ap (λ (x : Screen). (tile_run p x).position.dot) is ∙ tile-dot p e ∙ ap (λ d. d + 8) (jumped-dot n s) in
+    ap (λ (x : Screen). (tile_run p x).position.dot) is ∙ tile-dot p e ∙ ap (λ d. d + 8) (jumped-dot n s) in
     tiles-step n p s q h at before
-      ∙ finished-inner (tile_run p (tiles_run n p s)) (λ last. absurd (omega (arith, there, last, inner)))
+    ∙ finished-inner (tile_run p (tiles_run n p s)) (λ last. absurd (omega (arith, there, last, inner)))
 
 -- whole tiles, two of them or more
 pub tiles : (n k : ℕ) (p : List ℕ) (s : Screen) → n ≡ suc (suc k) → IsQuiet (8 * n) s → s.position.dot % 8 ≡ 1
@@ -358,9 +358,9 @@ tiles n k p s two h aligned =
     let at : s.position.dot ≡ q * 8 + 1 = omega (arith, aligned) in
     let all : IsQuiet (8 * suc (suc k)) s = subst (λ i. IsQuiet (8 * i) s) two h in
     let before : after_dots (8 * suc k) p s ≡ tiles_run (suc k) p s =
-      tiles-inner (suc k) p s q (fewer-quiet (8 * suc (suc k)) (8 * suc k) s (omega arith) all) at
-      (omega (arith, all.last)) in
+    tiles-inner (suc k) p s q (fewer-quiet (8 * suc (suc k)) (8 * suc k) s (omega arith) all) at
+    (omega (arith, all.last)) in
     ap (λ i. after_dots (8 * i) p s) two ∙ tiles-step (suc k) p s q all at before
     ∙ ap (λ (x : Screen). line_finished (tile_run p (tile_run p x)))
-      (tiles-jump k p s (omega (arith, all.last, all.from)))
+    (tiles-jump k p s (omega (arith, all.last, all.from)))
     ∙ ap line_finished (tile-twice p (jumped k s) (tiles_run k p s).shift)

@@ -65,7 +65,7 @@ fn plain_lines(screen: &Screen, most: u32) -> u16
 fn keeps_overflow(screen: &Screen) -> bool
     ensures { (line : ℕ) → result ≡ true → line < 240
         → (screen.now.sprite_overflow || overflows screen.now.oam screen.now.control line)
-          ≡ screen.now.sprite_overflow }
+        ≡ screen.now.sprite_overflow }
 {
     screen.sprite_overflow || has_few_sprites(&screen.oam)
 }

@@ -89,8 +89,13 @@ put_oam_address-fits value s h = record { placed = h.placed; fine_x = h.fine_x; 
 put_oam-fits : (value : ℕ) (s : Screen) → IsScreen s → IsScreen (put_oam value s)
 unfolding put_oam
 put_oam-fits value s h =
-    record { placed = h.placed; fine_x = h.fine_x; oam = length-set s.oam s.oam_address (oam_kept s.oam_address value)
-      ∙ h.oam; vram = h.vram }
+    record {
+      placed = h.placed;
+      fine_x = h.fine_x;
+      oam = length-set s.oam s.oam_address (oam_kept s.oam_address value)
+          ∙ h.oam;
+      vram = h.vram;
+    }
 
 put_scroll-fits : (value : ℕ) (s : Screen) → IsScreen s → IsScreen (put_scroll value s)
 unfolding put_scroll

@@ -96,7 +96,7 @@ dot_of-scroll p s h =
     let before : ScrollFits f = scroll-same s f (ap (λ (e : Screen). e.scroll) flags.same) h in
     let v : FitsV (drawn p f) = v-drawn p f (record { v = before.scroll.v }) in
     let after : ScrollFits (drawn p f) =
-      scroll-v f (drawn p f) (drawn p f).scroll.v (ap (λ (e : Screen). e.scroll) stays.same) v.v before in
+    scroll-v f (drawn p f) (drawn p f).scroll.v (ap (λ (e : Screen). e.scroll) stays.same) v.v before in
     scroll-same (drawn p f) (dot_of p s) (ap (λ (e : Screen). e.scroll) (dot_of-moved p s ∙ moves.same)) after
 
 pub after_dots-scroll : (n : ℕ) (p : List ℕ) (s : Screen) → ScrollFits s → ScrollFits (after_dots n p s)

@@ -37,8 +37,8 @@ pub blank-begins : (p : List ℕ) (s : Screen) → is_next 241 1 s ≡ true
 unfolding flagged blank_begun raised
 blank-begins p s at =
     blank-dot p s
-      ∙ ap (λ e. e.vertical_blank)
-      (if-true (is_next 241 1 (raised s)) (blank_begun (raised s)) _ (is_next-raised 241 1 s ∙ at))
+    ∙ ap (λ e. e.vertical_blank)
+    (if-true (is_next 241 1 (raised s)) (blank_begun (raised s)) _ (is_next-raised 241 1 s ∙ at))
 
 -- it ends at dot (261,1)
 pub blank-ends : (p : List ℕ) (s : Screen) → is_next 241 1 s ≡ false → is_next 261 1 s ≡ true
@@ -47,7 +47,7 @@ unfolding flagged blank_ended raised
 blank-ends p s apart at =
     blank-dot p s
     ∙ ap (λ e. e.vertical_blank) (if-false (is_next 241 1 (raised s)) _ _ (is_next-raised 241 1 s ∙ apart)
-      ∙ if-true (is_next 261 1 (raised s)) (blank_ended (raised s)) _ (is_next-raised 261 1 s ∙ at))
+    ∙ if-true (is_next 261 1 (raised s)) (blank_ended (raised s)) _ (is_next-raised 261 1 s ∙ at))
 
 -- at every other dot it stays
 pub blank-stays : (p : List ℕ) (s : Screen) → is_next 241 1 s ≡ false → is_next 261 1 s ≡ false
@@ -56,7 +56,7 @@ unfolding flagged raised
 blank-stays p s apart far =
     blank-dot p s
     ∙ ap (λ e. e.vertical_blank) (if-false (is_next 241 1 (raised s)) _ _ (is_next-raised 241 1 s ∙ apart)
-      ∙ if-false (is_next 261 1 (raised s)) _ (raised s) (is_next-raised 261 1 s ∙ far))
+    ∙ if-false (is_next 261 1 (raised s)) _ (raised s) (is_next-raised 261 1 s ∙ far))
 
 -- the two dots are not one
 two-dots : (s : Screen) → is_next 261 1 s ≡ true → is_next 241 1 s ≡ false
@@ -143,8 +143,8 @@ pub blank-read-lowers : (reg : ℕ) (p : List ℕ) (s : Screen) → s.vertical_b
 blank-read-lowers reg p s high low = elim (cases_Bool (reg == 2)) [
   | inl at ↦ eqb-true reg 2 at
   | inr other ↦
-    (let same : SameBlank s (after_read reg p s) =
-    blank-other-read reg p s other in absurd (true≢false (sym high ∙ sym same.blank ∙ low)))
+      (let same : SameBlank s (after_read reg p s) =
+      blank-other-read reg p s other in absurd (true≢false (sym high ∙ sym same.blank ∙ low)))
 ]
 
 blank-put_control : (value : ℕ) (s : Screen) → SameBlank s (put_control value s)
@@ -198,11 +198,11 @@ hit-flagged s low = elim (cases_Bool (is_next 241 1 s)) [
   | inl at ↦ ap (λ e. e.sprite_zero_hit) (if-true (is_next 241 1 s) (blank_begun s) _ at) ∙ low
   | inr apart ↦ (elim (cases_Bool (is_next 261 1 s)) [
     | inl at ↦
-      ap (λ e. e.sprite_zero_hit) (if-false (is_next 241 1 s) (blank_begun s) _ apart
-      ∙ if-true (is_next 261 1 s) (blank_ended s) s at)
+        ap (λ e. e.sprite_zero_hit) (if-false (is_next 241 1 s) (blank_begun s) _ apart
+        ∙ if-true (is_next 261 1 s) (blank_ended s) s at)
     | inr far ↦
-      ap (λ e. e.sprite_zero_hit) (if-false (is_next 241 1 s) (blank_begun s) _ apart
-      ∙ if-false (is_next 261 1 s) (blank_ended s) s far) ∙ low
+        ap (λ e. e.sprite_zero_hit) (if-false (is_next 241 1 s) (blank_begun s) _ apart
+        ∙ if-false (is_next 261 1 s) (blank_ended s) s far) ∙ low
   ])
 ]
 
@@ -345,7 +345,7 @@ hit-place-same s e at mask h =
       from = omega (arith, h.from, dot);
       last = omega (arith, h.last, dot);
       left = λ hidden_left. (let there : 9 ≤ e.position.dot =
-        h.left (ap shows_left_columns mask ∙ hidden_left) in omega (arith, there, dot));
+          h.left (ap shows_left_columns mask ∙ hidden_left) in omega (arith, there, dot));
     }
 
 pub near-dot : (p : List ℕ) (s : Screen) → (dot_of p s).near ≡ true → IsHitPlace s
@@ -355,6 +355,6 @@ near-dot p s near =
     let flags : Flags s (flagged (raised s)) = flags-flagged_raised s in
     let here : NearHere (flagged (raised s)) (drawn p (flagged (raised s))) =
     (let same : SameNear (raised s) (flagged (raised s)) =
-      near-flagged (raised s) in near-drawn p (flagged (raised s)) (same.near ∙ near-raised s)) in
+    near-flagged (raised s) in near-drawn p (flagged (raised s)) (same.near ∙ near-raised s)) in
     hit-place-same s (flagged (raised s)) (ap (λ e. e.position) flags.same) (ap (λ e. e.mask) flags.same)
     (here.place (sym (ap (λ e. e.near) (dot_of-moved p s ∙ moves.same)) ∙ near))

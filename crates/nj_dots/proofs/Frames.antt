@@ -42,7 +42,7 @@ early : (k : ℕ) (s e : Screen) → InFrame k s e → suc k < frame_length s �
 early k s e h below = elim (cases_Bool (skips s)) [
   | inl odd ↦ not-last e (omega (arith, h.place, below, frame_length-odd s odd))
   | inr whole ↦
-    not-last-whole e (omega (arith, h.place, below, frame_length-whole s whole)) (skips-same k s e h ∙ whole)
+      not-last-whole e (omega (arith, h.place, below, frame_length-whole s whole)) (skips-same k s e h ∙ whole)
 ]
 
 pub in-frame : (k : ℕ) (p : List ℕ) (s : Screen) → IsScreen s → IsStart s → k < frame_length s
@@ -65,7 +65,7 @@ in-frame (suc k) p s fits start below =
 late : (k : ℕ) (s e : Screen) → InFrame k s e → suc k ≡ frame_length s → is_last_dot e ≡ true
 late k s e h at = elim (cases_Bool (skips s)) [
   | inl odd ↦
-    is-last-odd e h.fits.placed (omega (arith, h.place, at, frame_length-odd s odd)) (skips-same k s e h ∙ odd)
+      is-last-odd e h.fits.placed (omega (arith, h.place, at, frame_length-odd s odd)) (skips-same k s e h ∙ odd)
   | inr whole ↦ is-last e h.fits.placed (omega (arith, h.place, at, frame_length-whole s whole))
 ]
 

@@ -12,16 +12,26 @@ pub length-picture_bytes : (s : Screen) → IsScreen s → length (picture_bytes
 unfolding picture_bytes
 length-picture_bytes s fits =
     let a : length (s.vram.cells ++ (s.oam ++ (s.vram.palette ++ (register_bytes s ++ replicate 38 0))))
-      ≡ length s.vram.cells + length (s.oam ++ (s.vram.palette ++ (register_bytes s ++ replicate 38 0))) =
-      length-append _ _ in
+    ≡ length s.vram.cells + length (s.oam ++ (s.vram.palette ++ (register_bytes s ++ replicate 38 0))) =
+    length-append _ _ in
     let b : length (s.oam ++ (s.vram.palette ++ (register_bytes s ++ replicate 38 0)))
-      ≡ length s.oam + length (s.vram.palette ++ (register_bytes s ++ replicate 38 0)) = length-append _ _ in
+    ≡ length s.oam + length (s.vram.palette ++ (register_bytes s ++ replicate 38 0)) = length-append _ _ in
     let c : length (s.vram.palette ++ (register_bytes s ++ replicate 38 0))
-      ≡ length s.vram.palette + length (register_bytes s ++ replicate 38 0) = length-append _ _ in
+    ≡ length s.vram.palette + length (register_bytes s ++ replicate 38 0) = length-append _ _ in
     let d : length (register_bytes s ++ replicate 38 0) ≡ length (register_bytes s) + length (replicate {A = ℕ} 38 0) =
-      length-append _ _ in
-    omega (arith, a, b, c, d, fits.vram.cells, fits.oam, fits.vram.palette, length-register_bytes s,
-      length-replicate {A = ℕ} 38 0)
+    length-append _ _ in
+    omega (
+      arith,
+      a,
+      b,
+      c,
+      d,
+      fits.vram.cells,
+      fits.oam,
+      fits.vram.palette,
+      length-register_bytes s,
+      length-replicate {A = ℕ} 38 0,
+    )
 
 -- a list behind which 2,400 bytes stand from byte 2,048 on has them as its picture's part
 pub part-of : (head bytes tail : List ℕ) → length head ≡ 2048 → length bytes ≡ 2400
@@ -39,7 +49,7 @@ pub part-with_picture : (s : Screen) (image : List ℕ) → IsScreen s → 4448 
 unfolding with_picture
 part-with_picture s image fits long =
     part-of (take 2048 image) (picture_bytes s) (drop 4448 image) (front-length image long)
-      (length-picture_bytes s fits)
+    (length-picture_bytes s fits)
 
 pub take-with_picture : (s : Screen) (image : List ℕ) → 4448 ≤ length image
     → take 2048 (with_picture s image) ≡ take 2048 image
@@ -59,9 +69,9 @@ pub length-with_picture : (s : Screen) (image : List ℕ) → IsScreen s → 444
 unfolding with_picture
 length-with_picture s image fits long =
     let a : length (take 2048 image ++ (picture_bytes s ++ drop 4448 image))
-      ≡ length (take 2048 image) + length (picture_bytes s ++ drop 4448 image) = length-append _ _ in
+    ≡ length (take 2048 image) + length (picture_bytes s ++ drop 4448 image) = length-append _ _ in
     let b : length (picture_bytes s ++ drop 4448 image) ≡ length (picture_bytes s) + length (drop 4448 image) =
-      length-append _ _ in
+    length-append _ _ in
     omega (arith, a, b, front-length image long, length-picture_bytes s fits, length-drop 4448 image, long)
 
 -- an image that holds a picture gives it again, whatever picture of its mirroring reads it

@@ -91,11 +91,11 @@ goes-on p s does_not =
     let st : Stands s b = before_move-stands p s in
     let same : is_last_dot b ≡ is_last_dot s =
     ap (λ (q : Position). (q.line == 261 && q.dot == 340)
-      || ((q.line == 261 && q.dot == 339) && b.odd_frame && is_rendering b.mask)) st.position
+    || ((q.line == 261 && q.dot == 339) && b.odd_frame && is_rendering b.mask)) st.position
     ∙ ap (λ (o : Bool). (s.position.line == 261 && s.position.dot == 340)
-      || ((s.position.line == 261 && s.position.dot == 339) && o && is_rendering b.mask)) st.odd_frame
+    || ((s.position.line == 261 && s.position.dot == 339) && o && is_rendering b.mask)) st.odd_frame
     ∙ ap (λ (m : ℕ). (s.position.line == 261 && s.position.dot == 340)
-      || ((s.position.line == 261 && s.position.dot == 339) && s.odd_frame && is_rendering m)) st.mask in
+    || ((s.position.line == 261 && s.position.dot == 339) && s.odd_frame && is_rendering m)) st.mask in
     let is : dot_of p s ≡ advanced b = dot_of-moved p s ∙ if-false (is_last_dot b) _ _ (same ∙ does_not) in
     record {
       position = ap (λ e. e.position) is ∙ ap after_position st.position;
@@ -116,11 +116,11 @@ restarts p s does =
     let st : Stands s b = before_move-stands p s in
     let same : is_last_dot b ≡ is_last_dot s =
     ap (λ (q : Position). (q.line == 261 && q.dot == 340)
-      || ((q.line == 261 && q.dot == 339) && b.odd_frame && is_rendering b.mask)) st.position
+    || ((q.line == 261 && q.dot == 339) && b.odd_frame && is_rendering b.mask)) st.position
     ∙ ap (λ (o : Bool). (s.position.line == 261 && s.position.dot == 340)
-      || ((s.position.line == 261 && s.position.dot == 339) && o && is_rendering b.mask)) st.odd_frame
+    || ((s.position.line == 261 && s.position.dot == 339) && o && is_rendering b.mask)) st.odd_frame
     ∙ ap (λ (m : ℕ). (s.position.line == 261 && s.position.dot == 340)
-      || ((s.position.line == 261 && s.position.dot == 339) && s.odd_frame && is_rendering m)) st.mask in
+    || ((s.position.line == 261 && s.position.dot == 339) && s.odd_frame && is_rendering m)) st.mask in
     let is : dot_of p s ≡ frame_begun b = dot_of-moved p s ∙ if-true (is_last_dot b) _ _ (same ∙ does) in
     record {
       start = record { line = ap (λ e. e.position.line) is; dot = ap (λ e. e.position.dot) is };

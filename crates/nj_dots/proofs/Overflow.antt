@@ -74,7 +74,7 @@ unfolding shown
 overflow-aside p s aside =
     overflow-if _ s _ _ (overflow-tile p s) (overflow-else _ s _ _ aside
     (overflow-if _ s _ _ (overflow-sprites_fetched s)
-      (overflow-if _ s _ _ (overflow-prefetched p s) (overflow-refl s))))
+    (overflow-if _ s _ _ (overflow-prefetched p s) (overflow-refl s))))
 
 no-pixel : (dot : ℕ) → (dot == 257) ≡ true → (nat_le 1 dot && nat_le dot 256) ≡ false
 no-pixel dot at = grind (arith, nat_tests, at)
@@ -119,25 +119,25 @@ overflow-drawn p s = elim (cases_Bool (is_drawn_line s.position.line)) [
   | inl draws ↦ (elim (cases_Bool (is_rendering s.mask)) [
     | inl on ↦
         ap (λ e. e.sprite_overflow) (if-true (is_drawn_line s.position.line) _ s draws
-          ∙ if-true (is_rendering s.mask) (shown p s) (hidden s) on)
+        ∙ if-true (is_rendering s.mask) (shown p s) (hidden s) on)
         ∙ overflow-shown p s
         ∙ sym (ap
-          (λ b. s.sprite_overflow || (b && (s.position.dot == 257 && overflows s.oam s.control s.position.line))) on)
+        (λ b. s.sprite_overflow || (b && (s.position.dot == 257 && overflows s.oam s.control s.position.line))) on)
     | inr off ↦ (
         let same : SameOverflow s (hidden s) = overflow-hidden s in
         ap (λ e. e.sprite_overflow) (if-true (is_drawn_line s.position.line) _ s draws
-          ∙ if-false (is_rendering s.mask) (shown p s) (hidden s) off)
+        ∙ if-false (is_rendering s.mask) (shown p s) (hidden s) off)
         ∙ same.overflow
         ∙ or-none s.sprite_overflow
-          (is_rendering s.mask && (s.position.dot == 257 && overflows s.oam s.control s.position.line))
+        (is_rendering s.mask && (s.position.dot == 257 && overflows s.oam s.control s.position.line))
         (ap (λ b. b && (s.position.dot == 257 && overflows s.oam s.control s.position.line)) off))
   ])
   | inr below ↦
       ap (λ e. e.sprite_overflow) (if-false (is_drawn_line s.position.line) _ s below)
       ∙ or-none s.sprite_overflow
-        (is_rendering s.mask && (s.position.dot == 257 && overflows s.oam s.control s.position.line))
+      (is_rendering s.mask && (s.position.dot == 257 && overflows s.oam s.control s.position.line))
       (and-none (is_rendering s.mask) _
-        (and-none (s.position.dot == 257) _ (no-overflow-below s.oam s.control s.position.line below)))
+      (and-none (s.position.dot == 257) _ (no-overflow-below s.oam s.control s.position.line below)))
 ]
 
 -- a dot: its flag step, and then dot 257
@@ -176,7 +176,7 @@ pub overflow-apart : (p : List ℕ) (s : Screen) → is_next 261 1 s ≡ false
     → (dot_of p s).sprite_overflow ≡ (s.sprite_overflow || raises_overflow s)
 overflow-apart p s apart =
     let same : SameOverflow (raised s) (flagged (raised s)) =
-      overflow-flagged (raised s) (raised-next 261 1 s ∙ apart) in
+    overflow-flagged (raised s) (raised-next 261 1 s ∙ apart) in
     overflow-dot p s ∙ ap (λ b. b || raises_overflow s) (same.overflow ∙ overflow-raised s)
 
 -- the places of the two
@@ -215,7 +215,7 @@ unfolding flagged blank_ended is_next
 flagged-falls s at =
     let first : (s.position.line == 241 && s.position.dot == 1) ≡ false = grind (arith, nat_tests, at.line) in
     ap (λ e. e.sprite_overflow) (if-false _ _ _ first
-      ∙ if-true (is_next 261 1 s) (blank_ended s) s (is-next 261 1 s at))
+    ∙ if-true (is_next 261 1 s) (blank_ended s) s (is-next 261 1 s at))
 
 next-raised : (s : Screen) → IsNext 261 1 s → IsNext 261 1 (raised s)
 unfolding raised
@@ -259,7 +259,7 @@ unfolding after_read
 overflow-read reg p s =
     overflow-if _ s _ _ (overflow-after_status s)
     (overflow-if _ s _ _ (overflow-after_oam_read s)
-      (overflow-if _ s _ _ (overflow-after_data_read p s) (overflow-refl s)))
+    (overflow-if _ s _ _ (overflow-after_data_read p s) (overflow-refl s)))
 
 overflow-put_control : (value : ℕ) (s : Screen) → SameOverflow s (put_control value s)
 unfolding put_control

@@ -71,7 +71,7 @@ vertical_copied-is : (s : Screen) → vertical_copied s ≡ (let c = s.scroll in
 unfolding vertical_copied
 vertical_copied-is s =
     scroll-v-if (s.position.line == 261 && nat_le 280 s.position.dot && nat_le s.position.dot 304) s.scroll
-      (with_vertical s.scroll.t s.scroll.v)
+    (with_vertical s.scroll.t s.scroll.v)
 
 pub stays-sprites_fetched : (s : Screen) → Stays s (sprites_fetched s)
 unfolding sprites_fetched

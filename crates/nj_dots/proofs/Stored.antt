@@ -22,7 +22,7 @@ pub put_is : (s : Screen) (image : List ℕ) → IsScreen s → 4448 ≤ length 
 unfolding with_picture picture_bytes
 put_is s image fits long =
     overwritten-five 2048 4096 4352 4384 4410 4448 s.vram.cells s.oam s.vram.palette (register_bytes s) (replicate 38 0)
-      image
+    image
     (omega (arith, fits.vram.cells)) (omega (arith, fits.oam)) (omega (arith, fits.vram.palette))
     (omega (arith, length-register_bytes s)) (omega (arith, length-replicate {A = ℕ} 38 0)) (omega arith)
 
@@ -33,9 +33,9 @@ pub stored_pieces : (s : Screen) (image : List ℕ) → IsScreen s → 4448 ≤ 
 unfolding picture_part picture_bytes
 stored_pieces s image fits long known =
     take-pieces 2048 4096 4352 4384 2048 256 32 26 38 s.vram.cells s.oam s.vram.palette (register_bytes s)
-      (replicate 38 0) image
+    (replicate 38 0) image
     fits.vram.cells fits.oam fits.vram.palette (length-register_bytes s) (omega arith) (omega arith) (omega arith) long
-      known
+    known
 
 -- a word, a flag and a sprite row are read again as they were written
 word-back : (n : ℕ) → n % 256 + 256 * (n / 256) ≡ n
@@ -85,7 +85,7 @@ put_chain s image i1 i2 i3 i4 i5 registers fits long e1 e2 e3 er e4 e5 =
     let three : i3 ≡ overwritten 4352 s.vram.palette (overwritten 4096 s.oam (overwritten 2048 s.vram.cells image)) =
     e3 ∙ ap (overwritten 4352 s.vram.palette) two in
     let four : i4
-      ≡ overwritten 4384 (register_bytes s)
-      (overwritten 4352 s.vram.palette (overwritten 4096 s.oam (overwritten 2048 s.vram.cells image))) =
+    ≡ overwritten 4384 (register_bytes s)
+    (overwritten 4352 s.vram.palette (overwritten 4096 s.oam (overwritten 2048 s.vram.cells image))) =
     e4 ∙ ap (λ bytes. overwritten 4384 bytes i3) er ∙ ap (overwritten 4384 (register_bytes s)) three in
     e5 ∙ ap (overwritten 4410 (replicate 38 0)) four ∙ put_is s image fits long

@@ -136,7 +136,7 @@ timing-drawn : (p : List ℕ) (s : Screen) → is_rendering s.mask ≡ false →
 unfolding drawn
 timing-drawn p s off =
     timing-if _ s _ _ (timing-choice (is_rendering s.mask) s (shown p s) (hidden s) off (timing-hidden s))
-      (timing-refl s)
+    (timing-refl s)
 
 timing-flags : (s e : Screen) → Flags s e → ChangesTimingAlone s e
 timing-flags s e h = record { same = h.same ∙ ap (λ m. with_timing s m) (sym h.same) }

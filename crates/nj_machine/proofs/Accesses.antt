@@ -152,21 +152,31 @@ unfolding register_read
 register_read-stays rom reg w h =
     accessed rom w (screen_after_read reg (pattern_of w.cells.board) w.cells.screen) h
     (after_read-fits reg (pattern_of w.cells.board) w.cells.screen h.sized.screen)
-      (same-read reg (pattern_of w.cells.board) w.cells.screen)
+    (same-read reg (pattern_of w.cells.board) w.cells.screen)
 
 port_one_read-stays : (rom : Rom) (w : Wired) → Keeps rom w → Stays rom w (port_one_read w)
 unfolding port_one_read
 port_one_read-stays rom w h =
-    record { stays =
-      record { sized = record { screen = h.sized.screen; ram = h.sized.ram; board = h.sized.board };
-      of_rom = h.of_rom }; fewer = omega arith }
+    record {
+      stays =
+          record {
+            sized = record { screen = h.sized.screen; ram = h.sized.ram; board = h.sized.board };
+            of_rom = h.of_rom;
+          };
+      fewer = omega arith;
+    }
 
 port_two_read-stays : (rom : Rom) (w : Wired) → Keeps rom w → Stays rom w (port_two_read w)
 unfolding port_two_read
 port_two_read-stays rom w h =
-    record { stays =
-      record { sized = record { screen = h.sized.screen; ram = h.sized.ram; board = h.sized.board };
-      of_rom = h.of_rom }; fewer = omega arith }
+    record {
+      stays =
+          record {
+            sized = record { screen = h.sized.screen; ram = h.sized.ram; board = h.sized.board };
+            of_rom = h.of_rom;
+          };
+      fewer = omega arith;
+    }
 
 -- what a read changes
 answered-stays : (rom : Rom) (w : Wired) (at : ℕ) → Keeps rom w → Stays rom w (answered w at)
@@ -183,8 +193,11 @@ unfolding ram_put
 ram_put-stays rom place value w h =
     record {
       stays = record {
-        sized = record { screen = h.sized.screen; ram = length-set w.cells.ram place value ∙ h.sized.ram;
-          board = h.sized.board };
+        sized = record {
+          screen = h.sized.screen;
+          ram = length-set w.cells.ram place value ∙ h.sized.ram;
+          board = h.sized.board;
+        };
         of_rom = h.of_rom;
       };
       fewer = omega arith;
@@ -198,8 +211,11 @@ register_put-stays rom reg value w h =
     let board = keeps-put w.cells.board (to_pattern reg value w.cells.screen) h.sized.board in
     record {
       stays = record {
-        sized = record { screen = after_write-fits reg value w.cells.screen h.sized.screen; ram = h.sized.ram;
-          board = board.sized };
+        sized = record {
+          screen = after_write-fits reg value w.cells.screen h.sized.screen;
+          ram = h.sized.ram;
+          board = board.sized;
+        };
         of_rom = board.rom e.vram.vertical ∙ ap (λ v. rom_in w.cells.board v) same.vertical ∙ h.of_rom;
       };
       fewer = omega (arith, same_left w.cells.screen e same);
@@ -208,16 +224,26 @@ register_put-stays rom reg value w h =
 copy_asked-stays : (rom : Rom) (page : ℕ) (w : Wired) → Keeps rom w → Stays rom w (copy_asked page w)
 unfolding copy_asked
 copy_asked-stays rom page w h =
-    record { stays =
-      record { sized = record { screen = h.sized.screen; ram = h.sized.ram; board = h.sized.board };
-      of_rom = h.of_rom }; fewer = omega arith }
+    record {
+      stays =
+          record {
+            sized = record { screen = h.sized.screen; ram = h.sized.ram; board = h.sized.board };
+            of_rom = h.of_rom;
+          };
+      fewer = omega arith;
+    }
 
 ports_strobed-stays : (rom : Rom) (value : ℕ) (w : Wired) → Keeps rom w → Stays rom w (ports_strobed value w)
 unfolding ports_strobed
 ports_strobed-stays rom value w h =
-    record { stays =
-      record { sized = record { screen = h.sized.screen; ram = h.sized.ram; board = h.sized.board };
-      of_rom = h.of_rom }; fewer = omega arith }
+    record {
+      stays =
+          record {
+            sized = record { screen = h.sized.screen; ram = h.sized.ram; board = h.sized.board };
+            of_rom = h.of_rom;
+          };
+      fewer = omega arith;
+    }
 
 -- a write to the board
 board_put-stays : (rom : Rom) (at value : ℕ) (w : Wired) → Keeps rom w → Stays rom w (board_put at value w)
@@ -246,16 +272,26 @@ written-stays rom w at value h =
 over-stays : (rom : Rom) (w : Wired) (byte : ℕ) → Keeps rom w → Stays rom w (over byte w)
 unfolding over
 over-stays rom w byte h =
-    record { stays =
-      record { sized = record { screen = h.sized.screen; ram = h.sized.ram; board = h.sized.board };
-      of_rom = h.of_rom }; fewer = omega arith }
+    record {
+      stays =
+          record {
+            sized = record { screen = h.sized.screen; ram = h.sized.ram; board = h.sized.board };
+            of_rom = h.of_rom;
+          };
+      fewer = omega arith;
+    }
 
 taken-stays : (rom : Rom) (w : Wired) → Keeps rom w → Stays rom w (page_taken w)
 unfolding page_taken
 taken-stays rom w h =
-    record { stays =
-      record { sized = record { screen = h.sized.screen; ram = h.sized.ram; board = h.sized.board };
-      of_rom = h.of_rom }; fewer = omega arith }
+    record {
+      stays =
+          record {
+            sized = record { screen = h.sized.screen; ram = h.sized.ram; board = h.sized.board };
+            of_rom = h.of_rom;
+          };
+      fewer = omega arith;
+    }
 
 reads-lower : (rom : Rom) (w : Wired) (at : ℕ) → Keeps rom w → Lower (Keeps rom) left_of 3 w (after_read w at)
 unfolding after_read
@@ -263,7 +299,7 @@ reads-lower rom w at h =
     let dots = dots_run-lowers rom w h in
     let access = answered-stays rom (dots_run w) at dots.stays in
     lower-and (Keeps rom) left_of 3 _ _ _ (lower-and (Keeps rom) left_of 3 _ _ _ dots access)
-      (over-stays rom (answered (dots_run w) at) (byte_read w at) access.stays)
+    (over-stays rom (answered (dots_run w) at) (byte_read w at) access.stays)
 
 writes-lower : (rom : Rom) (w : Wired) (at value : ℕ) → Keeps rom w
     → Lower (Keeps rom) left_of 3 w (after_write w at value)
@@ -272,7 +308,7 @@ writes-lower rom w at value h =
     let dots = dots_run-lowers rom w h in
     let access = written-stays rom (dots_run w) at value dots.stays in
     lower-and (Keeps rom) left_of 3 _ _ _ (lower-and (Keeps rom) left_of 3 _ _ _ dots access)
-      (over-stays rom (written (dots_run w) at value) value access.stays)
+    (over-stays rom (written (dots_run w) at value) value access.stays)
 
 -- every access of the machine's bus
 pub wires-lower : (rom : Rom) → Lowers wires (Keeps rom) left_of 3

@@ -85,16 +85,16 @@ sized_by cart h =
     elim h.board [
       | inl n ↦ record { board = inl (of_nrom cart n); bank = nrom_bank (memory_of cart) (of_nrom cart n) }
       | inr (inl u) ↦
-        record { board = inr (inl (of_uxrom cart u)); bank = uxrom_bank (memory_of cart) (of_uxrom cart u) }
+          record { board = inr (inl (of_uxrom cart u)); bank = uxrom_bank (memory_of cart) (of_uxrom cart u) }
       | inr (inr c) ↦
-        record { board = inr (inr (of_cnrom cart c)); bank = cnrom_bank (memory_of cart) (of_cnrom cart c) }
+          record { board = inr (inr (of_cnrom cart c)); bank = cnrom_bank (memory_of cart) (of_cnrom cart c) }
     ]
 
 -- the state at power-on is ready
 pub begun_ready : (cart : Cartridge) → IsCartridge cart → IsReady (power_on cart)
 begun_ready cart h =
     let made : Made cart (powered_on (reset_vector (memory_of cart))) (screen_at_power_on cart.vertical)
-      (replicate 2048 0) (memory_of cart) port_at_power_on port_at_power_on =
+    (replicate 2048 0) (memory_of cart) port_at_power_on port_at_power_on =
     record { registers = refl; picture = refl; zeros = refl; memory = refl; first = refl; second = refl } in
     subst IsReady (made_is cart _ _ _ _ _ _ made) (made_ready cart _ _ _ _ _ _ made (sized_by cart h))
 

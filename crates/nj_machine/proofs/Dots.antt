@@ -83,11 +83,11 @@ move_restarts : (s t : Screen) → IsPlaced s.position → Marked (is_next 241 1
 unfolding frame_begun is_last_dot is_next
 move_restarts s t h m last =
     let moved_last : ((s.position.line == 261 && s.position.dot == 340)
-      || ((s.position.line == 261 && s.position.dot == 339) && t.odd_frame && is_rendering t.mask)) ≡ true =
+    || ((s.position.line == 261 && s.position.dot == 339) && t.odd_frame && is_rendering t.mask)) ≡ true =
     ap (λ (p : Position). (p.line == 261 && p.dot == 340)
-      || ((p.line == 261 && p.dot == 339) && t.odd_frame && is_rendering t.mask)) (sym m.place) ∙ last in
+    || ((p.line == 261 && p.dot == 339) && t.odd_frame && is_rendering t.mask)) (sym m.place) ∙ last in
     let place : AtLast s.position.line s.position.dot =
-      last_place s.position.line s.position.dot t.odd_frame (is_rendering t.mask) moved_last in
+    last_place s.position.line s.position.dot t.odd_frame (is_rendering t.mask) moved_last in
     record {
       fewer = rw m.mark (restarted s.position.line s.position.dot s.ended place.at_line place.at_dot h.dot);
       vertical = ap (λ v. v.vertical) m.memory;
@@ -100,11 +100,11 @@ move_advances s t h m =
       fewer =
           rw (m.mark, m.place)
           (choice (λ (p : Position). still p.line p.dot ((s.position.line == 241 && s.position.dot == 1) || s.ended)
-            ≤ still_left s - 1) (s.position.dot == 340) _ _
+          ≤ still_left s - 1) (s.position.dot == 340) _ _
           (λ e. let at : s.position.dot ≡ 340 =
-            grind (arith, nat_tests) in turned s.position.line s.position.dot s.ended h.line at)
+          grind (arith, nat_tests) in turned s.position.line s.position.dot s.ended h.line at)
           (λ e. let below : s.position.dot < 340 =
-            grind (arith, nat_tests, h.dot) in onward s.position.line s.position.dot s.ended h.line below));
+          grind (arith, nat_tests, h.dot) in onward s.position.line s.position.dot s.ended h.line below));
       vertical = ap (λ v. v.vertical) m.memory;
     }
 
@@ -113,7 +113,7 @@ unfolding dot_of moved
 dot-falls p s h =
     let marked = marked-drawn _ p s _ (marked-flagged s) in
     choice (Falls 1 s) (is_last_dot (drawn p (flagged (raised s)))) _ _ (move_restarts s _ h.placed marked)
-      (λ _. move_advances s _ h.placed marked)
+    (λ _. move_advances s _ h.placed marked)
 
 -- n dots lower the number by n
 pub dots-fall : (n : ℕ) (p : List ℕ) (s : Screen) → IsScreen s
@@ -122,6 +122,7 @@ unfolding after_dots
 dots-fall zero p s h = (h, record { fewer = omega arith; vertical = refl })
 dots-fall (suc n) p s h =
     let before = dots-fall n p s h in
-    let last = dot-falls p (after_dots n p s) before.0 in
-    (dot_of-fits p _ before.0,
-      record { fewer = omega (arith, last.fewer, before.1.fewer); vertical = last.vertical ∙ before.1.vertical })
+    let last = dot-falls p (after_dots n p s) before.0 in (
+      dot_of-fits p _ before.0,
+      record { fewer = omega (arith, last.fewer, before.1.fewer); vertical = last.vertical ∙ before.1.vertical },
+    )

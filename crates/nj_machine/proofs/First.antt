@@ -19,7 +19,7 @@ one_more pad s t n end e first = record { before = before; at_ = rw e first.at_ 
 first_by : (fuel : ℕ) (s : State) (pad : ℕ) (end : Option FrameEnd) → IsReady s → dots_left s ≤ suc fuel
     → (unit_step pad s).1 ≡ end →
     ((t : State) → GoesOn s t → unit_step pad s ≡ (t, None) → (n : ℕ) × IsFirstEnd t pad n (frame t pad))
-      → (n : ℕ) × IsFirstEnd s pad n (frame s pad)
+    → (n : ℕ) × IsFirstEnd s pad n (frame s pad)
 first_by fuel s pad (Some end) ready h e rest = (
   0,
   record {
@@ -40,7 +40,7 @@ first_within : (fuel : ℕ) (s : State) (pad : ℕ) → IsReady s → dots_left 
 first_within zero s pad ready h = absurd (omega (arith, left_positive s ready))
 first_within (suc fuel) s pad ready h =
     first_by fuel s pad (unit_step pad s).1 ready h refl
-      (λ t next step. first_within fuel t pad next.ready (omega (arith, next.fewer)))
+    (λ t next step. first_within fuel t pad next.ready (omega (arith, next.fewer)))
 
 pub first : (s : State) (pad : ℕ) → IsReady s → (n : ℕ) × IsFirstEnd s pad n (frame s pad)
 first s pad ready = first_within (dots_left s) s pad ready (omega arith)

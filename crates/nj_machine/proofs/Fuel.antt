@@ -1,5 +1,5 @@
 -- The fuel of a frame is enough: a unit that does not end the frame leaves fewer dots up to dot (241,1).
-use Rattle.std.proofs.Common.{◌≡◌, ℕ, zero, suc, ◌<◌, ◌≤◌, true, List, [], ◌∷◌, Option, Some, None, refl, sym, ap, ◌∙◌, subst, arith}
+use Rattle.std.proofs.Common.{◌≡◌, ℕ, zero, suc, ◌<◌, ◌≤◌, true, false, List, [], ◌∷◌, Option, Some, None, refl, sym, ap, ◌∙◌, subst, arith}
 use Rattle.nj_ines.specs.Cartridge.{Cartridge}
 use Rattle.nj_machine.specs.State.{State, rom_of, is_jammed, power_on}
 use Rattle.nj_machine.specs.Frame.{dots_left, unit_step, or_on, units_until, frame, frames, play, IsReady}
@@ -30,8 +30,8 @@ enough pad (suc n) zero s h p q = absurd (omega (arith, left_positive s h))
 enough pad (suc n) (suc m) s h p q =
     or_on_same (unit_step pad s).0 (unit_step pad s).1 (units_until pad n) (units_until pad m)
     (λ e. let next =
-      goes_on pad s h e in
-      enough pad n m (unit_step pad s).0 next.ready (omega (arith, next.fewer)) (omega (arith, next.fewer)))
+    goes_on pad s h e in
+    enough pad n m (unit_step pad s).0 next.ready (omega (arith, next.fewer)) (omega (arith, next.fewer)))
 
 -- the frame by its first unit
 frame_unfolds : (s : State) (pad : ℕ) → IsReady s
@@ -77,7 +77,7 @@ unfolding units_until
 units-leave pad zero s h = record { ready = h; of_rom = refl }
 units-leave pad (suc n) s h =
     leaves-or_on s (unit_step pad s).0 (unit_step pad s).1 (units_until pad n) (unit_leaves pad s h)
-      (λ u k. units-leave pad n u k)
+    (λ u k. units-leave pad n u k)
 
 pub frame_leaves : (s : State) (pad : ℕ) → IsReady s → Leaves s (frame s pad).0
 unfolding frame
@@ -88,13 +88,14 @@ pub frames_leave : (s : State) (pads : List ℕ) → IsReady s → Leaves s (fra
 frames_leave s [] h = record { ready = h; of_rom = refl }
 frames_leave s (pad ∷ pads) h =
     let first =
-      frame_leaves s pad h in
-      leaves-then s (frame s pad).0 (frames (frame s pad).0 pads) first (frames_leave (frame s pad).0 pads first.ready)
+    frame_leaves s pad h in
+    leaves-then s (frame s pad).0 (frames (frame s pad).0 pads) first (frames_leave (frame s pad).0 pads first.ready)
 
 pub played : (cart : Cartridge) (movie : List ℕ) → IsReady (power_on cart) → Leaves (power_on cart) (play cart movie)
 played cart movie h = frames_leave (power_on cart) movie h
 
--- within a frame: what is left of it is the frame that began, and the cartridge is the same
+-- within a frame: what is left of it is the frame that began, the cartridge is the same, and no unit has jammed
 pub record StillIn (pad : ℕ) (began now : State) : Type 0 where
   pub same_frame : frame now pad ≡ frame began pad
   pub same_rom : rom_of now ≡ rom_of began
+  pub running : is_jammed now ≡ false

@@ -48,10 +48,12 @@ unfolding of_image cells_at rom_of bank_count board_at
 bank_below s image bytes board h rest is_board =
     let whole = board-is s.cells.board s.cells.screen.vram.vertical image (slice_index bytes 25) in
     let below = h.ready.sized.board.bank in
-    rw (is_board,
-      rest) (subst (λ m. slice_index (take 32 (drop 4448 image)) 25 < bank_count m)
-      (sym (board-is s.cells.board s.cells.screen.vram.vertical image (slice_index (take 32 (drop 4448 image)) 25)))
-      below)
+    rw (
+      is_board,
+      rest,
+    ) (subst (λ m. slice_index (take 32 (drop 4448 image)) 25 < bank_count m)
+    (sym (board-is s.cells.board s.cells.screen.vram.vertical image (slice_index (take 32 (drop 4448 image)) 25)))
+    below)
 
 -- the parts that a machine read from an image
 pub record Read (s : State) (image bytes : List ℕ) (cpu : Cpu) (screen : Screen) (ram : List ℕ) (board : Banks)
@@ -70,7 +72,7 @@ pub load_chain : (s : State) (image bytes : List ℕ) (cpu : Cpu) (screen : Scre
     (page : Option ℕ) (odd : Bool) (one two : Port) →
     Read s image bytes cpu screen ram board page odd one two →
     record { cpu = cpu; cells = cells_of screen ram board (slice_index bytes 21) page odd one two }
-      ≡ of_image (rom_of s) image
+    ≡ of_image (rom_of s) image
 unfolding of_image cells_at rom_of
 load_chain s image bytes cpu screen ram board page odd one two r =
     let is_board = r.board_is ∙ board-is s.cells.board s.cells.screen.vram.vertical image (slice_index bytes 25) in

@@ -29,13 +29,13 @@ parts_of ram picture rest pattern r p m =
     let behind_ram = drop_at ram (picture ++ (rest ++ pattern)) 2048 r in
     let behind_picture : drop 4448 (ram ++ (picture ++ (rest ++ pattern))) ≡ rest ++ pattern =
     sym (drop-drop 2400 2048 (ram ++ (picture ++ (rest ++ pattern)))) ∙ ap (drop 2400) behind_ram
-      ∙ drop_at picture (rest ++ pattern) 2400 p in
+    ∙ drop_at picture (rest ++ pattern) 2400 p in
     record {
       first = take_at ram (picture ++ (rest ++ pattern)) 2048 r;
       second = ap (take 2400) behind_ram ∙ take_at picture (rest ++ pattern) 2400 p;
       third = ap (take 32) behind_picture ∙ take_at rest pattern 32 m;
       last = sym (drop-drop 32 4448 (ram ++ (picture ++ (rest ++ pattern)))) ∙ ap (drop 32) behind_picture
-        ∙ drop_at rest pattern 32 m;
+          ∙ drop_at rest pattern 32 m;
     }
 
 -- the picture's part has 2,400 bytes
@@ -56,11 +56,11 @@ length-rest s = length-append (rest_bytes s) (replicate 6 0) ∙ ap (λ n. 26 + 
 
 pub image_parts : (s : State) → IsReady s →
     Parts (image_of s) s.cells.ram (picture_bytes s.cells.screen) (rest_bytes s ++ replicate 6 0)
-      (pattern_ram s.cells.board.chr_ram s.cells.board.chr)
+    (pattern_ram s.cells.board.chr_ram s.cells.board.chr)
 unfolding image_of
 image_parts s h =
     parts_of s.cells.ram (picture_bytes s.cells.screen) (rest_bytes s ++ replicate 6 0)
-      (pattern_ram s.cells.board.chr_ram s.cells.board.chr)
+    (pattern_ram s.cells.board.chr_ram s.cells.board.chr)
     h.sized.ram (length-picture_bytes s.cells.screen h.sized.screen) (length-rest s)
 
 -- bytes, flags, notes and pages are read again as they were written
@@ -91,7 +91,7 @@ screen-back : (s : Screen) (image : List ℕ) → IsScreen s → s.ended ≡ fal
 unfolding screen_at screen_at_power_on blank
 screen-back s image fits unmarked long holds =
     get_is s (screen_at_power_on s.vram.vertical) _ _ _ _ image
-      (record { fits = fits; unmarked = unmarked; bytes = holds }) refl long refl refl refl refl
+    (record { fits = fits; unmarked = unmarked; bytes = holds }) refl long refl refl refl refl
 
 -- the board is read again
 board-by : (b : Bool) (prg chr : List ℕ) (ram : List ℕ) → ram ≡ pattern_ram b chr
@@ -155,11 +155,11 @@ again s h =
     let cells =
     cells-back s
     ∙ ap (λ x. cells_of x (take 2048 image) (board_at (rom_of s) image s.cells.board.bank) s.cells.bus_byte s.cells.page
-      s.cells.odd s.cells.port_one s.cells.port_two) screen
+    s.cells.odd s.cells.port_one s.cells.port_two) screen
     ∙ ap (λ x. cells_of s.cells.screen x (board_at (rom_of s) image s.cells.board.bank) s.cells.bus_byte s.cells.page
-      s.cells.odd s.cells.port_one s.cells.port_two) parts.first
+    s.cells.odd s.cells.port_one s.cells.port_two) parts.first
     ∙ ap (λ x. cells_of s.cells.screen s.cells.ram x s.cells.bus_byte s.cells.page s.cells.odd s.cells.port_one
-      s.cells.port_two) board in
+    s.cells.port_two) board in
     ap (λ bytes. record { cpu = cpu_at bytes; cells = cells_at (rom_of s) image bytes }) parts.third
     ∙ ap (λ x. record { cpu = x; cells = cells_at (rom_of s) image (rest_bytes s ++ replicate 6 0) }) (cpu-back s)
     ∙ ap (λ x. record { cpu = s.cpu; cells = x }) cells

@@ -91,18 +91,18 @@ module _ {Held : Type 0} (acts : Acts Held) where
       let t : Walk (Recorded Held) = transferred (recording acts) op a.transfer at w in
       behind-chosen (is_made a.when_ op w) (moved a.then_ t) w
       ∙ ap (λ v. cond (is_made a.when_ op w) v (behind w)) (behind-moved a.then_ t
-        ∙ ap (moved a.then_) (behind-transferred op a.transfer at w))
+      ∙ ap (moved a.then_) (behind-transferred op a.transfer at w))
       ∙ ap (λ b. cond b (moved a.then_ (transferred acts op a.transfer at (behind w))) (behind w))
-        (sym (behind-made a.when_ op w))
+      (sym (behind-made a.when_ op w))
       ∙ ap (λ n. cond (is_made a.when_ op (behind w)) (moved a.then_ (transferred acts op a.transfer n (behind w)))
-        (behind w)) (sym (behind-address a.place w))
+      (behind w)) (sym (behind-address a.place w))
 
   -- accesses one after another
   pub behind-walk : (op : Op) (xs : List Access) (w : Walk (Recorded Held))
       → behind (walk (recording acts) op xs w) ≡ walk acts op xs (behind w)
   behind-walk op [] w = refl
   behind-walk op (a ∷ rest) w =
-    behind-walk op rest (step (recording acts) op a w) ∙ ap (walk acts op rest) (behind-step op a w)
+      behind-walk op rest (step (recording acts) op a w) ∙ ap (walk acts op rest) (behind-step op a w)
 
   pub behind-opened : (class : Class) (w : Walk (Recorded Held)) → behind (opened class w) ≡ opened class (behind w)
   behind-opened ByMode w = refl
@@ -142,7 +142,7 @@ module _ {Held : Type 0} (acts : Acts Held) where
       let xs = accesses class row.mode row.kind in
       let v : Walk (Recorded Held) = walk (recording acts) row.op xs (opened class w) in
       let same : behind v ≡ walk acts row.op xs (opened class (behind w)) =
-        behind-walk row.op xs (opened class w) ∙ ap (walk acts row.op xs) (behind-opened class w) in
+      behind-walk row.op xs (opened class w) ∙ ap (walk acts row.op xs) (behind-opened class w) in
       let change : Cpu → Walk Held = λ c. (let b = behind v in record b { cpu = c }) in
       let finish : Walk Held → Walk Held = λ u. record u { cpu = settled class row u } in
       ap change (sym (behind-settled class row v)) ∙ ap finish same
@@ -190,4 +190,4 @@ module _ {Held : Type 0} (acts : Acts Held) where
       → behind_unit (unit_of (recording acts) cpu r) ≡ unit_of acts cpu r.held
   unfolding unit_of
   unit-behind cpu r =
-    unit-by cpu.jammed cpu r (active (recording acts) cpu r) (active acts cpu r.held) (behind-active cpu r)
+      unit-by cpu.jammed cpu r (active (recording acts) cpu r) (active acts cpu r.held) (behind-active cpu r)

@@ -68,11 +68,11 @@ three_over s i i1 i2 i3 rest h long is_rest e1 e2 e3 =
     let new = rest_bytes s ++ replicate 6 0 in
     let one : i1 ≡ ram ++ (p ++ (m ++ c)) =
     e1 ∙ ap (overwritten 0 ram) parts.whole
-      ∙ over_part 0 [] r (p ++ (m ++ c)) ram refl (h.sized.ram ∙ sym parts.first) in
+    ∙ over_part 0 [] r (p ++ (m ++ c)) ram refl (h.sized.ram ∙ sym parts.first) in
     let two : i2 ≡ ram ++ (pic ++ (m ++ c)) =
     e2 ∙ ap (with_picture s.cells.screen) one ∙ picture_over s.cells.screen ram p (m ++ c) h.sized.ram parts.second in
     let both : length (ram ++ pic) ≡ 4448 =
-      length-append ram pic ∙ omega (arith, h.sized.ram, length-picture_bytes s.cells.screen h.sized.screen) in
+    length-append ram pic ∙ omega (arith, h.sized.ram, length-picture_bytes s.cells.screen h.sized.screen) in
     e3 ∙ ap (λ l. overwritten 4448 l i2) is_rest ∙ ap (overwritten 4448 new) (two ∙ sym (append_assoc ram pic (m ++ c)))
     ∙ over_part 4448 (ram ++ pic) m c new both (length-rest s ∙ sym parts.third)
     ∙ append_assoc ram pic (new ++ c)
@@ -81,7 +81,7 @@ three_over s i i1 i2 i3 rest h long is_rest e1 e2 e3 =
 pub rom_chain : (s : State) (i i1 i2 i3 rest : List ℕ) → IsReady s → length i ≡ image_len (rom_of s)
     → s.cells.board.chr_ram ≡ false → rest ≡ rest_bytes s ++ replicate 6 0 →
     i1 ≡ overwritten 0 s.cells.ram i → i2 ≡ with_picture s.cells.screen i1 → i3 ≡ overwritten 4448 rest i2
-      → i3 ≡ image_of s
+    → i3 ≡ image_of s
 unfolding image_of image_len rom_of
 rom_chain s i i1 i2 i3 rest h sized no_ram is_rest e1 e2 e3 =
     let known : length i ≡ 4480 = sized ∙ ap (λ b. if b then 12672 else 4480) no_ram in
@@ -94,7 +94,7 @@ rom_chain s i i1 i2 i3 rest h sized no_ram is_rest e1 e2 e3 =
 pub ram_chain : (s : State) (i i1 i2 i3 i4 rest : List ℕ) → IsReady s → length i ≡ image_len (rom_of s)
     → s.cells.board.chr_ram ≡ true → rest ≡ rest_bytes s ++ replicate 6 0 →
     i1 ≡ overwritten 0 s.cells.ram i → i2 ≡ with_picture s.cells.screen i1 → i3 ≡ overwritten 4448 rest i2
-      → i4 ≡ overwritten 4480 s.cells.board.chr i3 → i4 ≡ image_of s
+    → i4 ≡ overwritten 4480 s.cells.board.chr i3 → i4 ≡ image_of s
 unfolding image_of image_len rom_of
 ram_chain s i i1 i2 i3 i4 rest h sized is_ram is_rest e1 e2 e3 e4 =
     let known : length i ≡ 12672 = sized ∙ ap (λ b. if b then 12672 else 4480) is_ram in
@@ -107,13 +107,18 @@ ram_chain s i i1 i2 i3 i4 rest h sized is_ram is_rest e1 e2 e3 e4 =
     let three : i3 ≡ front ++ (c ++ []) =
     three_over s i i1 i2 i3 rest h (omega arith) is_rest e1 e2 e3
     ∙ ap (λ l. ram ++ l) (sym (append_assoc pic new c)) ∙ sym (append_assoc ram (pic ++ new) c)
-      ∙ ap (λ l. front ++ l) (sym (append-nil c)) in
+    ∙ ap (λ l. front ++ l) (sym (append-nil c)) in
     let size : length front ≡ 4480 =
     length-append ram (pic ++ new)
-    ∙ omega (arith, h.sized.ram, length-append pic new, length-picture_bytes s.cells.screen h.sized.screen,
-      length-rest s) in
+    ∙ omega (
+      arith,
+      h.sized.ram,
+      length-append pic new,
+      length-picture_bytes s.cells.screen h.sized.screen,
+      length-rest s,
+    ) in
     let same : length chr ≡ length c =
-      ram_whole s.cells.board h.sized.board is_ram ∙ omega (arith, length-drop 4480 i) in
+    ram_whole s.cells.board h.sized.board is_ram ∙ omega (arith, length-drop 4480 i) in
     let whole : pattern_ram s.cells.board.chr_ram chr ≡ chr = ap (λ b. pattern_ram b chr) is_ram in
     e4 ∙ ap (overwritten 4480 chr) three ∙ over_part 4480 front c [] chr size same
     ∙ ap (λ l. front ++ l) (append-nil chr ∙ sym whole)
@@ -124,7 +129,7 @@ ram_chain s i i1 i2 i3 i4 rest h sized is_ram is_rest e1 e2 e3 e4 =
 pub save_chain : (s : State) (ram : List ℕ) (screen : Screen) (board : Banks) (i i1 i2 i3 i4 rest : List ℕ) → IsReady s
     →
     ram ≡ s.cells.ram → screen ≡ s.cells.screen → board ≡ s.cells.board → length i ≡ image_len (rom_of s)
-      → rest ≡ rest_bytes s ++ replicate 6 0 →
+    → rest ≡ rest_bytes s ++ replicate 6 0 →
     i1 ≡ overwritten 0 ram i → i2 ≡ with_picture screen i1 → i3 ≡ overwritten 4448 rest i2 →
     i4 ≡ (if board.chr_ram then overwritten 4480 board.chr i3 else i3) → i4 ≡ image_of s
 save_chain s ram screen board i i1 i2 i3 i4 rest h is_ram is_screen is_board sized is_rest e1 e2 e3 e4 =

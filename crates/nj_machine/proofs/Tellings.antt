@@ -29,18 +29,27 @@ pub seen_told : (cpu : Cpu) (w : Wired) (a : Option UnitKind) (reads : List ℕ)
 unfolding seen_in awaited
 seen_told cpu w a reads kind len bytes place t =
     let made : Told → Position → UnitSeen =
-      λ told at. record { kind = told.kind; bytes = told.bytes; len = told.len; cpu = cpu; line = at.line;
-      dot = at.dot } in
+    λ told at. record {
+      kind = told.kind;
+      bytes = told.bytes;
+      len = told.len;
+      cpu = cpu;
+      line = at.line;
+      dot = at.dot;
+    } in
     let whole : Option UnitKind → Told =
-      λ x. record { kind = kind_or x (row_of (wires.byte w cpu.pc)); len = length (bytes_or x (code_bytes wires cpu w));
-      bytes = in_three (bytes_or x (code_bytes wires cpu w)) } in
+    λ x. record {
+      kind = kind_or x (row_of (wires.byte w cpu.pc));
+      len = length (bytes_or x (code_bytes wires cpu w));
+      bytes = in_three (bytes_or x (code_bytes wires cpu w));
+    } in
     let told : told_by a reads ≡ whole a =
     ap (told_by a) t.reads_are
-      ∙ told_as wires a cpu w (sym t.awaits) (subst (λ r. nth r 0 < 256) t.reads_are t.below) in
+    ∙ told_as wires a cpu w (sym t.awaits) (subst (λ r. nth r 0 < 256) t.reads_are t.below) in
     let parts : made (record { kind = kind; len = len; bytes = bytes }) place ≡ made (told_by a reads) place =
     ap (λ x. made (record { kind = x; len = len; bytes = bytes }) place) t.kind_is
     ∙ ap (λ x. made (record { kind = (told_by a reads).kind; len = x; bytes = bytes }) place) t.len_is
     ∙ ap (λ x. made (record { kind = (told_by a reads).kind; len = (told_by a reads).len; bytes = x }) place)
-      t.bytes_are in
+    t.bytes_are in
     parts ∙ ap (λ x. made x place) told ∙ ap (λ x. made (whole x) place) t.awaits
-      ∙ ap (λ x. made (whole (awaited wires cpu w)) x) t.placed
+    ∙ ap (λ x. made (whole (awaited wires cpu w)) x) t.placed

@@ -59,7 +59,7 @@ keeps-by true pad s e h =
     subst (Keeps (rom_of s)) (sym (ap (λ u. u.held) (unit-jammed wires s.cpu (wired pad s) e))) (begins pad s h)
 keeps-by false pad s e h =
     (unit-lower wires (Keeps (rom_of s)) left_of 3 (wires-lower (rom_of s)) s.cpu (wired pad s) e
-      (begins pad s h)).stays
+    (begins pad s h)).stays
 
 -- a unit leaves a state that is ready, of the same cartridge
 pub record Leaves (s t : State) : Type 0 where
@@ -132,11 +132,11 @@ unit_fewer pad s h e =
     let still_going = no_end u.end_ u.held.cells.screen.ended e in
     let running = was_running s.cpu.jammed pad s refl still_going.done in
     let lower =
-      unit-lower wires (Keeps (rom_of s)) left_of 3 (wires-lower (rom_of s)) s.cpu (wired pad s) running
-      (begins pad s h) in
+    unit-lower wires (Keeps (rom_of s)) left_of 3 (wires-lower (rom_of s)) s.cpu (wired pad s) running
+    (begins pad s h) in
     let now =
-      clear_left u.held.cells.screen.ended u.held.cells.screen.position.line u.held.cells.screen.position.dot
-      still_going.not_ended in
+    clear_left u.held.cells.screen.ended u.held.cells.screen.position.line u.held.cells.screen.position.dot
+    still_going.not_ended in
     let before = clear_left s.cells.screen.ended s.cells.screen.position.line s.cells.screen.position.dot h.clear in
     let some : 0 < left_at s.cells.screen.position.line s.cells.screen.position.dot = left_positive s h in
     omega (arith, lower.fewer, now, before, some)
@@ -152,6 +152,20 @@ end_tells pad s t end e =
     ap (λ x. end_by x u.held.cells.screen.ended) (sym (unit-end wires s.cpu (wired pad s))) ∙ ap (λ step. step.1) e in
     rw (← jammed) (an_end u.cpu.jammed u.held.cells.screen.ended end told)
 
+-- a unit that does not end the frame leaves a processor that is not jammed
+no_jam : (jammed ended : Bool) → end_by (end_of jammed) ended ≡ None → jammed ≡ false
+no_jam true ended e = cc
+no_jam false ended e = refl
+
+pub goes_on_running : (pad : ℕ) (s t : State) → unit_step pad s ≡ (t, None) → is_jammed t ≡ false
+unfolding unit_step is_jammed
+goes_on_running pad s t e =
+    let u = unit_now pad s in
+    let jammed : u.cpu.jammed ≡ t.cpu.jammed = ap (λ step. step.0.cpu.jammed) e in
+    let told : end_by (end_of u.cpu.jammed) u.held.cells.screen.ended ≡ None =
+    ap (λ x. end_by x u.held.cells.screen.ended) (sym (unit-end wires s.cpu (wired pad s))) ∙ ap (λ step. step.1) e in
+    sym jammed ∙ no_jam u.cpu.jammed u.held.cells.screen.ended told
+
 -- a unit of a jammed machine changes nothing
 pub jam_stays : (pad : ℕ) (s : State) → IsReady s → is_jammed s ≡ true → unit_step pad s ≡ (s, Some Jammed)
 unfolding unit_step is_jammed
@@ -165,9 +179,9 @@ jam_stays pad s h e =
 -- the parts of a state after a unit whose mark was taken off
 pub leaves_by : (pad : ℕ) (s : State) (cpu : Cpu) (w : Wired) (screen : Screen) → IsReady s →
     cpu ≡ (unit_of wires s.cpu (record { cells = s.cells; pad = pad })).cpu
-      → w ≡ (unit_of wires s.cpu (record { cells = s.cells; pad = pad })).held →
+    → w ≡ (unit_of wires s.cpu (record { cells = s.cells; pad = pad })).held →
     screen ≡ (let p = w.cells.screen in record p { ended = false })
-      → Leaves s (record { cpu = cpu; cells = record w.cells { screen = screen } })
+    → Leaves s (record { cpu = cpu; cells = record w.cells { screen = screen } })
 unfolding unit_step
 leaves_by pad s cpu w screen h registers held taken = rw (taken, registers, held) (unit_leaves pad s h)
 

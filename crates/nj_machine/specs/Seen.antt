@@ -64,13 +64,13 @@ operand_bytes acts op (a ∷ rest) w =
 unfoldable pub operand_of : {Held : Type 0} → Acts Held → OpRow → Walk Held → List ℕ
 operand_of acts row w =
     let class =
-      class_of row.op row.mode in operand_bytes acts row.op (accesses class row.mode row.kind) (opened class w)
+    class_of row.op row.mode in operand_bytes acts row.op (accesses class row.mode row.kind) (opened class w)
 
 -- the bytes of an instruction that begins here: its opcode and the operand's
 unfoldable pub code_bytes : {Held : Type 0} → Acts Held → Cpu → Held → List ℕ
 code_bytes acts cpu held =
     let opcode =
-      acts.byte held cpu.pc in opcode ∷ operand_of acts (row_of opcode) (read_at acts cpu.pc (begun cpu held no_rise))
+    acts.byte held cpu.pc in opcode ∷ operand_of acts (row_of opcode) (read_at acts cpu.pc (begun cpu held no_rise))
 
 -- an instruction is a jam or other code, by its class
 abbrev pub kind_by : Class → UnitKind

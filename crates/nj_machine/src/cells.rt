@@ -111,7 +111,7 @@ impl<P: Picture + Drop> Bus for Cells<P> {
 
     ghost held = { λ c. record {
       cells = cells_of (P.meaning c.picture (pattern_of c.board)) c.ram c.board c.bus_byte c.page c.odd c.port_one
-        c.port_two;
+          c.port_two;
       pad = c.pad;
     } };
 

@@ -55,8 +55,14 @@ impl UnitSeen {
     /// No unit yet, to be handed to the first call of `Console::unit_step`.
     pub fn new() -> UnitSeen
         ensures { result
-            ≡ record { kind = UnitKind.Nothing; bytes = 0 ∷ 0 ∷ 0 ∷ []; len = 0; cpu = powered_on 0; line = 0;
-            dot = 0 } }
+            ≡ record {
+              kind = UnitKind.Nothing;
+              bytes = 0 ∷ 0 ∷ 0 ∷ [];
+              len = 0;
+              cpu = powered_on 0;
+              line = 0;
+              dot = 0;
+            } }
     {
         UnitSeen {
             kind: UnitKind::Nothing,

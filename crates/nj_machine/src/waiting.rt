@@ -1,7 +1,7 @@
 //! Loops that wait: their turns are passed over.
 
 ghost use Rattle.std.specs.Prelude.{◌≡◌, ◌<◌, ◌≤◌, ◌*◌, ℕ, IfSome};
-ghost use Rattle.nj_machine.specs.State.{rom_of};
+ghost use Rattle.nj_machine.specs.State.{is_jammed, rom_of};
 ghost use Rattle.nj_machine.specs.Frame.{dots_left, frame, IsReady};
 ghost use Rattle.nj_machine.specs.Waiting.{IsWait};
 
@@ -141,6 +141,7 @@ impl<P: Picture + Drop + Waiting> Console<P> {
         ensures fewer { dots_left self.new ≤ dots_left self.old }
         ensures ready { IsReady self.new }
         ensures cartridge { rom_of self.new ≡ rom_of self.old }
+        ensures jam { is_jammed self.new ≡ is_jammed self.old }
     {
         let Some(turn) = self.recorder.cells.turn(&self.cpu, polls) else {
             return false;
@@ -162,6 +163,7 @@ impl<P: Picture + Drop + Waiting> Console<P> {
         ensures fewer { dots_left self.new ≤ dots_left self.old }
         ensures ready { IsReady self.new }
         ensures cartridge { rom_of self.new ≡ rom_of self.old }
+        ensures jam { is_jammed self.new ≡ is_jammed self.old }
     {
         if watch.anchor != self.cpu {
             watch.anchor = self.cpu;
@@ -178,6 +180,7 @@ impl<P: Picture + Drop + Waiting> Console<P> {
         ensures fewer { dots_left self.new ≤ dots_left self.old }
         ensures ready { IsReady self.new }
         ensures cartridge { rom_of self.new ≡ rom_of self.old }
+        ensures jam { is_jammed self.new ≡ is_jammed self.old }
     {
         let pc = self.cpu.pc;
         if P::passes_turns() && pc <= before && watch.barred != Some(pc) {

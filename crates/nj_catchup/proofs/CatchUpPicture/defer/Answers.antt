@@ -11,8 +11,8 @@ invariant_of-self c =
     let s = c.args.self.now in
     let small = spare-small s.lull s.screen s.fits s.lulls in
     let same : c.give_back.new.self ≡ s.lull =
-      c.give_back.ensures
-      ∙ ap (λ n. record s.lull { spare = n }) (given-back s.lull.spare c.args.dots small c.ranges.dots.fits) in
+    c.give_back.ensures
+    ∙ ap (λ n. record s.lull { spare = n }) (given-back s.lull.spare c.args.dots small c.ranges.dots.fits) in
     record { fits = s.fits; lulls = subst (λ l. IsLull l s.screen) (sym same) s.lulls }
 
 pub invariant_of-self-else-past : goal.invariant_of-self-else-past
@@ -22,7 +22,7 @@ invariant_of-self-else-past c =
     record {
       fits = s.fits;
       lulls = subst (λ n. IsLull (record s.lull { spare = n }) s.screen) (sym left)
-        (lull-goes-on s.lull s.screen c.args.dots s.lulls c.if-past.false);
+          (lull-goes-on s.lull s.screen c.args.dots s.lulls c.if-past.false);
     }
 
 pub returns-then-past-clause-same : goal.returns-then-past-clause-same
@@ -30,8 +30,8 @@ returns-then-past-clause-same c = λ p no.
     let s = c.args.self.now in
     let small = spare-small s.lull s.screen s.fits s.lulls in
     let same : c.give_back.new.self ≡ s.lull =
-      c.give_back.ensures
-      ∙ ap (λ n. record s.lull { spare = n }) (given-back s.lull.spare c.args.dots small c.ranges.dots.fits) in
+    c.give_back.ensures
+    ∙ ap (λ n. record s.lull { spare = n }) (given-back s.lull.spare c.args.dots small c.ranges.dots.fits) in
     ap (λ l. after_dots (pending_of l) p s.screen) same
 
 pub returns-clause-pending : goal.returns-clause-pending
@@ -39,5 +39,5 @@ returns-clause-pending c = λ p yes.
     let s = c.args.self.now in
     let left = taken s.lull.spare c.args.dots (spare-small s.lull s.screen s.fits s.lulls) c.if-past.false in
     let all : s.lull.limit - (s.lull.spare + (4294967296 - c.args.dots)) % 4294967296
-      ≡ c.args.dots + pending_of s.lull = omega (arith, left, s.lulls.within, c.if-past.false) in
+    ≡ c.args.dots + pending_of s.lull = omega (arith, left, s.lulls.within, c.if-past.false) in
     sym (dots-sum _ c.args.dots (pending_of s.lull) p s.screen all)

@@ -16,7 +16,7 @@ invariant_of-self c =
     record {
       fits = c.read-byte.ensures.fits;
       lulls = lull-untimed s.lull _ s.screen e s.lulls
-        (read-untimed c.args.reg c.args.pattern.now s.screen e two c.read-byte.ensures.after)
+          (read-untimed c.args.reg c.args.pattern.now s.screen e two c.read-byte.ensures.after)
           (ap (λ b. record s.lull { line = b }) c.nmi_line-self.ensures);
     }
 
@@ -26,7 +26,7 @@ returns-then-is_steady-clause-byte c =
     let p = c.args.pattern.now in
     c.read-byte.ensures.byte
     ∙ steady-byte c.args.reg (pending_of s.lull) p s.screen s.fits (c.is_steady.ensures.status c.if-is_steady.true)
-      (c.is_steady.ensures.steady p c.if-is_steady.true)
+    (c.is_steady.ensures.steady p c.if-is_steady.true)
 
 pub returns-then-is_steady-clause-after : goal.returns-then-is_steady-clause-after
 returns-then-is_steady-clause-after c = λ p same.
@@ -36,7 +36,7 @@ returns-then-is_steady-clause-after c = λ p same.
     ap (λ r. after_dots (pending_of s.lull) r c.read-byte.new.self) (same two)
     ∙ ap (after_dots (pending_of s.lull) q) c.read-byte.ensures.after
     ∙ steady-read c.args.reg (pending_of s.lull) q q s.screen s.fits two
-      (c.is_steady.ensures.steady q c.if-is_steady.true)
+    (c.is_steady.ensures.steady q c.if-is_steady.true)
 
 pub returns-clause-after : goal.returns-clause-after
 returns-clause-after c = λ p same.

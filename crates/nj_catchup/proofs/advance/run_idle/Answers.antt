@@ -14,4 +14,4 @@ returns-after-from-left-clause-fits c =
       | else-from-left w ↦ omega (arith, w.dots-is, w.if-from-left, c.from.ensures)
     ] in
     subst IsScreen (c.idle_dots-idle.ensures.idle c.args.pattern.now n within)
-      (after_dots-fits n c.args.pattern.now s c.requires.fits)
+    (after_dots-fits n c.args.pattern.now s c.requires.fits)

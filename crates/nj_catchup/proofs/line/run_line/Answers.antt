@@ -50,14 +50,14 @@ line-is n m p opaque s e row last tiles latched h far is =
     let is_row : s ≡ with_hit t (Some row) false hit = with-row s row latched far in
     let count : suc n ≡ 8 * suc m = omega (arith, last, tiles) in
     let whole : after_dots (suc n) p t ≡ line_finished (tiles_run (suc m) p t) =
-      ap (λ k. after_dots k p t) count ∙ line-tiles m p t tiles h.quiet h.first in
+    ap (λ k. after_dots k p t) count ∙ line-tiles m p t tiles h.quiet h.first in
     let here : e ≡ with_hit (line_finished (tiles_run (suc m) p t)) (Some row) false hit =
     is ∙ ap (λ x. line_finished (tiles_run (suc m) p x)) is_row
-      ∙ ap line_finished (tiles-with_hit (suc m) p t (Some row) false hit)
+    ∙ ap line_finished (tiles-with_hit (suc m) p t (Some row) false hit)
     ∙ finished-with_hit (tiles_run (suc m) p t) (Some row) false hit in
     record {
       all = ap (after_dots (suc n) p) is_row ∙ line-after n t row opaque p hit last h
-        ∙ ap (λ x. with_hit x (Some row) false (hit || any)) whole
+          ∙ ap (λ x. with_hit x (Some row) false (hit || any)) whole
           ∙ sym (ap (λ (x : Screen). record x { sprite_zero_hit = hit || any }) here);
       kept = ap (λ (x : Screen). x.sprite_zero_hit) here;
     }
@@ -96,16 +96,16 @@ returns-then-is_some c =
       both = c.requires.line.both;
       fine_x = c.requires.fine_x;
       bytes = λ j within. c.run_tiles_of_line-opaque.ensures.bytes j within
-        ∙ byte-rowless j p s row c.requires.line.latched c.requires.line.quiet.far;
+          ∙ byte-rowless j p s row c.requires.line.latched c.requires.line.quiet.far;
     } in
     let h : LineIs 256 p s e row =
-      line-is 255 31 p opaque s e row refl refl c.requires.line.latched line c.requires.line.quiet.far
-      (c.finish_line.ensures ∙ ap line_finished c.run_tiles_of_line-opaque.ensures.screen) in
+    line-is 255 31 p opaque s e row refl refl c.requires.line.latched line c.requires.line.quiet.far
+    (c.finish_line.ensures ∙ ap line_finished c.run_tiles_of_line-opaque.ensures.screen) in
     let any : any-after 256 p (rowless s) (Some row) ≡ true =
     met c.meeting.result row opaque c.shows_left_columns-left.result _ (sym c.is_some.ensures
-      ∙ c.if-is_some.true) c.meeting.ensures.meets
+    ∙ c.if-is_some.true) c.meeting.ensures.meets
     (λ x meets. line-some 255 x (rowless s) row opaque p refl line
-      (ap (λ l. meets_at row opaque l x) (sym c.shows_left_columns-left.ensures) ∙ meets)) in
+    (ap (λ l. meets_at row opaque l x) (sym c.shows_left_columns-left.ensures) ∙ meets)) in
     sym (h.all ∙ ap (λ (b : Bool). record e { sprite_zero_hit = b }) (or-up s.sprite_zero_hit _ any))
 
 pub returns-else-is_some : goal.returns-else-is_some
@@ -121,14 +121,14 @@ returns-else-is_some c =
       both = c.requires.line.both;
       fine_x = c.requires.fine_x;
       bytes = λ j within. c.run_tiles_of_line-opaque.ensures.bytes j within
-        ∙ byte-rowless j p s row c.requires.line.latched c.requires.line.quiet.far;
+          ∙ byte-rowless j p s row c.requires.line.latched c.requires.line.quiet.far;
     } in
     let h : LineIs 256 p s e row =
-      line-is 255 31 p opaque s e row refl refl c.requires.line.latched line c.requires.line.quiet.far
-      (c.finish_line.ensures ∙ ap line_finished c.run_tiles_of_line-opaque.ensures.screen) in
+    line-is 255 31 p opaque s e row refl refl c.requires.line.latched line c.requires.line.quiet.far
+    (c.finish_line.ensures ∙ ap line_finished c.run_tiles_of_line-opaque.ensures.screen) in
     let any : any-after 256 p (rowless s) (Some row) ≡ false =
     unmet c.meeting.result row opaque c.shows_left_columns-left.result _ (sym c.is_some.ensures
-      ∙ c.if-is_some.false) c.meeting.ensures.none
+    ∙ c.if-is_some.false) c.meeting.ensures.none
     (λ misses. line-none 255 (rowless s) row opaque p refl line
-      (λ y. ap (λ l. meets_at row opaque l y) (sym c.shows_left_columns-left.ensures) ∙ misses y)) in
+    (λ y. ap (λ l. meets_at row opaque l y) (sym c.shows_left_columns-left.ensures) ∙ misses y)) in
     sym (h.all ∙ ap (λ (b : Bool). record e { sprite_zero_hit = b }) (or-down s.sprite_zero_hit _ any ∙ sym h.kept))

@@ -34,13 +34,13 @@ loop-tile-preserved c =
     let before = c.loop-tile.invariant in
     let h : TileOn c.loop-tile.screen (tile_run p c.loop-tile.screen) = tile-on p c.loop-tile.screen in
     let dot : c.run_tile.new.screen.position.dot ≡ c.loop-tile.screen.position.dot + 8 =
-      ap (λ (e : Screen). e.position.dot) c.run_tile.ensures ∙ h.dot in
+    ap (λ (e : Screen). e.position.dot) c.run_tile.ensures ∙ h.dot in
     let x : c.run_tile.new.screen.scroll.x ≡ c.loop-tile.screen.scroll.x =
-      ap (λ (e : Screen). e.scroll.x) c.run_tile.ensures ∙ h.fine_x in
+    ap (λ (e : Screen). e.scroll.x) c.run_tile.ensures ∙ h.fine_x in
     record {
       same = rw add-one (c.run_tile.ensures ∙ ap (tile_run p) before.same ∙ tiles-more n p s);
       bytes = told-more n c.shown_byte.result c.loop-tile.opaque (λ j. shown_byte (tiles_run j p s))
-        (omega (arith, before.len, c.loop-tile-test.true))
+          (omega (arith, before.len, c.loop-tile-test.true))
           (c.shown_byte.ensures ∙ ap shown_byte before.same) before.bytes;
       len = length-set c.loop-tile.opaque n c.shown_byte.result ∙ before.len;
       dot = omega (arith, dot, before.dot);

@@ -17,13 +17,21 @@ loop-sprite-preserved c =
     let n = c.loop-sprite.sprite in
     elim c.if-oam-sprite-lt240.branch [
       | then-oam-sprite-lt240 w ↦ record {
-        most = λ line tall below. omega (arith, w.count-is, c.loop-sprite.invariant.most line tall below,
-          counted-step oam line tall n);
+        most = λ line tall below. omega (
+          arith,
+          w.count-is,
+          c.loop-sprite.invariant.most line tall below,
+          counted-step oam line tall n,
+        );
         few = omega (arith, w.count-is, c.loop-sprite.invariant.few);
       }
       | else-oam-sprite-lt240 w ↦ record {
-        most = λ line tall below. omega (arith, w.count-is, c.loop-sprite.invariant.most line tall below,
-          counted-below oam line tall n (omega (arith, w.if-oam-sprite-lt240.false)) below);
+        most = λ line tall below. omega (
+          arith,
+          w.count-is,
+          c.loop-sprite.invariant.most line tall below,
+          counted-below oam line tall n (omega (arith, w.if-oam-sprite-lt240.false)) below,
+        );
         few = omega (arith, w.count-is, c.loop-sprite.invariant.few);
       }
     ]
@@ -33,6 +41,6 @@ returns c = λ line tall few below.
     let oam = c.args.oam.now in
     let end : c.loop-sprite.sprite ≡ 64 = omega (arith, c.loop-sprite-test.false, c.loop-sprite.auto.sprite-end) in
     let all : counted oam line tall c.loop-sprite.sprite ≡ in_range_of oam line tall =
-      ap (counted oam line tall) end ∙ counted-all oam line tall in
+    ap (counted oam line tall) end ∙ counted-all oam line tall in
     let count : c.loop-sprite.count < 9 = grind (arith, nat_tests, few) in
     omega (arith, all, count, c.loop-sprite.invariant.most line tall below)

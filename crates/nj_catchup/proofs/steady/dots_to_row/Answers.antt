@@ -26,14 +26,17 @@ pub returns-then-dot-gt257 : goal.returns-then-dot-gt257
 returns-then-dot-gt257 c = λ n d within along.
     let row = c.args.row in
     let where_ : (257 < d) ⊎ (d ≤ row.x) =
-      next-line row c.args.dot n d c.if-dot-gt257.true (omega (arith, within, c.from.ensures, c.from-first.ensures))
-      along in
+    next-line row c.args.dot n d c.if-dot-gt257.true (omega (arith, within, c.from.ensures, c.from-first.ensures))
+    along in
     record {
       latch = λ at.
-        (elim where_ [ inl past ↦ absurd (omega (arith, past, at)) | inr before ↦ absurd (omega (arith, before, at)) ]);
+          (elim where_ [ inl past ↦ absurd (omega (arith, past, at)) | inr before ↦ absurd (omega (arith, before, at)) ]);
       miss = λ from last.
-        (elim where_ [ inl past ↦ absurd (omega (arith, past, last)) | inr before ↦
-        left-of row (d - 1) (omega (arith, before, from)) ]);
+          (elim where_ [
+            | inl past ↦ absurd (omega (arith, past, last))
+            | inr before ↦
+                left-of row (d - 1) (omega (arith, before, from))
+          ]);
     }
 
 pub returns-then-dot-first : goal.returns-then-dot-first
@@ -43,11 +46,20 @@ returns-then-dot-first c = λ n d within along.
     let before : d ≤ row.x = (elim along [
       | inl same ↦ omega (arith, same, within, c.from-then-dot-first.ensures, c.from-first.ensures)
       | inr next ↦
-        absurd (omega (arith, next.0, within, c.from-then-dot-first.ensures, c.from-first.ensures, c.if-dot-first.true,
-        byte))
+          absurd (omega (
+            arith,
+            next.0,
+            within,
+            c.from-then-dot-first.ensures,
+            c.from-first.ensures,
+            c.if-dot-first.true,
+            byte,
+          ))
     ]) in
-    record { latch = λ at. absurd (omega (arith, at, before, byte));
-      miss = λ from last. left-of row (d - 1) (omega (arith, before, from)) }
+    record {
+      latch = λ at. absurd (omega (arith, at, before, byte));
+      miss = λ from last. left-of row (d - 1) (omega (arith, before, from));
+    }
 
 pub returns-else-dot-first-2 : goal.returns-else-dot-first-2
 returns-else-dot-first-2 c = λ n d within along.
@@ -60,5 +72,7 @@ returns-else-dot-first-2 c = λ n d within along.
       | inl same ↦ omega (arith, same, c.if-dot-first-2.false, c.from-first.ensures)
       | inr next ↦ absurd (omega (arith, next.0, within, c.from-else-dot-first-2.ensures))
     ]) in
-    record { latch = λ at. absurd (omega (arith, at, before));
-      miss = λ from last. right-of row (d - 1) (omega (arith, past)) }
+    record {
+      latch = λ at. absurd (omega (arith, at, before));
+      miss = λ from last. right-of row (d - 1) (omega (arith, past));
+    }

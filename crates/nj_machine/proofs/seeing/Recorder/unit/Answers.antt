@@ -14,7 +14,7 @@ returns-clause-cpu g c =
 pub returns-clause-held : goal.returns-clause-held
 returns-clause-held g c =
     ap (λ r. r.held) c.unit-end.ensures.held
-      ∙ ap (λ (u : Unit Wired). u.held) (unit-behind wires c.args.cpu.now (record { held = _; reads = [] }))
+    ∙ ap (λ (u : Unit Wired). u.held) (unit-behind wires c.args.cpu.now (record { held = _; reads = [] }))
 
 pub returns-clause-end : goal.returns-clause-end
 returns-clause-end g c =
@@ -24,7 +24,7 @@ returns-clause-end g c =
 pub returns-clause-seen : goal.returns-clause-seen
 returns-clause-seen g c =
     seen_told c.args.cpu.now _ c.awaited-awaited.result _ c.told-kind.result.0 c.told-kind.result.1 c.told-kind.result.2
-      c.position-place.result
+    c.position-place.result
     (record {
       awaits = c.awaited-awaited.ensures;
       reads_are = ap (λ r. r.reads) c.unit-end.ensures.held;
