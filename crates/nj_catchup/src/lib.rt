@@ -150,7 +150,7 @@ impl Picture for CatchUp {
     }
 
     fn run(&mut self, dots: u32, pattern: &[u8]) {
-        if !self.defer(dots) {
+        if self.defer(dots) {
             self.run_all(dots, pattern);
         }
     }
@@ -161,9 +161,9 @@ impl Picture for CatchUp {
         self.lull.spare = self.lull.spare.wrapping_sub(dots);
         if past {
             self.lull.give_back(dots);
-            return false;
+            return true;
         }
-        true
+        false
     }
 
     fn read(&mut self, reg: u8, pattern: &[u8]) -> u8 {

@@ -29,10 +29,10 @@ pub trait Picture {
         ensures { meaning self.new pattern.now ≡ after_dots dots pattern.now (meaning self.old pattern.now) };
 
     /// Leaves the next dots pending, if no one has to know yet what they do: a run that needs no pattern memory. Tells
-    /// whether it did; where not, nothing has changed.
+    /// whether they are due instead: then nothing has changed, and they are still to be run.
     fn defer(&mut self, dots: u32) -> bool
-        ensures pending { (p : List ℕ) → result ≡ true → meaning self.new p ≡ after_dots dots p (meaning self.old p) }
-        ensures same { (p : List ℕ) → result ≡ false → meaning self.new p ≡ meaning self.old p };
+        ensures pending { (p : List ℕ) → result ≡ false → meaning self.new p ≡ after_dots dots p (meaning self.old p) }
+        ensures due { (p : List ℕ) → result ≡ true → meaning self.new p ≡ meaning self.old p };
 
     /// Reads a register.
     fn read(&mut self, reg: u8, pattern: &[u8]) -> u8

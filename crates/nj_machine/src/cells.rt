@@ -41,7 +41,7 @@ fn run_cycle<P: Picture>(picture: &mut P, board: &Banked)
     ensures { P.meaning picture.new (pattern_of board.now)
         ≡ after_dots 3 (pattern_of board.now) (P.meaning picture.old (pattern_of board.now)) }
 {
-    if !picture.defer(3) {
+    if picture.defer(3) {
         run_now(picture, board);
     }
 }

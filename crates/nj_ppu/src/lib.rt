@@ -41,7 +41,7 @@ impl Picture for DotPicture {
     }
 
     fn defer(&mut self, _dots: u32) -> bool {
-        false
+        true
     }
 
     fn read(&mut self, reg: u8, pattern: &[u8]) -> u8 {

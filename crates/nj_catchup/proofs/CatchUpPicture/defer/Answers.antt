@@ -25,8 +25,8 @@ invariant_of-self-else-past c =
           (lull-goes-on s.lull s.screen c.args.dots s.lulls c.if-past.false);
     }
 
-pub returns-then-past-clause-same : goal.returns-then-past-clause-same
-returns-then-past-clause-same c = λ p no.
+pub returns-then-past-clause-due : goal.returns-then-past-clause-due
+returns-then-past-clause-due c = λ p due.
     let s = c.args.self.now in
     let small = spare-small s.lull s.screen s.fits s.lulls in
     let same : c.give_back.new.self ≡ s.lull =

@@ -5,8 +5,8 @@ use Rattle.nj_catchup.specs.Limit.{pending_of}
 use Rattle.nj_catchup.proofs.Sums.{dots-zero}
 use Rattle.nj_catchup.proofs.CatchUpPicture.run.Goals as goal
 
-pub returns-then-not-defer : goal.returns-then-not-defer
-returns-then-not-defer c =
+pub returns-then-defer : goal.returns-then-defer
+returns-then-defer c =
     let e = c.run_all.new.self in
     dots-zero (pending_of e.lull) c.args.pattern.now e.screen c.run_all.ensures.pending ∙ c.run_all.ensures.screen
-    ∙ ap (after_dots c.args.dots c.args.pattern.now) (c.defer.ensures.same c.args.pattern.now c.if-not-defer.true)
+    ∙ ap (after_dots c.args.dots c.args.pattern.now) (c.defer.ensures.due c.args.pattern.now c.if-defer.true)
