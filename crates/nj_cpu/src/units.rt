@@ -40,7 +40,8 @@ pub fn power_on(pc: u16) -> Cpu
 #[tactic(auto, unfolding(crate::specs::Unit::instruction))]
 #[inline(always)]
 fn run_instruction<B: Bus>(cpu: &mut Cpu, rises: &mut Rises, bus: &mut B)
-    ensures { rises.old ≡ no_rise → EndsAs (instruction B.acts cpu.old (B.held bus.old)) cpu.new (B.held bus.new) rises.new }
+    ensures { rises.old ≡ no_rise → EndsAs (instruction B.acts cpu.old (B.held bus.old))
+        cpu.new (B.held bus.new) rises.new }
 {
     let opcode = read(cpu, rises, bus, cpu.pc);
     run_row(cpu, rises, bus, op_row(opcode));
@@ -50,7 +51,8 @@ fn run_instruction<B: Bus>(cpu: &mut Cpu, rises: &mut Rises, bus: &mut B)
 #[tactic(auto, unfolding(crate::specs::Unit::entered))]
 #[inline(never)]
 fn enter_nmi<B: Bus>(cpu: &mut Cpu, rises: &mut Rises, bus: &mut B)
-    ensures { rises.old ≡ no_rise → EndsAs (entered B.acts cpu.old (B.held bus.old)) cpu.new (B.held bus.new) rises.new }
+    ensures { rises.old ≡ no_rise → EndsAs (entered B.acts cpu.old (B.held bus.old))
+        cpu.new (B.held bus.new) rises.new }
 {
     cpu.note = Note::None;
     idle(cpu, rises, bus);
@@ -61,7 +63,8 @@ fn enter_nmi<B: Bus>(cpu: &mut Cpu, rises: &mut Rises, bus: &mut B)
 /// One cycle before a sprite copy, two where the next cycle's number is odd.
 #[inline]
 fn wait<B: Bus>(cpu: &mut Cpu, rises: &mut Rises, bus: &mut B)
-    ensures { EndsAs (walk B.acts NoOp (waits (B.acts.odd (B.held bus.old))) (begun cpu.old (B.held bus.old) rises.old)) cpu.new (B.held bus.new) rises.new }
+    ensures { EndsAs (walk B.acts NoOp (waits (B.acts.odd (B.held bus.old))) (begun cpu.old (B.held bus.old) rises.old))
+        cpu.new (B.held bus.new) rises.new }
 {
     let odd = bus.odd();
     idle(cpu, rises, bus);
@@ -73,7 +76,8 @@ fn wait<B: Bus>(cpu: &mut Cpu, rises: &mut Rises, bus: &mut B)
 /// Reads the 256 bytes of a page and writes each to $2004.
 #[inline]
 fn copy_page<B: Bus>(cpu: &mut Cpu, rises: &mut Rises, bus: &mut B, page: u8)
-    ensures { EndsAs (walk B.acts NoOp (copies page 256) (begun cpu.old (B.held bus.old) rises.old)) cpu.new (B.held bus.new) rises.new }
+    ensures { EndsAs (walk B.acts NoOp (copies page 256) (begun cpu.old (B.held bus.old) rises.old))
+        cpu.new (B.held bus.new) rises.new }
 {
     for i in 0..256u16 {
         let byte = read(cpu, rises, bus, page as u16 * 256 + i);
@@ -85,7 +89,8 @@ fn copy_page<B: Bus>(cpu: &mut Cpu, rises: &mut Rises, bus: &mut B, page: u8)
 #[tactic(auto, unfolding(crate::specs::Unit::copied))]
 #[inline(never)]
 fn copy<B: Bus>(cpu: &mut Cpu, rises: &mut Rises, bus: &mut B, page: u8)
-    ensures { rises.old ≡ no_rise → EndsAs (copied B.acts page cpu.old (B.held bus.old)) cpu.new (B.held bus.new) rises.new }
+    ensures { rises.old ≡ no_rise → EndsAs (copied B.acts page cpu.old (B.held bus.old))
+        cpu.new (B.held bus.new) rises.new }
 {
     wait(cpu, rises, bus);
     copy_page(cpu, rises, bus, page);
