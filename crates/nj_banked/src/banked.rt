@@ -46,11 +46,21 @@ impl Model for Banked {
 
     ghost Value = { Banks };
 
-    ghost view = { λ b. record { prg = b.prg.items; chr = b.chr.items; chr_ram = b.chr_ram; mapper = b.mapper;
-        bank = b.bank } };
+    ghost view = { λ b. record {
+      prg = b.prg.items;
+      chr = b.chr.items;
+      chr_ram = b.chr_ram;
+      mapper = b.mapper;
+      bank = b.bank;
+    } };
 
-    ghost invariant = { λ b. IsWindowed (record { prg = b.prg.items; chr = b.chr.items; chr_ram = b.chr_ram;
-        mapper = b.mapper; bank = b.bank }) b.low b.high b.pattern };
+    ghost invariant = { λ b. IsWindowed (record {
+      prg = b.prg.items;
+      chr = b.chr.items;
+      chr_ram = b.chr_ram;
+      mapper = b.mapper;
+      bank = b.bank;
+    }) b.low b.high b.pattern };
 }
 
 impl Banked {

@@ -62,8 +62,15 @@ impl<'a> Bus for DryBus<'a> {
 
     ghost Held = { Dry };
 
-    ghost held = { λ d. record { ram = d.ram.now; board = d.board.now; status = d.status; line = d.line;
-        bus_byte = d.bus_byte; cycles = d.cycles; lost = d.lost } };
+    ghost held = { λ d. record {
+      ram = d.ram.now;
+      board = d.board.now;
+      status = d.status;
+      line = d.line;
+      bus_byte = d.bus_byte;
+      cycles = d.cycles;
+      lost = d.lost;
+    } };
 
     ghost acts = { dry };
 
