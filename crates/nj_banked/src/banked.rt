@@ -46,15 +46,28 @@ impl Model for Banked {
 
     ghost Value = { Banks };
 
-    ghost view = { λ b. record { prg = b.prg.items; chr = b.chr.items; chr_ram = b.chr_ram; mapper = b.mapper; bank = b.bank } };
+    ghost view = { λ b. record {
+      prg = b.prg.items;
+      chr = b.chr.items;
+      chr_ram = b.chr_ram;
+      mapper = b.mapper;
+      bank = b.bank;
+    } };
 
-    ghost invariant = { λ b. IsWindowed (record { prg = b.prg.items; chr = b.chr.items; chr_ram = b.chr_ram; mapper = b.mapper; bank = b.bank }) b.low b.high b.pattern };
+    ghost invariant = { λ b. IsWindowed (record {
+      prg = b.prg.items;
+      chr = b.chr.items;
+      chr_ram = b.chr_ram;
+      mapper = b.mapper;
+      bank = b.bank;
+    }) b.low b.high b.pattern };
 }
 
 impl Banked {
     /// The board of a cartridge of UxROM (mapper 2) or CNROM (mapper 3). Bank 0 is chosen.
     pub fn new(prg: Vec<u8>, chr: Vec<u8>, chr_ram: bool, mapper: u16) -> Banked
-        requires { IsUxrom (begun prg.items chr.items chr_ram mapper) ⊎ IsCnrom (begun prg.items chr.items chr_ram mapper) }
+        requires { IsUxrom (begun prg.items chr.items chr_ram mapper)
+            ⊎ IsCnrom (begun prg.items chr.items chr_ram mapper) }
         ensures { result ≡ begun prg.items chr.items chr_ram mapper }
     {
         let high = prg.len();

@@ -13,7 +13,7 @@ fn look<B: Bus>(cpu: &mut Cpu, rises: &mut Rises, bus: &B)
     ensures rises { rises.new ≡ risen cpu.old.line (B.acts.line (B.held bus.now)) rises.old }
 {
     let level = bus.nmi_line();
-    if level != cpu.line || rises.any() {
+    if !rises.is_quiet(cpu.line, level) {
         note_change(cpu, rises, level);
     }
 }

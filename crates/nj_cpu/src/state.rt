@@ -1,6 +1,6 @@
 //! The processor's registers, and what lasts from one unit to the next.
 
-ghost use Rattle.std.specs.Prelude.{◌≡◌, ◌||◌};
+ghost use Rattle.std.specs.Prelude.{◌≡◌, ◌||◌, true};
 ghost use Rattle.nj_cpu.specs.Unit.{no_rise};
 
 use nj_alu::Flags;
@@ -68,6 +68,16 @@ impl Rises {
         ensures { result ≡ (self.now.before || self.now.last) }
     {
         self.marks != 0
+    }
+
+    /// Whether there is nothing to note after an access: the line stands as it was, and has not risen in this unit. One
+    /// look at one byte tells both.
+    #[inline(always)]
+    pub fn is_quiet(&self, was: bool, is: bool) -> bool
+        ensures stands { result ≡ true → is ≡ was }
+        ensures none { result ≡ true → self.now ≡ no_rise }
+    {
+        self.marks | (was != is) as u8 == 0
     }
 
     /// Whether it rose in the last cycle so far.
