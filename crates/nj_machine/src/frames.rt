@@ -184,7 +184,7 @@ impl<P: Picture + Drop + Waiting> Console<P> {
         ensures cartridge { rom_of self.new ≡ rom_of self.old }
     {
         self.recorder.cells.pad = pad;
-        let end = nj_cpu::unit(&mut self.cpu, &mut self.recorder.cells);
+        let end = nj_cpu::next_unit(&mut self.cpu, &mut self.recorder.cells);
         let ended = self.recorder.cells.picture.take_end();
         match end {
             UnitEnd::Jammed => Some(FrameEnd::Jammed),

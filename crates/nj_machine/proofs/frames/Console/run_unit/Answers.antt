@@ -7,7 +7,7 @@ use Rattle.nj_machine.proofs.frames.Console.run_unit.Goals as goal
 pub invariant_of-self : goal.invariant_of-self
 invariant_of-self g c =
     let left =
-    leaves_by c.args.pad _ _ _ _ c.self.invariant c.unit-end.ensures.cpu c.unit-end.ensures.held
+    leaves_by c.args.pad _ _ _ _ c.self.invariant c.next_unit-end.ensures.cpu c.next_unit-end.ensures.held
     (c.take_end-ended.ensures.taken _) in
     left.ready
 
@@ -17,6 +17,6 @@ returns-clause-ready g c = invariant_of-self g c
 pub returns-clause-cartridge : goal.returns-clause-cartridge
 returns-clause-cartridge g c =
     let left =
-    leaves_by c.args.pad _ _ _ _ c.self.invariant c.unit-end.ensures.cpu c.unit-end.ensures.held
+    leaves_by c.args.pad _ _ _ _ c.self.invariant c.next_unit-end.ensures.cpu c.next_unit-end.ensures.held
     (c.take_end-ended.ensures.taken _) in
     left.of_rom ∙ ap rom_of c.self.view_is
