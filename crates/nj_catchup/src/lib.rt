@@ -191,6 +191,10 @@ impl Picture for CatchUp {
     }
 
     #[inline(always)]
+    fn has_ended(&self) -> bool {
+        self.screen.ended
+    }
+
     fn take_end(&mut self) -> bool {
         let ended = self.screen.ended;
         if ended {

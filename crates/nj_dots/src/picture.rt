@@ -53,6 +53,10 @@ pub trait Picture {
     fn nmi_line(&self) -> bool
         ensures { (p : List ℕ) → result ≡ nmi_line_of (meaning self.now p) };
 
+    /// Whether dot (241,1) was run since its mark was last taken.
+    fn has_ended(&self) -> bool
+        ensures { (p : List ℕ) → result ≡ (meaning self.now p).ended };
+
     /// Tells whether dot (241,1) was run since the last such call.
     fn take_end(&mut self) -> bool
         ensures told { (p : List ℕ) → result ≡ (meaning self.old p).ended }

@@ -7,7 +7,7 @@ use Rattle.nj_cpu.specs.declared.state.Cpu.{Cpu}
 use Rattle.nj_isa.specs.Bus.{Acts}
 use Rattle.nj_cpu.specs.Unit.{Unit, end_of, unit_of}
 use Rattle.nj_dots.specs.declared.screen.Screen.{Screen}
-use Rattle.nj_machine.specs.State.{State, rom_of, is_jammed}
+use Rattle.nj_machine.specs.State.{Cells, State, rom_of, is_jammed}
 use Rattle.nj_machine.specs.Wires.{Wired, wires}
 use Rattle.nj_machine.specs.Frame.{left_at, dots_left, end_by, unmarked, unit_step, IsReady}
 use Rattle.nj_machine.specs.Seen.{end_told}
@@ -184,6 +184,33 @@ pub leaves_by : (pad : ℕ) (s : State) (cpu : Cpu) (w : Wired) (screen : Screen
     → Leaves s (record { cpu = cpu; cells = record w.cells { screen = screen } })
 unfolding unit_step
 leaves_by pad s cpu w screen h registers held taken = rw (taken, registers, held) (unit_leaves pad s h)
+
+-- nothing is taken off where no mark is set
+unmarked-clear : (c : Cells) → c.screen.ended ≡ false → unmarked c ≡ c
+unmarked-clear c e = ap (λ b. record c { screen = (let p = c.screen in record p { ended = b }) }) (sym e)
+
+-- a unit that neither jams nor runs dot (241,1) leaves its parts as they are
+no_end_by : (pad : ℕ) (s : State) (cpu : Cpu) (w : Wired) (end : UnitEnd)
+    → cpu ≡ (unit_of wires s.cpu (record { cells = s.cells; pad = pad })).cpu
+    → w ≡ (unit_of wires s.cpu (record { cells = s.cells; pad = pad })).held
+    → end ≡ (unit_of wires s.cpu (record { cells = s.cells; pad = pad })).end_
+    → end ≡ Done → w.cells.screen.ended ≡ false → unit_step pad s ≡ (record { cpu = cpu; cells = w.cells }, None)
+unfolding unit_step
+no_end_by pad s cpu w end registers held told done clear =
+    (λ i. (
+      record { cpu = sym registers i; cells = unmarked (sym held i).cells },
+      end_by (sym told i) (sym held i).cells.screen.ended,
+    ))
+    ∙ (λ i. (record { cpu = cpu; cells = unmarked-clear w.cells clear i }, end_by (done i) (clear i)))
+
+-- and they are those of a state that is ready, of the same cartridge
+pub leaves_on : (pad : ℕ) (s : State) (cpu : Cpu) (w : Wired) (end : UnitEnd) → IsReady s
+    → cpu ≡ (unit_of wires s.cpu (record { cells = s.cells; pad = pad })).cpu
+    → w ≡ (unit_of wires s.cpu (record { cells = s.cells; pad = pad })).held
+    → end ≡ (unit_of wires s.cpu (record { cells = s.cells; pad = pad })).end_
+    → end ≡ Done → w.cells.screen.ended ≡ false → Leaves s (record { cpu = cpu; cells = w.cells })
+leaves_on pad s cpu w end h registers held told done clear =
+    subst (Leaves s) (ap (λ x. x.0) (no_end_by pad s cpu w end registers held told done clear)) (unit_leaves pad s h)
 
 -- a step that answers a jam leaves a jammed processor, and no other does
 tells-by : (step : UnitStep) (jammed ended : Bool) → end_by (end_of jammed) ended ≡ end_told step

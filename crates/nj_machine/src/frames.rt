@@ -1,6 +1,6 @@
 //! The machine, frame by frame.
 
-ghost use Rattle.std.specs.Prelude.{◌≡◌, ◌+◌, ◌-◌, ◌^◌, ◌≤◌, ◌↔◌, ℕ, true, false, min, length, replicate, IfOk};
+ghost use Rattle.std.specs.Prelude.{◌≡◌, ◌+◌, ◌-◌, ◌^◌, ◌≤◌, ◌↔◌, ℕ, List, true, false, min, length, replicate, IfOk};
 ghost use Rattle.nj_banked.specs.Banks.{IsBanks};
 ghost use Rattle.nj_machine.specs.State.{State, power_on, ram_of, rom_of, is_jammed, memory_of, reset_vector};
 ghost use Rattle.nj_machine.specs.Frame.{unit_step, frame, frames, IsReady, IsFirstEnd};
@@ -80,6 +80,17 @@ fn board_of(alloc: Global, cart: &Cart) -> Result<Banked, AllocError>
     } else {
         Ok(Banked::new(prg, chr, cart.chr_ram(), mapper))
     }
+}
+
+// Whether a unit that ended so ends the frame: by a jam, or since it ran dot (241,1). One look tells both.
+#[inline(always)]
+fn ends_frame<P: Picture>(picture: &P, end: UnitEnd) -> bool
+    ensures done { result ≡ false → end ≡ UnitEnd.Done }
+    ensures unmarked { (p : List ℕ) → result ≡ false → (P.meaning picture.now p).ended ≡ false }
+    ensures marked { (p : List ℕ) → result ≡ true → end ≡ UnitEnd.Done → (P.meaning picture.now p).ended ≡ true }
+{
+    let jammed = end == UnitEnd::Jammed;
+    picture.has_ended() as u8 | jammed as u8 != 0
 }
 
 impl<P: Picture + Drop + Waiting> Console<P> {
@@ -185,10 +196,13 @@ impl<P: Picture + Drop + Waiting> Console<P> {
     {
         self.recorder.cells.pad = pad;
         let end = nj_cpu::next_unit(&mut self.cpu, &mut self.recorder.cells);
-        let ended = self.recorder.cells.picture.take_end();
+        if !ends_frame(&self.recorder.cells.picture, end) {
+            return None;
+        }
+        let _ = self.recorder.cells.picture.take_end();
         match end {
             UnitEnd::Jammed => Some(FrameEnd::Jammed),
-            UnitEnd::Done => { if ended { Some(FrameEnd::Picture) } else { None } }
+            UnitEnd::Done => Some(FrameEnd::Picture),
         }
     }
 

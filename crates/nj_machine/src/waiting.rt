@@ -60,7 +60,17 @@ pub(crate) struct Watch {
     polls: bool,
     // Where the last loop began that was found not to wait.
     barred: Option<u16>,
+    // How many jumps back in a row found another processor than the one before.
+    misses: u8,
+    // After many of them so many are passed by: a loop that counts is not looked at each time.
+    rests: u8,
 }
+
+// So many jumps back that find another processor are looked at, each.
+const MOST_MISSES: u8 = 32;
+
+// And then one of so many and one.
+const RESTS: u8 = 7;
 
 impl Watch {
     /// Nothing was seen yet of a frame that begins with this processor.
@@ -69,6 +79,29 @@ impl Watch {
             anchor: *cpu,
             polls: false,
             barred: None,
+            misses: 0,
+            rests: 0,
+        }
+    }
+
+    // Whether a jump back to this address is to be looked at.
+    #[inline(always)]
+    fn looks_at(&mut self, pc: u16) -> bool {
+        if self.rests > 0 {
+            self.rests -= 1;
+            return false;
+        }
+        self.barred != Some(pc)
+    }
+
+    // A jump back found another processor than the one before.
+    fn miss(&mut self, cpu: &Cpu) {
+        self.anchor = *cpu;
+        self.polls = false;
+        if self.misses < MOST_MISSES {
+            self.misses += 1;
+        } else {
+            self.rests = RESTS;
         }
     }
 }
@@ -166,9 +199,11 @@ impl<P: Picture + Drop + Waiting> Console<P> {
         ensures jam { is_jammed self.new ≡ is_jammed self.old }
     {
         if watch.anchor != self.cpu {
-            watch.anchor = self.cpu;
-            watch.polls = false;
-        } else if !self.pass_turns(&mut watch.polls) {
+            watch.miss(&self.cpu);
+            return;
+        }
+        watch.misses = 0;
+        if !self.pass_turns(&mut watch.polls) {
             watch.barred = Some(self.cpu.pc);
         }
     }
@@ -183,7 +218,7 @@ impl<P: Picture + Drop + Waiting> Console<P> {
         ensures jam { is_jammed self.new ≡ is_jammed self.old }
     {
         let pc = self.cpu.pc;
-        if P::passes_turns() && pc <= before && watch.barred != Some(pc) {
+        if P::passes_turns() && pc <= before && watch.looks_at(pc) {
             self.look_back(watch);
         }
     }

@@ -56,6 +56,10 @@ impl Picture for DotPicture {
         self.screen.nmi_line()
     }
 
+    fn has_ended(&self) -> bool {
+        self.screen.ended
+    }
+
     fn take_end(&mut self) -> bool {
         self.screen.take_end()
     }
