@@ -3,7 +3,7 @@ use Rattle.std.proofs.Common.{◌≡◌, ◌≢◌, ◌⊎◌, inl, inr, ℕ, �
 use Rattle.std.proofs.lemmas.Bool.{cond-false}
 use Rattle.nj_isa.specs.Bus.{Acts}
 use Rattle.nj_isa.specs.Table.{row_of}
-use Rattle.nj_isa.specs.Accesses.{Place, AtPc, AtStack, InZero, InZeroBy, AtWord, AtWordBy, AtUncarried, AtPointer, AfterPointer, AtBranchLow, At, Transfer, Ignores, ToLow, ToHigh, ToPointer, ToPage, ToData, ToFlags, PutsStored, PutsData, PutsChanged, PutsPcHigh, PutsPcLow, PutsFlags, Move, Stay, PcUp, StackUp, StackDown, Jump, JumpPast, PointerUp, Mask, When, Always, Carried, Taken, TakenAway, Access, accesses, class_of, nmi_entry, copies}
+use Rattle.nj_isa.specs.Accesses.{Place, AtPc, AtStack, InZero, InZeroBy, AtWord, AtWordBy, AtUncarried, AtPointer, AfterPointer, AtBranchLow, At, Transfer, Ignores, ToLow, ToHigh, ToPointer, ToPage, ToData, ToFlags, PutsStored, PutsData, PutsChanged, PutsPcHigh, PutsPcLow, PutsFlags, Move, Stay, PcUp, StackUp, StackDown, Jump, JumpPast, PointerUp, Mask, When, Always, Carried, Taken, TakenAway, Access, accesses, class_of, nmi_entry, copies, by_mode}
 use Rattle.nj_isa.specs.declared.operations.Op.{Op}
 use Rattle.nj_isa.specs.declared.operations.Op.TheVariants.{Asl, Rol, Lsr, Ror, Nop}
 use Rattle.nj_isa.specs.declared.modes.Index.TheVariants.{X, Y}
@@ -18,7 +18,8 @@ use Rattle.nj_cpu.specs.declared.state.Cpu.{Cpu}
 use Rattle.nj_cpu.specs.declared.state.Note.{Note}
 use Rattle.nj_cpu.specs.declared.state.Note.TheVariants.{None as NoNote, Late, Due}
 use Rattle.nj_cpu.specs.Effects.{is_taken, shifted, joined, done}
-use Rattle.nj_cpu.specs.Walk.{Rises, Walk, begun, address_of, is_made, read_at, transferred, moved, step, walk}
+use Rattle.nj_cpu.specs.Leading.{given}
+use Rattle.nj_cpu.specs.Walk.{Rises, Walk, Watched, EndsAs, begun, address_of, is_made, read_at, transferred, moved, step, walk}
 use Rattle.nj_cpu.specs.Unit.{no_rise, opened, finished, branched, settled, rest_by, rest_of, instruction, entered, copied, on_note, on_page, active, waits, noted, unit_of, later_note, note_after}
 use Rattle.nj_cpu.specs.Notes.{ripe, with_note, noting, ripened}
 
@@ -121,6 +122,24 @@ done-noting Lsr mode value mark cpu = shifted-noting Lsr mode value mark cpu
 done-noting Rol mode value mark cpu = shifted-noting Rol mode value mark cpu
 done-noting Ror mode value mark cpu = shifted-noting Ror mode value mark cpu
 done-noting _ mode value mark cpu = refl
+
+-- an operation leaves the level of the line
+shifted-line : (op : Op) (mode : Mode) (value : ℕ) (cpu : Cpu) → (shifted op mode value cpu).line ≡ cpu.line
+shifted-line op Accumulator value cpu = refl
+shifted-line op _ value cpu = refl
+
+done-line : (op : Op) (mode : Mode) (value : ℕ) (cpu : Cpu) → (done op mode value cpu).line ≡ cpu.line
+unfolding done joined
+done-line Asl mode value cpu = shifted-line Asl mode value cpu
+done-line Lsr mode value cpu = shifted-line Lsr mode value cpu
+done-line Rol mode value cpu = shifted-line Rol mode value cpu
+done-line Ror mode value cpu = shifted-line Ror mode value cpu
+done-line _ mode value cpu = refl
+
+pub finished-line : (kind : Kind) (op : Op) (mode : Mode) (value : ℕ) (cpu : Cpu) → (finished kind op mode value cpu).line ≡ cpu.line
+finished-line Read op mode value cpu = done-line op mode value cpu
+finished-line Write op mode value cpu = refl
+finished-line Modify op mode value cpu = done-line op mode value cpu
 
 finished-noting : (kind : Kind) (op : Op) (mode : Mode) (value : ℕ) (mark : Note) (cpu : Cpu) →
     finished kind op mode value (with_note mark cpu) ≡ with_note mark (finished kind op mode value cpu)
@@ -259,3 +278,26 @@ ripe-runs acts cpu held now kept not_due c h = (λ i. instruction acts (c i) (h 
 pub unit-active : {Held : Type 0} (acts : Acts Held) (cpu : Cpu) (held : Held) → cpu.jammed ≡ false → unit_of acts cpu held ≡ noted cpu.note (active acts cpu held)
 unfolding unit_of
 unit-active acts cpu held runs = cond-false _ _ _ runs
+
+-- an operation on the byte that its mode gives is what is left to do, where it is given one
+given-finished : (kind : Kind) (op : Op) (mode : Mode) (n : ℕ) (cpu : Cpu) → (kind ≡ Read) ⊎ (kind ≡ Modify) →
+    done op mode (given kind n) cpu ≡ finished kind op mode n cpu
+given-finished Read op mode n cpu is = refl
+given-finished Modify op mode n cpu is = refl
+given-finished Write op mode n cpu (inl e) = cc
+given-finished Write op mode n cpu (inr e) = cc
+
+-- the accesses of a mode and then the operation are the rest of the instruction
+pub mode-ends : {Held : Type 0} (acts : Acts Held) (row : OpRow) (w : Walk Held) (byte : ℕ) (cpu now : Cpu) (held : Held) (rises : Watched) →
+    (row.kind ≡ Read) ⊎ (row.kind ≡ Modify) →
+    EndsAs (walk acts row.op (by_mode row.mode row.kind) (opened ByMode w)) cpu held rises →
+    byte ≡ given row.kind (walk acts row.op (by_mode row.mode row.kind) (opened ByMode w)).data_ →
+    now ≡ done row.op row.mode byte cpu → EndsAs (rest_by acts ByMode row w) now held rises
+unfolding rest_by
+mode-ends acts row w byte cpu now held rises is ends byte_is done_is =
+    let v : Walk _ = walk acts row.op (by_mode row.mode row.kind) (opened ByMode w) in
+    record {
+      cpu = done_is ∙ (λ i. done row.op row.mode (byte_is i) (ends.cpu i)) ∙ given-finished row.kind row.op row.mode v.data_ v.cpu is;
+      held = ends.held;
+      rises = ends.rises ∙ ap (λ (b : Bool). record { edges = v.rises; line = b }) (sym (finished-line row.kind row.op row.mode v.data_ v.cpu));
+    }

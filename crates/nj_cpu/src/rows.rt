@@ -30,8 +30,9 @@ pub(crate) fn enter<B: Bus>(
     brk: bool,
     vector: u16,
 )
-    requires { vector < 65535 }
-    ensures { EndsAs (walk B.acts op (entering brk vector) (begun cpu.old (B.held bus.old) rises.old))
+    requires level { rises.old.line ≡ cpu.old.line }
+    requires vector { vector < 65535 }
+    ensures { EndsAs (walk B.acts op (entering brk vector) (begun cpu.old (B.held bus.old) rises.old.edges))
         cpu.new (B.held bus.new) rises.new }
 {
     push(cpu, rises, bus, (cpu.pc / 256) as u8);
@@ -47,7 +48,8 @@ pub(crate) fn enter<B: Bus>(
 #[tactic(auto, unfolding(crate::specs::Unit::rest_by))]
 #[inline(always)]
 fn run_by_mode<B: Bus>(cpu: &mut Cpu, rises: &mut Rises, bus: &mut B, row: OpRow)
-    ensures { EndsAs (rest_by B.acts ByModeClass row (begun cpu.old (B.held bus.old) rises.old))
+    requires { rises.old.line ≡ cpu.old.line }
+    ensures { EndsAs (rest_by B.acts ByModeClass row (begun cpu.old (B.held bus.old) rises.old.edges))
         cpu.new (B.held bus.new) rises.new }
 {
     step_over(cpu);
@@ -62,7 +64,8 @@ fn run_by_mode<B: Bus>(cpu: &mut Cpu, rises: &mut Rises, bus: &mut B, row: OpRow
 #[tactic(auto, unfolding(crate::specs::Unit::rest_by))]
 #[inline(always)]
 fn branch<B: Bus>(cpu: &mut Cpu, rises: &mut Rises, bus: &mut B, row: OpRow)
-    ensures { EndsAs (rest_by B.acts BranchClass row (begun cpu.old (B.held bus.old) rises.old))
+    requires { rises.old.line ≡ cpu.old.line }
+    ensures { EndsAs (rest_by B.acts BranchClass row (begun cpu.old (B.held bus.old) rises.old.edges))
         cpu.new (B.held bus.new) rises.new }
 {
     step_over(cpu);
@@ -86,7 +89,8 @@ fn branch<B: Bus>(cpu: &mut Cpu, rises: &mut Rises, bus: &mut B, row: OpRow)
 #[tactic(auto, unfolding(crate::specs::Unit::rest_by))]
 #[inline(always)]
 fn jump<B: Bus>(cpu: &mut Cpu, rises: &mut Rises, bus: &mut B, row: OpRow)
-    ensures { EndsAs (rest_by B.acts JumpClass row (begun cpu.old (B.held bus.old) rises.old))
+    requires { rises.old.line ≡ cpu.old.line }
+    ensures { EndsAs (rest_by B.acts JumpClass row (begun cpu.old (B.held bus.old) rises.old.edges))
         cpu.new (B.held bus.new) rises.new }
 {
     step_over(cpu);
@@ -99,7 +103,8 @@ fn jump<B: Bus>(cpu: &mut Cpu, rises: &mut Rises, bus: &mut B, row: OpRow)
 #[tactic(auto, unfolding(crate::specs::Unit::rest_by))]
 #[inline(never)]
 fn jump_indirect<B: Bus>(cpu: &mut Cpu, rises: &mut Rises, bus: &mut B, row: OpRow)
-    ensures { EndsAs (rest_by B.acts JumpIndirectClass row (begun cpu.old (B.held bus.old) rises.old))
+    requires { rises.old.line ≡ cpu.old.line }
+    ensures { EndsAs (rest_by B.acts JumpIndirectClass row (begun cpu.old (B.held bus.old) rises.old.edges))
         cpu.new (B.held bus.new) rises.new }
 {
     step_over(cpu);
@@ -114,7 +119,8 @@ fn jump_indirect<B: Bus>(cpu: &mut Cpu, rises: &mut Rises, bus: &mut B, row: OpR
 #[tactic(auto, unfolding(crate::specs::Unit::rest_by))]
 #[inline(always)]
 fn call<B: Bus>(cpu: &mut Cpu, rises: &mut Rises, bus: &mut B, row: OpRow)
-    ensures { EndsAs (rest_by B.acts CallClass row (begun cpu.old (B.held bus.old) rises.old))
+    requires { rises.old.line ≡ cpu.old.line }
+    ensures { EndsAs (rest_by B.acts CallClass row (begun cpu.old (B.held bus.old) rises.old.edges))
         cpu.new (B.held bus.new) rises.new }
 {
     step_over(cpu);
@@ -130,7 +136,8 @@ fn call<B: Bus>(cpu: &mut Cpu, rises: &mut Rises, bus: &mut B, row: OpRow)
 #[tactic(auto, unfolding(crate::specs::Unit::rest_by))]
 #[inline(always)]
 fn return_from_call<B: Bus>(cpu: &mut Cpu, rises: &mut Rises, bus: &mut B, row: OpRow)
-    ensures { EndsAs (rest_by B.acts ReturnClass row (begun cpu.old (B.held bus.old) rises.old))
+    requires { rises.old.line ≡ cpu.old.line }
+    ensures { EndsAs (rest_by B.acts ReturnClass row (begun cpu.old (B.held bus.old) rises.old.edges))
         cpu.new (B.held bus.new) rises.new }
 {
     step_over(cpu);
@@ -146,7 +153,8 @@ fn return_from_call<B: Bus>(cpu: &mut Cpu, rises: &mut Rises, bus: &mut B, row: 
 #[tactic(auto, unfolding(crate::specs::Unit::rest_by))]
 #[inline(never)]
 fn return_from_interrupt<B: Bus>(cpu: &mut Cpu, rises: &mut Rises, bus: &mut B, row: OpRow)
-    ensures { EndsAs (rest_by B.acts InterruptReturnClass row (begun cpu.old (B.held bus.old) rises.old))
+    requires { rises.old.line ≡ cpu.old.line }
+    ensures { EndsAs (rest_by B.acts InterruptReturnClass row (begun cpu.old (B.held bus.old) rises.old.edges))
         cpu.new (B.held bus.new) rises.new }
 {
     step_over(cpu);
@@ -163,7 +171,8 @@ fn return_from_interrupt<B: Bus>(cpu: &mut Cpu, rises: &mut Rises, bus: &mut B, 
 #[tactic(auto, unfolding(crate::specs::Unit::rest_by))]
 #[inline(never)]
 fn break_in<B: Bus>(cpu: &mut Cpu, rises: &mut Rises, bus: &mut B, row: OpRow)
-    ensures { EndsAs (rest_by B.acts BreakClass row (begun cpu.old (B.held bus.old) rises.old))
+    requires { rises.old.line ≡ cpu.old.line }
+    ensures { EndsAs (rest_by B.acts BreakClass row (begun cpu.old (B.held bus.old) rises.old.edges))
         cpu.new (B.held bus.new) rises.new }
 {
     step_over(cpu);
@@ -175,7 +184,8 @@ fn break_in<B: Bus>(cpu: &mut Cpu, rises: &mut Rises, bus: &mut B, row: OpRow)
 #[tactic(auto, unfolding(crate::specs::Unit::rest_by))]
 #[inline(never)]
 fn push_a<B: Bus>(cpu: &mut Cpu, rises: &mut Rises, bus: &mut B, row: OpRow)
-    ensures { EndsAs (rest_by B.acts PushAClass row (begun cpu.old (B.held bus.old) rises.old))
+    requires { rises.old.line ≡ cpu.old.line }
+    ensures { EndsAs (rest_by B.acts PushAClass row (begun cpu.old (B.held bus.old) rises.old.edges))
         cpu.new (B.held bus.new) rises.new }
 {
     step_over(cpu);
@@ -188,7 +198,8 @@ fn push_a<B: Bus>(cpu: &mut Cpu, rises: &mut Rises, bus: &mut B, row: OpRow)
 #[tactic(auto, unfolding(crate::specs::Unit::rest_by))]
 #[inline(never)]
 fn push_flags<B: Bus>(cpu: &mut Cpu, rises: &mut Rises, bus: &mut B, row: OpRow)
-    ensures { EndsAs (rest_by B.acts PushFlagsClass row (begun cpu.old (B.held bus.old) rises.old))
+    requires { rises.old.line ≡ cpu.old.line }
+    ensures { EndsAs (rest_by B.acts PushFlagsClass row (begun cpu.old (B.held bus.old) rises.old.edges))
         cpu.new (B.held bus.new) rises.new }
 {
     step_over(cpu);
@@ -200,7 +211,8 @@ fn push_flags<B: Bus>(cpu: &mut Cpu, rises: &mut Rises, bus: &mut B, row: OpRow)
 #[tactic(auto, unfolding(crate::specs::Unit::rest_by))]
 #[inline(never)]
 fn pull_a<B: Bus>(cpu: &mut Cpu, rises: &mut Rises, bus: &mut B, row: OpRow)
-    ensures { EndsAs (rest_by B.acts PullAClass row (begun cpu.old (B.held bus.old) rises.old))
+    requires { rises.old.line ≡ cpu.old.line }
+    ensures { EndsAs (rest_by B.acts PullAClass row (begun cpu.old (B.held bus.old) rises.old.edges))
         cpu.new (B.held bus.new) rises.new }
 {
     step_over(cpu);
@@ -214,7 +226,8 @@ fn pull_a<B: Bus>(cpu: &mut Cpu, rises: &mut Rises, bus: &mut B, row: OpRow)
 #[tactic(auto, unfolding(crate::specs::Unit::rest_by))]
 #[inline(never)]
 fn pull_flags<B: Bus>(cpu: &mut Cpu, rises: &mut Rises, bus: &mut B, row: OpRow)
-    ensures { EndsAs (rest_by B.acts PullFlagsClass row (begun cpu.old (B.held bus.old) rises.old))
+    requires { rises.old.line ≡ cpu.old.line }
+    ensures { EndsAs (rest_by B.acts PullFlagsClass row (begun cpu.old (B.held bus.old) rises.old.edges))
         cpu.new (B.held bus.new) rises.new }
 {
     step_over(cpu);
@@ -228,7 +241,8 @@ fn pull_flags<B: Bus>(cpu: &mut Cpu, rises: &mut Rises, bus: &mut B, row: OpRow)
 #[tactic(auto, unfolding(crate::specs::Unit::rest_by))]
 #[inline(always)]
 fn run_class<B: Bus>(cpu: &mut Cpu, rises: &mut Rises, bus: &mut B, class: Class, row: OpRow)
-    ensures { EndsAs (rest_by B.acts class row (begun cpu.old (B.held bus.old) rises.old))
+    requires { rises.old.line ≡ cpu.old.line }
+    ensures { EndsAs (rest_by B.acts class row (begun cpu.old (B.held bus.old) rises.old.edges))
         cpu.new (B.held bus.new) rises.new }
 {
     match class {
@@ -252,7 +266,8 @@ fn run_class<B: Bus>(cpu: &mut Cpu, rises: &mut Rises, bus: &mut B, class: Class
 #[tactic(auto, unfolding(crate::specs::Unit::rest_of))]
 #[inline(always)]
 pub(crate) fn run_row<B: Bus>(cpu: &mut Cpu, rises: &mut Rises, bus: &mut B, row: OpRow)
-    ensures { EndsAs (rest_of B.acts row (begun cpu.old (B.held bus.old) rises.old))
+    requires { rises.old.line ≡ cpu.old.line }
+    ensures { EndsAs (rest_of B.acts row (begun cpu.old (B.held bus.old) rises.old.edges))
         cpu.new (B.held bus.new) rises.new }
 {
     run_class(cpu, rises, bus, op_class(row.op, row.mode), row);

@@ -41,7 +41,8 @@ pub fn power_on(pc: u16) -> Cpu
 #[tactic(auto, unfolding(crate::specs::Unit::instruction))]
 #[inline(always)]
 fn run_instruction<B: Bus>(cpu: &mut Cpu, rises: &mut Rises, bus: &mut B)
-    ensures { rises.old ≡ no_rise → EndsAs (instruction B.acts cpu.old (B.held bus.old))
+    requires { rises.old.line ≡ cpu.old.line }
+    ensures { rises.old.edges ≡ no_rise → EndsAs (instruction B.acts cpu.old (B.held bus.old))
         cpu.new (B.held bus.new) rises.new }
 {
     let opcode = read(cpu, rises, bus, cpu.pc);
@@ -52,7 +53,8 @@ fn run_instruction<B: Bus>(cpu: &mut Cpu, rises: &mut Rises, bus: &mut B)
 #[tactic(auto, unfolding(crate::specs::Unit::entered))]
 #[inline(never)]
 fn enter_nmi<B: Bus>(cpu: &mut Cpu, rises: &mut Rises, bus: &mut B)
-    ensures { rises.old ≡ no_rise → EndsAs (entered B.acts cpu.old (B.held bus.old))
+    requires { rises.old.line ≡ cpu.old.line }
+    ensures { rises.old.edges ≡ no_rise → EndsAs (entered B.acts cpu.old (B.held bus.old))
         cpu.new (B.held bus.new) rises.new }
 {
     cpu.note = Note::None;
@@ -64,7 +66,8 @@ fn enter_nmi<B: Bus>(cpu: &mut Cpu, rises: &mut Rises, bus: &mut B)
 /// One cycle before a sprite copy, two where the next cycle's number is odd.
 #[inline]
 fn wait<B: Bus>(cpu: &mut Cpu, rises: &mut Rises, bus: &mut B)
-    ensures { EndsAs (walk B.acts NoOp (waits (B.acts.odd (B.held bus.old))) (begun cpu.old (B.held bus.old) rises.old))
+    requires { rises.old.line ≡ cpu.old.line }
+    ensures { EndsAs (walk B.acts NoOp (waits (B.acts.odd (B.held bus.old))) (begun cpu.old (B.held bus.old) rises.old.edges))
         cpu.new (B.held bus.new) rises.new }
 {
     let odd = bus.odd();
@@ -77,7 +80,8 @@ fn wait<B: Bus>(cpu: &mut Cpu, rises: &mut Rises, bus: &mut B)
 /// Reads the 256 bytes of a page and writes each to $2004.
 #[inline]
 fn copy_page<B: Bus>(cpu: &mut Cpu, rises: &mut Rises, bus: &mut B, page: u8)
-    ensures { EndsAs (walk B.acts NoOp (copies page 256) (begun cpu.old (B.held bus.old) rises.old))
+    requires { rises.old.line ≡ cpu.old.line }
+    ensures { EndsAs (walk B.acts NoOp (copies page 256) (begun cpu.old (B.held bus.old) rises.old.edges))
         cpu.new (B.held bus.new) rises.new }
 {
     for i in 0..256u16 {
@@ -98,7 +102,8 @@ fn ripen(cpu: &mut Cpu)
 /// The cycles of a sprite copy.
 #[tactic(auto, unfolding(crate::specs::Unit::copied))]
 fn wait_and_copy<B: Bus>(cpu: &mut Cpu, rises: &mut Rises, bus: &mut B, page: u8)
-    ensures { rises.old ≡ no_rise → EndsAs (copied B.acts page cpu.old (B.held bus.old))
+    requires { rises.old.line ≡ cpu.old.line }
+    ensures { rises.old.edges ≡ no_rise → EndsAs (copied B.acts page cpu.old (B.held bus.old))
         cpu.new (B.held bus.new) rises.new }
 {
     wait(cpu, rises, bus);
@@ -109,7 +114,8 @@ fn wait_and_copy<B: Bus>(cpu: &mut Cpu, rises: &mut Rises, bus: &mut B, page: u8
 #[cold]
 #[inline(never)]
 fn copy<B: Bus>(cpu: &mut Cpu, rises: &mut Rises, bus: &mut B, page: u8)
-    ensures { rises.old ≡ no_rise → EndsAs (ripened (copied B.acts page cpu.old (B.held bus.old)))
+    requires { rises.old.line ≡ cpu.old.line }
+    ensures { rises.old.edges ≡ no_rise → EndsAs (ripened (copied B.acts page cpu.old (B.held bus.old)))
         cpu.new (B.held bus.new) rises.new }
 {
     wait_and_copy(cpu, rises, bus, page);
@@ -121,7 +127,8 @@ fn copy<B: Bus>(cpu: &mut Cpu, rises: &mut Rises, bus: &mut B, page: u8)
 #[cold]
 #[inline(never)]
 fn enter_if_due<B: Bus>(cpu: &mut Cpu, rises: &mut Rises, bus: &mut B) -> bool
-    ensures entered { result ≡ true → rises.old ≡ no_rise
+    requires { rises.old.line ≡ cpu.old.line }
+    ensures entered { result ≡ true → rises.old.edges ≡ no_rise
         → EndsAs (ripened (on_note cpu.old.note B.acts cpu.old (B.held bus.old))) cpu.new (B.held bus.new) rises.new }
     ensures not_due { result ≡ false → cpu.old.note ≢ Note.Due }
     ensures cpu { result ≡ false → cpu.new ≡ with_note (ripe cpu.old.note) cpu.old }
@@ -139,7 +146,8 @@ fn enter_if_due<B: Bus>(cpu: &mut Cpu, rises: &mut Rises, bus: &mut B) -> bool
 /// An NMI entry where it is Due, else an instruction.
 #[inline(always)]
 fn run_noted<B: Bus>(cpu: &mut Cpu, rises: &mut Rises, bus: &mut B)
-    ensures { rises.old ≡ no_rise → EndsAs (ripened (on_note cpu.old.note B.acts cpu.old (B.held bus.old)))
+    requires { rises.old.line ≡ cpu.old.line }
+    ensures { rises.old.edges ≡ no_rise → EndsAs (ripened (on_note cpu.old.note B.acts cpu.old (B.held bus.old)))
         cpu.new (B.held bus.new) rises.new }
 {
     if cpu.note != Note::None && enter_if_due(cpu, rises, bus) {
@@ -152,7 +160,8 @@ fn run_noted<B: Bus>(cpu: &mut Cpu, rises: &mut Rises, bus: &mut B)
 #[tactic(auto, unfolding(crate::specs::Unit::active))]
 #[inline(always)]
 fn run_active<B: Bus>(cpu: &mut Cpu, rises: &mut Rises, bus: &mut B)
-    ensures { rises.old ≡ no_rise → EndsAs (ripened (active B.acts cpu.old (B.held bus.old)))
+    requires { rises.old.line ≡ cpu.old.line }
+    ensures { rises.old.edges ≡ no_rise → EndsAs (ripened (active B.acts cpu.old (B.held bus.old)))
         cpu.new (B.held bus.new) rises.new }
 {
     match bus.take_dma() {
@@ -164,7 +173,7 @@ fn run_active<B: Bus>(cpu: &mut Cpu, rises: &mut Rises, bus: &mut B)
 /// Sets the note at a unit's end. Where the line did not rise, it stays as it is.
 #[inline(always)]
 fn set_note(cpu: &mut Cpu, rises: &Rises)
-    ensures { cpu.new ≡ with_note (later_note cpu.old.note rises.now) cpu.old }
+    ensures { cpu.new ≡ with_note (later_note cpu.old.note rises.now.edges) cpu.old }
 {
     if rises.any() {
         cpu.note = next_note(cpu.note, rises);
@@ -175,7 +184,7 @@ fn set_note(cpu: &mut Cpu, rises: &Rises)
 #[cold]
 #[inline(never)]
 fn next_note(now: Note, rises: &Rises) -> Note
-    ensures { result ≡ later_note now rises.now }
+    ensures { result ≡ later_note now rises.now.edges }
 {
     if rises.before() {
         Note::Due
@@ -189,6 +198,7 @@ fn next_note(now: Note, rises: &Rises) -> Note
 /// Runs one unit: nothing where the processor is jammed, else a sprite copy where the bus asks for
 /// one, else an NMI entry where one is due, else one instruction. Each access is one cycle.
 #[tactic(auto, unfolding(crate::specs::Unit::unit_of))]
+#[inline(always)]
 pub fn unit<B: Bus>(cpu: &mut Cpu, bus: &mut B) -> UnitEnd
     ensures cpu { cpu.new ≡ (unit_of B.acts cpu.old (B.held bus.old)).cpu }
     ensures held { B.held bus.new ≡ (unit_of B.acts cpu.old (B.held bus.old)).held }
@@ -209,7 +219,7 @@ pub fn next_unit<B: Bus>(cpu: &mut Cpu, bus: &mut B) -> UnitEnd
     ensures held { B.held bus.new ≡ (unit_of B.acts cpu.old (B.held bus.old)).held }
     ensures end { result ≡ (unit_of B.acts cpu.old (B.held bus.old)).end_ }
 {
-    let mut rises = Rises::none();
+    let mut rises = Rises::begun(cpu.line);
     run_active(cpu, &mut rises, bus);
     set_note(cpu, &rises);
     end_now(cpu)

@@ -11,8 +11,8 @@ returns-clause-cpu g c =
     let cpu = c.args.cpu.now in
     let held = g.B.Bus.held c.args.bus.now in
     let w = active acts cpu held in
-    let ends = c.run_active.ensures c.none-rises.ensures in
+    let ends = c.run_active.ensures (ap (λ r. r.edges) c.begun-rises.ensures) in
     c.set_note.ensures
-    ∙ (λ i. with_note (later_note (ends.cpu i).note (ends.rises i)) (ends.cpu i))
+    ∙ (λ i. with_note (later_note (ends.cpu i).note (ends.rises i).edges) (ends.cpu i))
     ∙ ap (λ n. with_note n w.cpu) (note_is cpu.note w.cpu.note w.rises (active-left acts cpu held))
     ∙ sym (ap (λ u. u.cpu) (unit-active acts cpu held c.requires))
