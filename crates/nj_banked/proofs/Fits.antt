@@ -1,8 +1,9 @@
 -- What the sizes of a board say of its banks and windows.
-use Rattle.std.proofs.Common.{◌≡◌, ◌==◌, ◌⊎◌, inl, inr, ℕ, ◌+◌, ◌-◌, ◌*◌, ◌/◌, ◌%◌, ◌<◌, ◌≤◌, true, false, List, length, get_or, refl, sym, ap, subst, ◌∙◌, arith, length-take, length-drop}
+use Rattle.std.proofs.Common.{◌≡◌, ◌==◌, ◌⊎◌, inl, inr, ℕ, ◌+◌, ◌-◌, ◌*◌, ◌/◌, ◌%◌, ◌<◌, ◌≤◌, nat_lt, Bool, true, false, List, length, get_or, refl, sym, ap, subst, ◌∙◌, arith, length-take, length-drop}
 use Rattle.std.proofs.lemmas.Bool.{cond-true, cond-false, lt-ltb, le-ltb}
 use Rattle.std.proofs.lemmas.List.{take_all}
-use Rattle.std.specs.Prelude.{slice_range}
+use Rattle.std.proofs.lemmas.Bool.Decides.{nat_tests}
+use Rattle.std.specs.Prelude.{slice_range, slice_index}
 use Rattle.nj_board.specs.Nrom.{IsProgram, program_byte}
 use Rattle.nj_banked.specs.Banks.{Banks, bank_count, IsUxromProgram, IsCnromPattern, IsNrom, IsUxrom, IsCnrom, IsBanks}
 use Rattle.nj_banked.specs.Banked.{windowed_byte, prg_byte, pattern_of}
@@ -178,6 +179,21 @@ high-seen m low high pattern at is from below =
     least (inl h) = (fixed-size m.prg h.prg).0
     least (inr (inl h)) = omega (arith, uxrom-least m.prg h.prg)
     least (inr (inr h)) = (fixed-size m.prg h.prg).0
+
+-- and each by the address
+pub window-seen : (m : Banks) (windows : List ℕ) (pattern at : ℕ) → IsWindowed m (slice_index windows 0) (slice_index windows 1) pattern →
+    0x8000 ≤ at → at < 0x10000 → IsSeen m (slice_index windows (at / 0x4000 - 2)) at
+window-seen m windows pattern at is from below = go (nat_lt at 0xC000) refl
+  where
+    go : (b : Bool) → nat_lt at 0xC000 ≡ b → IsSeen m (slice_index windows (at / 0x4000 - 2)) at
+    go true e =
+        let low : at < 0xC000 = grind (arith, nat_tests, e) in
+        let place : 0 ≡ at / 0x4000 - 2 = omega (arith, low, from) in
+        subst (λ i. IsSeen m (slice_index windows i) at) place (low-seen m _ _ pattern at is from low)
+    go false e =
+        let high : 0xC000 ≤ at = grind (arith, nat_tests, e) in
+        let place : 1 ≡ at / 0x4000 - 2 = omega (arith, high, below) in
+        subst (λ i. IsSeen m (slice_index windows i) at) place (high-seen m _ _ pattern at is high below)
 
 -- a piece of a memory is as long as its places are apart
 length-piece : (memory : List ℕ) (from to size : ℕ) → to ≤ length memory → from + size ≡ to → length (slice_range memory from to) ≡ size

@@ -1,5 +1,5 @@
 -- What calls leave as it was, and that a board stays one.
-use Rattle.std.proofs.Common.{◌≡◌, ◌==◌, ◌⊎◌, inl, inr, ℕ, ◌+◌, ◌*◌, ◌<◌, Bool, true, false, cond, List, length, refl, sym, ap, subst, ◌∙◌, arith}
+use Rattle.std.proofs.Common.{◌≡◌, ◌==◌, ◌⊎◌, inl, inr, ℕ, ◌+◌, ◌*◌, ◌<◌, Bool, true, false, cond, List, length, slice_index, slice_set, [], ◌∷◌, refl, sym, ap, subst, ◌∙◌, arith}
 use Rattle.std.proofs.lemmas.Bool.{ne_eqb}
 use Rattle.nj_board.specs.Nrom.{IsProgram}
 use Rattle.nj_banked.specs.Banks.{Banks, begun, bank_count, IsNrom, IsUxrom, IsCnrom, IsBanks}
@@ -117,3 +117,9 @@ begun-windowed prg chr chr_ram mapper high board high_is =
     none : (b : Bool) → ◌≡◌ {A = ℕ} 0 (cond b 0 0)
     none true = refl
     none false = refl
+
+-- a new place of the first of two windows leaves the second
+pub set-first : (windows : List ℕ) (n : ℕ) → length windows ≡ 2 →
+    (slice_index (slice_set windows 0 n) 0 ≡ n) × (slice_index (slice_set windows 0 n) 1 ≡ slice_index windows 1)
+set-first [] n e = cc
+set-first (low ∷ rest) n e = (refl, refl)

@@ -131,8 +131,8 @@ compare_a value cpu = compared (comparison_of cpu.a value) cpu
 abbrev pub and_then : Op → (ℕ → Cpu → Cpu) → ℕ → Cpu → Cpu
 and_then op next value cpu = next (changed_by op cpu.flags.c value) (with_changed op value cpu)
 
--- the operations that unofficial opcodes have: ANC is AND with bit 7 for the carry, ALR is AND and LSR of A, ARR is AND and
--- ROR of A with flags of its own, SBX takes the byte from A AND X without a borrow and gives it to X
+-- the operations that unofficial opcodes have: ANC is AND with bit 7 for the carry, ALR is AND and LSR of A, ARR is AND
+-- and ROR of A with flags of its own, SBX takes the byte from A AND X without a borrow and gives it to X
 unfoldable pub joined : Op → ℕ → Cpu → Cpu
 joined Slo value cpu = and_then Asl or_a value cpu
 joined Rla value cpu = and_then Rol and_a value cpu

@@ -20,7 +20,8 @@ use Rattle.nj_cpu.specs.declared.state.UnitEnd.TheVariants.{Done, Jammed}
 use Rattle.nj_cpu.specs.Effects.{is_taken, in_a, done}
 use Rattle.nj_cpu.specs.Walk.{Rises, Walk, begun, target_of, read_at, moved, walk}
 
--- at power-on S is $FD, I is set, and all else is clear (this project's own profile of NESdev Wiki, "CPU power up state")
+-- at power-on S is $FD, I is set, and all else is clear (this project's own profile of NESdev Wiki, "CPU power up
+-- state")
 abbrev pub powered_on : ℕ → Cpu
 powered_on pc =
     record {

@@ -35,8 +35,8 @@ pub record IsTurn (cpu : Cpu) (held : Dry) (cycles : ℕ) : Type 0 where
   pub units : ℕ
   pub run : Leads dry IsDry units cpu held cpu (record held { cycles = cycles })
 
--- a bus that rests for so many cycles while nothing but memory, or the status, is read: its state after c cycles, byte b the last one on
--- the data bus, is place c b; these are told, the NMI line stands, and no sprite copy waits
+-- a bus that rests for so many cycles while nothing but memory, or the status, is read: its state after c cycles, byte
+-- b the last one on the data bus, is place c b; these are told, the NMI line stands, and no sprite copy waits
 pub record Rests {Held : Type 0} (acts : Acts Held) (place : ℕ → ℕ → Held) (ram : List ℕ) (board : Banks) (status : Option ℕ) (line : Bool) (limit : ℕ) : Type 0 where
   pub byte : (c last at byte : ℕ) → c < limit → told_byte ram board status at ≡ Some byte → acts.byte (place c last) at ≡ byte
   pub after : (c last at byte : ℕ) → c < limit → told_byte ram board status at ≡ Some byte →
