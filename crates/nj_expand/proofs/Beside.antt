@@ -1,16 +1,16 @@
 -- The keys of the fresh rows in any order, and the fresh rows by claims beside the seen keys.
-use Rattle.std.proofs.Common.{◌≡◌, ◌≢◌, ℕ, ◌+◌, ◌-◌, ◌<◌, ◌≤◌, ◌==◌, ⊎_elim, Bool, true, List, length, map, drop, refl, sym, ap, ◌∙◌, subst, arith, eq-eqb, ne_eqb}
+use Rattle.std.proofs.Common.{◌≡◌, ◌≢◌, ℕ, ◌-◌, ◌<◌, ◌==◌, ⊎_elim, Bool, true, List, drop, sym, ap, ◌∙◌, subst, arith, eq-eqb, ne_eqb}
 use Rattle.std.specs.Prelude.{Some, None, filter, if◌then◌else◌}
-use Rattle.std.specs.List.{All, AllPairs, Contains, list_any}
+use Rattle.std.specs.List.{All, AllPairs, Contains}
 use Rattle.std.specs.List.Sorted.{IsPermutation}
 use Rattle.std.proofs.lemmas.Bool.Decides.{eqb_tells, Decides-eqb}
-use Rattle.std.proofs.lemmas.List.Sorted.{IsPermutation-map, All-permutation, length_permutation, list_any-IsPermutation}
+use Rattle.std.proofs.lemmas.List.Sorted.{All-permutation, length_permutation, list_any-IsPermutation}
 use Rattle.std.proofs.lemmas.Map.Keys.{IsDistinct-IsPermutation}
 use Rattle.std.proofs.lemmas.Map.Made.{AllPairs-from_IsDistinct, IsDistinct-from_AllPairs}
 use Rattle.nj_search_defs.specs.Pruning.{Seen}
 use Rattle.nj_search_defs.specs.Outcome.{seen_of}
 use Rattle.nj_rows.specs.declared.Row.{Row}
-use Rattle.nj_claims.specs.Tables.{entries_in, owner_in, owner_after, slot_count}
+use Rattle.nj_claims.specs.Tables.{owner_in, owner_after}
 use Rattle.nj_seen.specs.declared.forgetting.SeenKeys.{SeenKeys}
 use Rattle.nj_seen.specs.Rows.{IsRising, is_fresh_row, fresh_rows}
 use Rattle.nj_seen.specs.Held.{HoldsSeen, AreClaims, first_claim, is_owned_unseen, oldest_step}

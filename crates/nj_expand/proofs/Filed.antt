@@ -1,14 +1,14 @@
 -- The seen keys in the table of a search: what is left of them, what is added, and what they are after the step.
-use Rattle.std.proofs.Common.{◌≡◌, ◌≢◌, ℕ, ◌+◌, ◌-◌, ◌*◌, ◌/◌, ◌^◌, ◌<◌, ◌≤◌, ◌==◌, Bool, true, false, cond, List, [], ◌∷◌, ◌++◌, length, map, filter, drop, nat_le, refl, sym, ap, ap₂, ◌∙◌, subst, arith, mul-le-mul_right, length-append}
-use Rattle.std.specs.Prelude.{Some, None, if◌then◌else◌, sum_by}
-use Rattle.std.specs.List.{All, AllPairs, Contains, list_any}
+use Rattle.std.proofs.Common.{◌≡◌, ◌≢◌, ℕ, ◌+◌, ◌-◌, ◌*◌, ◌/◌, ◌^◌, ◌<◌, ◌≤◌, ◌==◌, Bool, true, false, cond, List, [], ◌∷◌, ◌++◌, length, map, filter, drop, nat_le, refl, sym, ap, ◌∙◌, subst, arith, mul-le-mul_right}
+use Rattle.std.specs.Prelude.{Some, None, if◌then◌else◌}
+use Rattle.std.specs.List.{All, AllPairs, list_any}
 use Rattle.std.proofs.lemmas.Bool.{leb-true}
 use Rattle.std.proofs.lemmas.List.{length-map, length_push}
 use Rattle.std.proofs.lemmas.List.Sums.{sum_by-append}
 use Rattle.std.proofs.lemmas.List.Elements.{All-map, All-filter, All-weaker}
 use Rattle.nj_search_defs.specs.Order.{put_in, in_order}
-use Rattle.nj_search_defs.specs.Pruning.{Seen, key_count, forgotten, generation}
-use Rattle.nj_search_defs.specs.Outcome.{seen_of, fresh_of}
+use Rattle.nj_search_defs.specs.Pruning.{Seen, key_count, forgotten}
+use Rattle.nj_search_defs.specs.Outcome.{seen_of}
 use Rattle.nj_game.specs.Words.{game_of}
 use Rattle.nj_rows.specs.declared.Row.{Row}
 use Rattle.nj_rows.specs.Order.{is_row_before}
@@ -25,7 +25,7 @@ use Rattle.nj_expand.specs.Held.{Held, live_rows, candidates_in}
 use Rattle.nj_expand.specs.Rows.{row_of}
 use Rattle.nj_expand.specs.Front.{image_at, IsFront}
 use Rattle.nj_expand.specs.Table.{IsTableAt}
-use Rattle.nj_expand.specs.Ending.{AreFew, room_of, fresh_rows_in, seen_next, IsTableOf, HoldsLeft, IsMade, CanAdd, IsAdded, AreNewKeys, IsNewTable, CanPut, IsPut, IsLeft, AreNextKeys}
+use Rattle.nj_expand.specs.Ending.{room_of, fresh_rows_in, seen_next, IsTableOf, HoldsLeft, IsMade, CanAdd, IsAdded, AreNewKeys, IsNewTable, CanPut, IsPut, IsLeft, AreNextKeys}
 use Rattle.nj_expand.proofs.Fronts.{LiveRowsAreLive, filter_short}
 
 -- ---- room

@@ -1,6 +1,6 @@
 -- The rows of a step, word by word of its front.
-use Rattle.std.proofs.Common.{◌≡◌, ◌≢◌, ℕ, suc, ◌+◌, ◌*◌, ◌<◌, ◌≤◌, Bool, true, false, cond, List, [], ◌∷◌, ◌++◌, length, map, filter, get_or, refl, sym, ap, ◌∙◌, subst, arith, length-append}
-use Rattle.std.specs.Prelude.{All, sum_by}
+use Rattle.std.proofs.Common.{◌≡◌, ◌≢◌, ℕ, ◌+◌, ◌*◌, ◌<◌, ◌≤◌, Bool, true, false, cond, List, [], ◌∷◌, ◌++◌, length, map, filter, get_or, refl, sym, ap, ◌∙◌, arith, length-append}
+use Rattle.std.specs.Prelude.{All}
 use Rattle.std.proofs.lemmas.List.{map-append, length-map}
 use Rattle.std.proofs.lemmas.List.Sums.{sum_by-cons}
 use Rattle.std.proofs.lemmas.List.Elements.{filter-append, All-nil, All-append, All-weaker, All-filter, All-map}
@@ -10,7 +10,6 @@ use Rattle.nj_search_defs.specs.Pruning.{live}
 use Rattle.nj_search_defs.specs.Outcome.{lives_of}
 use Rattle.nj_machine.specs.State.{State, ram_of}
 use Rattle.nj_rules.specs.declared.record.HashItem.{HashItem}
-use Rattle.nj_rules.specs.declared.record.InputSet.{InputSet}
 use Rattle.nj_rules.specs.Pads.{allowed_pads, named_pads}
 use Rattle.nj_rules.specs.Key.{key_in}
 use Rattle.nj_script.specs.Script.{Record}
@@ -24,7 +23,6 @@ use Rattle.nj_expand.specs.Children.{child_rows, live_among, word_rows, rows_fro
 use Rattle.nj_expand.specs.Ending.{AreFew}
 use Rattle.nj_expand.proofs.Counts.{AreNamed, length-extensions}
 use Rattle.nj_expand.proofs.Rising.{below}
-use Rattle.nj_expand.proofs.Words.{told_allowed}
 
 -- ---- the live rows, word by word
 

@@ -1,17 +1,17 @@
 -- The words of a saved front, run again from the start's state.
-use Rattle.std.proofs.Common.{◌≡◌, ℕ, suc, ◌+◌, ◌*◌, ◌/◌, ◌<◌, ◌≤◌, List, [], ◌∷◌, ◌++◌, length, map, take, drop, get_or, ap, ap₂, sym, subst, ◌∙◌, arith, refl, mul-suc, suc-mul, mul-le-mul_right, mul-add}
-use Rattle.std.specs.List.{fold, concat, range_with_len}
+use Rattle.std.proofs.Common.{◌≡◌, ℕ, suc, ◌+◌, ◌*◌, ◌<◌, ◌≤◌, List, [], ◌∷◌, ◌++◌, length, map, take, get_or, ap, ap₂, sym, subst, ◌∙◌, arith, mul-suc, suc-mul, mul-le-mul_right, mul-add}
+use Rattle.std.specs.List.{fold, concat}
 use Rattle.std.proofs.lemmas.List.{map_more, take_more, take_all, append-nil, append_assoc}
 use Rattle.std.proofs.lemmas.List.Sums.{fold_more}
 use Rattle.std.proofs.lemmas.List.Folds.{concat-append}
 use Rattle.std.proofs.lemmas.List.FromFn.{length-map-range_with_len, get_or-map-range_with_len}
 use Rattle.nj_search_defs.specs.Game.{Word}
 use Rattle.nj_machine.specs.State.{State, Rom, rom_of}
-use Rattle.nj_machine.specs.Image.{image_of, image_len, of_image}
+use Rattle.nj_machine.specs.Image.{image_of, of_image}
 use Rattle.nj_rules.specs.declared.record.Judged.{Judged}
 use Rattle.nj_script.specs.Script.{Record}
 use Rattle.nj_game.specs.Plan.{Plan}
-use Rattle.nj_game.specs.Words.{state_of, status_of, judged_of, held}
+use Rattle.nj_game.specs.Words.{state_of, judged_of, held}
 use Rattle.nj_pool.specs.Front.{Front, with_word, empty_front, bytes_held}
 use Rattle.nj_saved.specs.declared.saved.Saved.{Saved}
 use Rattle.nj_saved.specs.Ranges.{words_of}

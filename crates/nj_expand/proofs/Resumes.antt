@@ -1,5 +1,5 @@
 -- The search that goes on from a saved one: its front, its table and its state.
-use Rattle.std.proofs.Common.{◌≡◌, ℕ, ◌+◌, ◌*◌, ◌^◌, ◌<◌, ◌≤◌, false, List, [], length, map, refl, sym, ap, subst, ◌∙◌, arith}
+use Rattle.std.proofs.Common.{◌≡◌, ℕ, ◌+◌, ◌*◌, ◌≤◌, false, List, [], length, map, refl, sym, ap, subst, ◌∙◌}
 use Rattle.nj_search_defs.specs.Game.{Bounds}
 use Rattle.nj_search_defs.specs.Pruning.{Seen, key_count, forgotten}
 use Rattle.nj_search_defs.specs.Outcome.{seen_of}

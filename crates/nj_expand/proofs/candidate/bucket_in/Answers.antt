@@ -1,5 +1,5 @@
 -- The values at the four places.
-use Rattle.std.proofs.Common.{◌≡◌, ◌≤◌, ℤ, pos, List, length, get_or, subst, ◌∙◌, to_z, of_z, w32, arith, rules}
+use Rattle.std.proofs.Common.{◌≡◌, ◌≤◌, pos, List, length, get_or, subst, to_z, of_z, w32, arith}
 use Rattle.std.proofs.lemmas.Int.{to_z-of_z}
 use Rattle.nj_property.specs.declared.Property.{Property}
 use Rattle.nj_expand.specs.Rows.{values_at}

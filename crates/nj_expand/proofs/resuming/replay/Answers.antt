@@ -1,5 +1,5 @@
 -- One pad more.
-use Rattle.std.proofs.Common.{◌≡◌, ◌+◌, ◌≤◌, ◌∙◌, arith}
+use Rattle.std.proofs.Common.{◌+◌, ◌≤◌, ◌∙◌, arith}
 use Rattle.nj_machine.specs.State.{rom_of}
 use Rattle.nj_machine.specs.Image.{of_image}
 use Rattle.nj_expand.specs.Resuming.{Reached}

@@ -1,5 +1,5 @@
 -- One word more.
-use Rattle.std.proofs.Common.{◌≡◌, ◌<◌, length, ◌∙◌, arith}
+use Rattle.std.proofs.Common.{◌<◌, length, ◌∙◌, arith}
 use Rattle.nj_expand.proofs.Replays.{concat_more}
 use Rattle.nj_expand.proofs.saving.words_in.Goals as goal
 

@@ -1,5 +1,5 @@
 -- The first front and the first table.
-use Rattle.std.proofs.Common.{◌≡◌, ◌+◌, ◌*◌, ℕ, []}
+use Rattle.std.proofs.Common.{◌+◌, ◌*◌, []}
 use Rattle.nj_game.specs.Plan.{plan_of}
 use Rattle.nj_game.specs.Words.{key_of}
 use Rattle.nj_expand.specs.Held.{bounds_of}

@@ -1,7 +1,6 @@
 -- The winner, nothing that is kept, or the next state.
-use Rattle.std.proofs.Common.{◌≡◌, ◌<◌, ◌≤◌, ℕ, [], length, sym, ap, arith, ◌∙◌}
-use Rattle.std.specs.Prelude.{Option, Some, None}
-use Rattle.nj_rows.specs.declared.Row.{Row}
+use Rattle.std.proofs.Common.{◌≡◌, ◌<◌, length, sym, ap, arith, ◌∙◌}
+use Rattle.std.specs.Prelude.{Some, None}
 use Rattle.nj_seen.specs.Rows.{kept_rows}
 use Rattle.nj_expand.specs.Held.{Held, kept_in}
 use Rattle.nj_expand.specs.Ending.{fresh_rows_in}

@@ -1,5 +1,5 @@
 -- The front and the table of a saved search.
-use Rattle.std.proofs.Common.{◌≡◌, ◌+◌, ◌*◌, ◌^◌, ◌≤◌, ℕ, [], length, arith}
+use Rattle.std.proofs.Common.{◌≡◌, ◌+◌, ◌*◌, ◌^◌, ◌≤◌, [], length, arith}
 use Rattle.nj_search_defs.specs.Pruning.{Seen, forgotten}
 use Rattle.nj_saved.specs.Ranges.{words_of}
 use Rattle.nj_seen.specs.Held.{seen_in}

@@ -1,5 +1,5 @@
 -- The table without the forgotten.
-use Rattle.std.proofs.Common.{◌≡◌, ◌<◌, ◌*◌, ℕ, List, sym, ap, ◌∙◌, subst, arith}
+use Rattle.std.proofs.Common.{◌<◌, ◌*◌, ℕ, List, sym, ap, ◌∙◌, subst, arith}
 use Rattle.std.specs.List.{All}
 use Rattle.nj_claims.specs.Tables.{entries_in}
 use Rattle.nj_seen.specs.Held.{first_claim, seen_in}

@@ -1,12 +1,11 @@
 -- By the table of the search.
-use Rattle.std.proofs.Common.{◌≡◌, ◌≤◌, ◌<◌, ◌*◌, ◌^◌, ℕ, List, length, sym, ap, ◌∙◌, subst, arith}
+use Rattle.std.proofs.Common.{◌≡◌, ◌≤◌, ◌<◌, ◌*◌, ◌^◌, ℕ, List, sym, ap, ◌∙◌, subst, arith}
 use Rattle.std.specs.List.{All}
 use Rattle.std.proofs.Math.Pow.{pow_mono}
-use Rattle.nj_search_defs.specs.Pruning.{Seen, key_count}
-use Rattle.nj_claims.specs.Tables.{IsTable, entries_in, owner_in, slot_count}
-use Rattle.nj_seen.specs.Held.{HoldsSeen, first_claim, keys_in_rows, oldest_step, seen_in}
+use Rattle.nj_claims.specs.Tables.{entries_in, slot_count}
+use Rattle.nj_seen.specs.Held.{HoldsSeen, first_claim, seen_in}
 use Rattle.nj_game.specs.Plan.{plan_of}
-use Rattle.nj_expand.specs.Held.{Held, bounds_of, live_rows}
+use Rattle.nj_expand.specs.Held.{Held, bounds_of}
 use Rattle.nj_expand.specs.Ending.{IsLeft, room_of}
 use Rattle.nj_expand.proofs.Filed.{left_is, images_long, room_within, steps_low}
 use Rattle.nj_expand.proofs.search.Search.left.Goals as goal

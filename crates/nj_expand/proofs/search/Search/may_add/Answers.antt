@@ -1,8 +1,7 @@
 -- By the laws of keys, and since the room is within the slots.
-use Rattle.std.proofs.Common.{◌≡◌, ◌≤◌, ◌+◌, ◌*◌, ◌^◌, ℕ, length, sym, ap, ◌∙◌, subst, arith}
+use Rattle.std.proofs.Common.{◌≡◌, ◌≤◌, ◌+◌, ◌*◌, ℕ, length, sym, ap, ◌∙◌, subst}
 use Rattle.nj_search_defs.specs.Game.{Bounds}
 use Rattle.nj_rules.specs.Pads.{named_pads}
-use Rattle.nj_expand.specs.Held.{candidates_in}
 use Rattle.nj_seen.specs.Held.{keys_in_rows}
 use Rattle.nj_expand.specs.Ending.{fresh_rows_in, room_of}
 use Rattle.nj_expand.proofs.Filed.{AreKeyLaws, room_within, can_add, add_makes}

@@ -1,5 +1,5 @@
 -- By the pads that the script names, and since no key is 0.
-use Rattle.std.proofs.Common.{◌≡◌, ◌≤◌, ℕ, [], get_or, length, sym, ap, ◌∙◌, arith, subst}
+use Rattle.std.proofs.Common.{◌≡◌, ◌≤◌, ℕ, [], get_or, length, sym, ap, ◌∙◌, subst}
 use Rattle.nj_search_defs.specs.Game.{Bounds}
 use Rattle.nj_rules.specs.Pads.{named_pads}
 use Rattle.nj_expand.proofs.Fronts.{few_after, word_few, word_keys, word_numbers}

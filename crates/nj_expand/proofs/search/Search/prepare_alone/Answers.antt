@@ -1,10 +1,9 @@
 -- The rows that are not seen.
-use Rattle.std.proofs.Common.{◌≡◌, List, refl, sym, ap, ◌∙◌, subst}
+use Rattle.std.proofs.Common.{◌≡◌, List, sym, ap, subst}
 use Rattle.std.specs.List.Sorted.{IsPermutation}
 use Rattle.std.proofs.lemmas.List.Sorted.{IsPermutation-refl}
 use Rattle.nj_rows.specs.declared.Row.{Row}
 use Rattle.nj_seen.specs.Rows.{IsRising, winner_row}
-use Rattle.nj_expand.specs.Held.{Held}
 use Rattle.nj_expand.specs.Ending.{fresh_rows_in, IsReady}
 use Rattle.nj_expand.proofs.Filed.{found_fresh}
 use Rattle.nj_expand.proofs.search.Search.prepare_alone.Goals as goal

@@ -1,7 +1,5 @@
 -- The rows that own their keys and are not seen.
-use Rattle.std.proofs.Common.{◌≡◌, ◌<◌, ◌+◌, ℕ, List, filter, refl, sym, ap, ◌∙◌, subst, arith}
-use Rattle.nj_seen.specs.Held.{first_claim, is_owned_unseen}
-use Rattle.nj_seen.specs.Rows.{IsRising}
+use Rattle.std.proofs.Common.{◌<◌, arith}
 use Rattle.nj_expand.specs.Held.{Held, live_rows}
 use Rattle.nj_expand.specs.Ending.{IsReady}
 use Rattle.nj_expand.proofs.Beside.{owned_fresh}
