@@ -32,8 +32,8 @@ pub struct Banked {
     chr_ram: bool,
     mapper: u16,
     bank: u8,
-    // Where in program memory the byte at an address stands is the address and this number less 64 KiB: the first number
-    // for the window at $8000, the second for that at $C000.
+    // Where in program memory the byte at an address stands is the address and this number less 64 KiB: the first
+    // number for the window at $8000, the second for that at $C000.
     windows: [usize; 2],
     // Where in pattern memory the picture's window begins.
     pattern: usize,

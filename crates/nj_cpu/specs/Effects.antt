@@ -87,7 +87,10 @@ compared result cpu =
 -- flags of a byte that an operation changed in memory
 abbrev pub with_changed : Op → ℕ → Cpu → Cpu
 with_changed op value cpu =
-    record cpu { flags = record (with_result (changed_by op cpu.flags.c value) cpu.flags) { c = carry_by op cpu.flags.c value } }
+    record cpu {
+      flags =
+          record (with_result (changed_by op cpu.flags.c value) cpu.flags) { c = carry_by op cpu.flags.c value };
+    }
 
 -- the same of A, which takes the byte
 abbrev pub a_changed : Op → Cpu → Cpu
@@ -101,7 +104,10 @@ shifted op _ value cpu = with_changed op value cpu
 -- BIT: Z of A and the byte, N and V are its bits 7 and 6
 abbrev pub tested : ℕ → Cpu → Cpu
 tested value cpu =
-    record cpu { flags = record cpu.flags { z = bit_and cpu.a value == 0; n = is_negative value; v = has_bit 64 value } }
+    record cpu {
+      flags =
+          record cpu.flags { z = bit_and cpu.a value == 0; n = is_negative value; v = has_bit 64 value };
+    }
 
 -- AND of A and a byte
 abbrev pub and_a : ℕ → Cpu → Cpu

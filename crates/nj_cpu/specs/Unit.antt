@@ -66,7 +66,8 @@ settled _ row w = w.cpu
 -- the rest of an instruction once its row is known
 unfoldable pub rest_by : {Held : Type 0} → Acts Held → Class → OpRow → Walk Held → Walk Held
 rest_by acts class row w =
-    let v = walk acts row.op (accesses class row.mode row.kind) (opened class w) in record v { cpu = settled class row v }
+    let v = walk acts row.op (accesses class row.mode row.kind) (opened class w) in
+    record v { cpu = settled class row v }
 
 -- the rest of an instruction, by the class of its row
 unfoldable pub rest_of : {Held : Type 0} → Acts Held → OpRow → Walk Held → Walk Held

@@ -81,7 +81,11 @@ watched was is w = record { edges = risen was is w.edges; line = is }
 -- the cycle is over, and the bus holds this
 abbrev pub seen : {Held : Type 0} → Acts Held → Held → Walk Held → Walk Held
 seen acts held w =
-    record w { cpu = record w.cpu { line = acts.line held }; held = held; rises = risen w.cpu.line (acts.line held) w.rises }
+    record w {
+      cpu = record w.cpu { line = acts.line held };
+      held = held;
+      rises = risen w.cpu.line (acts.line held) w.rises;
+    }
 
 -- a cycle that reads
 abbrev pub read_at : {Held : Type 0} → Acts Held → ℕ → Walk Held → Walk Held

@@ -58,7 +58,8 @@ fn absolute_bytes<B: Bus>(cpu: &mut Cpu, rises: &mut Rises, bus: &mut B, op: Op)
 fn bytes_at<B: Bus>(cpu: &mut Cpu, rises: &mut Rises, bus: &mut B, op: Op, pointer: u8) -> (u8, u8)
     requires { rises.old.line ≡ cpu.old.line }
     ensures ends { EndsAs (walk B.acts op (access AtPointer ToLow Stay ∷ access AfterPointer ToHigh Stay ∷ [])
-        (record (begun cpu.old (B.held bus.old) rises.old.edges) { pointer = pointer })) cpu.new (B.held bus.new) rises.new }
+        (record (begun cpu.old (B.held bus.old) rises.old.edges) { pointer = pointer })) cpu.new (B.held bus.new)
+        rises.new }
     ensures high { result.0 ≡ (walk B.acts op (access AtPointer ToLow Stay ∷ access AfterPointer ToHigh Stay ∷ [])
         (record (begun cpu.old (B.held bus.old) rises.old.edges) { pointer = pointer })).high }
     ensures low { result.1 ≡ (walk B.acts op (access AtPointer ToLow Stay ∷ access AfterPointer ToHigh Stay ∷ [])

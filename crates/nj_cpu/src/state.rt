@@ -38,7 +38,8 @@ pub enum UnitEnd {
 }
 
 /// The NMI line as a unit's code watches it: its level after the last access, and where it rose within the unit, before
-/// its last cycle so far and in that cycle. All of it is one byte, so that one look tells that there is nothing to note.
+/// its last cycle so far and in that cycle. All of it is one byte, so that one look tells that there is nothing to
+/// note.
 #[derive(Drop)]
 pub(crate) struct Rises {
     // 1 for the level, 2 where it rose in the last cycle, and 4 where it rose before.

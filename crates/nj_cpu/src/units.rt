@@ -67,7 +67,8 @@ fn enter_nmi<B: Bus>(cpu: &mut Cpu, rises: &mut Rises, bus: &mut B)
 #[inline]
 fn wait<B: Bus>(cpu: &mut Cpu, rises: &mut Rises, bus: &mut B)
     requires { rises.old.line ≡ cpu.old.line }
-    ensures { EndsAs (walk B.acts NoOp (waits (B.acts.odd (B.held bus.old))) (begun cpu.old (B.held bus.old) rises.old.edges))
+    ensures { EndsAs
+        (walk B.acts NoOp (waits (B.acts.odd (B.held bus.old))) (begun cpu.old (B.held bus.old) rises.old.edges))
         cpu.new (B.held bus.new) rises.new }
 {
     let odd = bus.odd();

@@ -39,7 +39,8 @@ told_byte ram board status at =
 -- a cycle in which a byte was read
 abbrev pub one_more : ℕ → Dry → Dry
 one_more byte h =
-    if nat_lt h.cycles MOST_CYCLES then record h { bus_byte = byte; cycles = suc h.cycles } else record h { lost = true }
+    if nat_lt h.cycles MOST_CYCLES then record h { bus_byte = byte; cycles = suc h.cycles } else
+    record h { lost = true }
 
 -- the bus is lost where no byte is told
 abbrev pub read_of : Option ℕ → Dry → Dry

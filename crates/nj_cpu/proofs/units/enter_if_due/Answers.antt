@@ -10,4 +10,5 @@ returns-then-eq-clause-entered g c = λ _ none.
     let due : c.args.cpu.now.note ≡ Due = search rules in
     let now = c.enter_nmi.new in
     subst (λ w. EndsAs w now.cpu (g.B.Bus.held now.bus) now.rises)
-    (sym (entry-ripe g.B.Bus.acts c.args.cpu.now.note c.args.cpu.now (g.B.Bus.held c.args.bus.now) due)) (c.enter_nmi.ensures none)
+    (sym (entry-ripe g.B.Bus.acts c.args.cpu.now.note c.args.cpu.now (g.B.Bus.held c.args.bus.now) due))
+    (c.enter_nmi.ensures none)

@@ -17,12 +17,14 @@ returns g c = λ none.
           let no = w.if-enter_if_due.false in
           let rests = w.enter_if_due.ensures in
           subst (λ v. EndsAs v now.cpu (g.B.Bus.held now.bus) now.rises)
-          (ripe-runs acts cpu held c.else-ne.cpu (g.B.Bus.held c.else-ne.bus) (rests.not_due no) (w.cpu-is ∙ rests.cpu no) (ap g.B.Bus.held w.bus-is ∙ rests.held no))
+          (ripe-runs acts cpu held c.else-ne.cpu (g.B.Bus.held c.else-ne.bus) (rests.not_due no) (w.cpu-is
+          ∙ rests.cpu no) (ap g.B.Bus.held w.bus-is ∙ rests.held no))
           (c.run_instruction.ensures (ap (λ r. r.edges) (w.rises-is ∙ rests.rises no) ∙ none))
       | else-ne-via-else-ne w ↦
           let is : cpu.note ≡ None = search rules in
           let not_due : cpu.note ≢ Due = λ due. cc (is, due) in
           subst (λ v. EndsAs v now.cpu (g.B.Bus.held now.bus) now.rises)
-          (ripe-runs acts cpu held c.else-ne.cpu (g.B.Bus.held c.else-ne.bus) not_due (w.cpu-is ∙ none-ripe cpu is) (ap g.B.Bus.held w.bus-is))
+          (ripe-runs acts cpu held c.else-ne.cpu (g.B.Bus.held c.else-ne.bus) not_due (w.cpu-is
+          ∙ none-ripe cpu is) (ap g.B.Bus.held w.bus-is))
           (c.run_instruction.ensures (ap (λ r. r.edges) w.rises-is ∙ none))
     ]

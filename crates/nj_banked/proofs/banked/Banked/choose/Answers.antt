@@ -6,7 +6,9 @@ use Rattle.nj_banked.proofs.banked.Banked.choose.Goals as goal
 
 pub invariant_of-self : goal.invariant_of-self
 invariant_of-self c =
-    let moved = uxrom-moved _ _ _ _ _ c.self.invariant (subst (λ m. c.args.bank < bank_count m) (sym c.self.view_is) c.requires) c.if-self-eq-UXROM.true in
+    let moved =
+    uxrom-moved _ _ _ _ _ c.self.invariant (subst (λ m. c.args.bank < bank_count m) (sym c.self.view_is) c.requires)
+    c.if-self-eq-UXROM.true in
     record {
       fits = moved.fits;
       low_is = (set-first c.self.inside.windows _ c.self.told).0 ∙ moved.low_is;
@@ -16,8 +18,10 @@ invariant_of-self c =
 
 pub invariant_of-self-then-self-eq-CNROM : goal.invariant_of-self-then-self-eq-CNROM
 invariant_of-self-then-self-eq-CNROM c =
-    cnrom-moved _ _ _ _ _ c.self.invariant (subst (λ m. c.args.bank < bank_count m) (sym c.self.view_is) c.requires) c.if-self-eq-CNROM.true
+    cnrom-moved _ _ _ _ _ c.self.invariant (subst (λ m. c.args.bank < bank_count m) (sym c.self.view_is) c.requires)
+    c.if-self-eq-CNROM.true
 
 pub invariant_of-self-else-self-eq-CNROM : goal.invariant_of-self-else-self-eq-CNROM
 invariant_of-self-else-self-eq-CNROM c =
-    none-moved _ _ _ _ _ c.self.invariant (subst (λ m. c.args.bank < bank_count m) (sym c.self.view_is) c.requires) c.if-self-eq-UXROM.false c.if-self-eq-CNROM.false
+    none-moved _ _ _ _ _ c.self.invariant (subst (λ m. c.args.bank < bank_count m) (sym c.self.view_is) c.requires)
+    c.if-self-eq-UXROM.false c.if-self-eq-CNROM.false

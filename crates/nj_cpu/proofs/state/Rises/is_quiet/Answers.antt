@@ -18,4 +18,6 @@ alone true = refl
 alone false = refl
 
 pub returns : goal.returns
-returns c = λ quiet. sym c.self.view_is ∙ ap watch (same c.self.inside.marks (bool_byte c.args.level) quiet) ∙ alone c.args.level
+returns c =
+    λ quiet. sym c.self.view_is ∙ ap watch (same c.self.inside.marks (bool_byte c.args.level) quiet)
+    ∙ alone c.args.level

@@ -10,7 +10,8 @@ abbrev watch : ℕ → Watched
 watch n = record { edges = record { before = nat_le 4 n; last = n / 2 % 2 == 1 }; line = n % 2 == 1 }
 
 told : (before last level : Bool) →
-    watch (bool_byte before * 4 + bool_byte last * 2 + bool_byte level) ≡ record { edges = record { before = before; last = last }; line = level }
+    watch (bool_byte before * 4 + bool_byte last * 2 + bool_byte level)
+    ≡ record { edges = record { before = before; last = last }; line = level }
 told true true true = refl
 told true true false = refl
 told true false true = refl
@@ -26,7 +27,12 @@ risen-at n = grind (arith, nat_tests)
 
 pub returns : goal.returns
 returns c =
-    let seen : Watched → Watched = λ w. record { edges = record { before = w.edges.before || w.edges.last; last = c.args.rose }; line = c.args.level } in
+    let seen : Watched → Watched =
+    λ w. record {
+      edges = record { before = w.edges.before || w.edges.last; last = c.args.rose };
+      line = c.args.level;
+    } in
     told (nat_le 2 c.self.inside.marks) c.args.rose c.args.level
-    ∙ ap (λ b. record { edges = record { before = b; last = c.args.rose }; line = c.args.level }) (risen-at c.self.inside.marks)
+    ∙ ap (λ b. record { edges = record { before = b; last = c.args.rose }; line = c.args.level })
+    (risen-at c.self.inside.marks)
     ∙ ap seen c.self.view_is
