@@ -105,57 +105,6 @@ fn accepted(alloc: Global, text: &str) -> Result<Script, Fail> {
     Ok(Script::read(alloc, text.as_bytes()).map_err(|_| "refused")?)
 }
 
-// What the accessors of numbers say.
-fn numbers(alloc: Global, script: &Script) -> Result<String, AllocError> {
-    let (hold, tolerance, quota) = (script.hold(), script.tolerance(), script.quota());
-    format!(in alloc; "hold={hold} tolerance={tolerance} quota={quota}")
-}
-
-// How many there are of what the script lists.
-fn counts(alloc: Global, script: &Script) -> Result<String, AllocError> {
-    let properties = script.property_count();
-    let rules = script.rule_count();
-    let inputs = script.input_count();
-    format!(in alloc; "properties={properties} rules={rules} inputs={inputs}")
-}
-
-// The addresses of the bucket's properties.
-fn places(alloc: Global, script: &Script) -> Result<String, AllocError> {
-    let mut text = String::new(alloc);
-    for property in script.bucket() {
-        let at = property.at;
-        let next = format!(in alloc; "{at};")?;
-        text.push_str(next.as_str())?;
-    }
-    Ok(text)
-}
-
-#[test]
-fn what_a_first_script_says(rt: HostRuntime) -> Result<(), Fail> {
-    let script = accepted(rt.alloc(), judged())?;
-    assert_eq!(rt;
-        numbers(rt.alloc(), &script)?.as_str(),
-        "hold=1 tolerance=5 quota=1048576"
-    );
-    assert_eq!(rt;
-        counts(rt.alloc(), &script)?.as_str(),
-        "properties=2 rules=7 inputs=3"
-    );
-    assert_eq!(rt; places(rt.alloc(), &script)?.as_str(), "");
-    Ok(())
-}
-
-#[test]
-fn what_a_second_script_says(rt: HostRuntime) -> Result<(), Fail> {
-    let script = accepted(rt.alloc(), whole())?;
-    assert_eq!(rt;
-        numbers(rt.alloc(), &script)?.as_str(),
-        "hold=2 tolerance=7 quota=9"
-    );
-    assert_eq!(rt; places(rt.alloc(), &script)?.as_str(), "2046;16;");
-    Ok(())
-}
-
 // Working memory with these bytes at 16 and 17.
 fn memory(x: u8, t: u8) -> [u8; 2048] {
     let mut ram = [0; 2048];
