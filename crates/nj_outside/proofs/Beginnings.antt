@@ -11,11 +11,13 @@ IsBegun (Some file) bytes = (length bytes ≤ length file) × (bytes ≡ take (l
 -- a piece that a read gave from the place after the beginning makes a longer beginning
 pub begun_more : (o : Option (List ℕ)) (bytes piece : List ℕ) (n : ℕ)
     → IsBegun o bytes → n ≤ length piece → (o ≡ None → ⊥)
-    → ((file : List ℕ) → o ≡ Some file → (n ≤ length file - length bytes) × (take n piece ≡ take n (drop (length bytes) file)))
+    → ((file : List ℕ) → o ≡ Some file
+        → (n ≤ length file - length bytes) × (take n piece ≡ take n (drop (length bytes) file)))
     → IsBegun o (bytes ++ take n piece)
 begun_more None bytes piece n begun within there read = absurd (there refl)
 begun_more (Some file) bytes piece n begun within there read =
-    let long : length (bytes ++ take n piece) ≡ length bytes + n = length-append bytes (take n piece) ∙ ap (λ k. length bytes + k) (length-take-le n piece within) in
+    let long : length (bytes ++ take n piece) ≡ length bytes + n =
+        length-append bytes (take n piece) ∙ ap (λ k. length bytes + k) (length-take-le n piece within) in
     let bound : n ≤ length file - length bytes = (read file refl).0 in
     let before : length bytes ≤ length file = begun.0 in (
       omega arith,
@@ -33,4 +35,5 @@ begun_whole (Some file) bytes begun there ends = ap Some (sym (begun.1 ∙ take_
 pub begun_past : (o : Option (List ℕ)) (bytes : List ℕ) (limit : ℕ)
     → IsBegun o bytes → limit < length bytes → (file : List ℕ) × (o ≡ Some file) × (limit < length file)
 begun_past None bytes limit begun past = absurd (let none : length bytes ≡ 0 = ap length begun in omega arith)
-begun_past (Some file) bytes limit begun past = (file, refl, (let before : length bytes ≤ length file = begun.0 in omega arith))
+begun_past (Some file) bytes limit begun past =
+    (file, refl, (let before : length bytes ≤ length file = begun.0 in omega arith))

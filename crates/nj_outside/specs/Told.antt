@@ -38,10 +38,12 @@ unfolding with_file
 with_file_same files name bytes = ap (λ b. if b then Some bytes else files name) ((bytes_eq-Decides name name).1 refl)
 
 -- of two puts of one name the last counts
-pub with_file_twice : (files : Files) (name first last : List ℕ) → with_file (with_file files name first) name last ≡ with_file files name last
+pub with_file_twice : (files : Files) (name first last : List ℕ)
+    → with_file (with_file files name first) name last ≡ with_file files name last
 unfolding with_file
 with_file_twice files name first last = fun_ext (λ other. by_test (bytes_eq name other) other) where
-  by_test : (b : Bool) (other : List ℕ) → (if b then Some last else (if b then Some first else files other)) ≡ (if b then Some last else files other)
+  by_test : (b : Bool) (other : List ℕ)
+      → (if b then Some last else (if b then Some first else files other)) ≡ (if b then Some last else files other)
   by_test true other = refl
   by_test false other = refl
 

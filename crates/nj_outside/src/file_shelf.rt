@@ -27,10 +27,12 @@ impl<R: Files + Drop> Model for FileShelf<R> {
 
     ghost Value = { RealShelf };
 
-    ghost view = { λ s. record { read_faults = s.read_faults; failed_read = s.failed_read; put_faults = s.put_faults; failed_put = s.failed_put } };
+    ghost view = { λ s. record { read_faults = s.read_faults; failed_read = s.failed_read; put_faults = s.put_faults;
+        failed_put = s.failed_put } };
 }
 
 impl<R: Files + Drop> FileShelf<R> {
+    /// The shelf of the system's files, with no fault counted so far.
     pub fn new(rt: R) -> FileShelf<R>
         ensures { result ≡ record { read_faults = 0; failed_read = 0; put_faults = 0; failed_put = 0 } }
     {
@@ -58,7 +60,8 @@ impl<R: Files + Drop> FileShelf<R> {
     }
 
     fn fail_read(&mut self, name: &str) -> Failed
-        ensures counted { self.new ≡ record self.old { read_faults = one_more self.old.read_faults; failed_read = fnv_of name.now } }
+        ensures counted { self.new ≡ record self.old
+            { read_faults = one_more self.old.read_faults; failed_read = fnv_of name.now } }
         ensures never_falls { self.old.read_faults ≤ self.new.read_faults }
     {
         self.read_faults = self.read_faults.saturating_add(1);
@@ -67,7 +70,8 @@ impl<R: Files + Drop> FileShelf<R> {
     }
 
     fn fail_put(&mut self, name: &str) -> Failed
-        ensures counted { self.new ≡ record self.old { put_faults = one_more self.old.put_faults; failed_put = fnv_of name.now } }
+        ensures counted { self.new ≡ record self.old
+            { put_faults = one_more self.old.put_faults; failed_put = fnv_of name.now } }
         ensures never_falls { self.old.put_faults ≤ self.new.put_faults }
     {
         self.put_faults = self.put_faults.saturating_add(1);

@@ -1,5 +1,5 @@
-/// What a worker passes when it begins a piece of shared work. Nothing that a contract speaks of depends on it: a test may
-/// set an order of the workers by it.
+/// What a worker passes when it begins a piece of shared work. Nothing that a contract speaks of depends on it: a test
+/// may set an order of the workers by it.
 pub trait Gate: Sync {
     /// The worker, numbered from 0, begins the piece of this number, from 0 on too.
     fn at_piece(&self, worker: u32, piece: u64);

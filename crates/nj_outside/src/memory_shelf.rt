@@ -119,7 +119,8 @@ impl MemShelf {
     }
 
     fn fail_read(&mut self, name: &str) -> Failed
-        ensures { self.new ≡ record self.old { read_faults = one_more self.old.read_faults; failed_read = fnv_of name.now } }
+        ensures { self.new ≡ record self.old { read_faults = one_more self.old.read_faults;
+            failed_read = fnv_of name.now } }
     {
         self.read_faults = self.read_faults.saturating_add(1);
         self.failed_read = fnv(name.as_bytes());
@@ -127,7 +128,8 @@ impl MemShelf {
     }
 
     fn fail_put(&mut self, name: &str) -> Failed
-        ensures { self.new ≡ record self.old { put_faults = one_more self.old.put_faults; failed_put = fnv_of name.now } }
+        ensures { self.new ≡ record self.old { put_faults = one_more self.old.put_faults;
+            failed_put = fnv_of name.now } }
     {
         self.put_faults = self.put_faults.saturating_add(1);
         self.failed_put = fnv(name.as_bytes());
@@ -149,11 +151,14 @@ impl Shelf for MemShelf {
     fn read_at(&mut self, name: &str, at: u64, into: &mut [u8]) -> Result<usize, Failed>
         ensures within { IfOk result (λ n. n ≤ length into.new) }
         ensures content { Some (files_of self.new.files) ≡ Some (files_of self.old.files) }
-        ensures bytes { (files : Files) → Some (files_of self.old.files) ≡ Some files → (file : List ℕ) → files name.now ≡ Some file
+        ensures bytes { (files : Files) → Some (files_of self.old.files) ≡ Some files → (file : List ℕ)
+            → files name.now ≡ Some file
             → IfOk result (λ n. (n ≤ length file - at) × (take n into.new ≡ take n (drop at file))) }
-        ensures end { (files : Files) → Some (files_of self.old.files) ≡ Some files → (file : List ℕ) → files name.now ≡ Some file
+        ensures end { (files : Files) → Some (files_of self.old.files) ≡ Some files → (file : List ℕ)
+            → files name.now ≡ Some file
             → IfOk result (λ n. n ≡ 0 → 0 < length into.new → length file ≤ at) }
-        ensures missing { (files : Files) → Some (files_of self.old.files) ≡ Some files → files name.now ≡ None → IsErr result }
+        ensures missing { (files : Files) → Some (files_of self.old.files) ≡ Some files → files name.now ≡ None
+            → IsErr result }
         ensures failed { OnErr result (Rose self.old.read_faults self.new.read_faults) }
         ensures failed_name { OnErr result (self.new.failed_read ≡ fnv_of name.now) }
         ensures not_failed { OnOk result (self.new.failed_read ≡ self.old.failed_read) }
@@ -166,7 +171,8 @@ impl Shelf for MemShelf {
             → IfOk result (λ n. n ≡ min self.old.most (min (length into.old) (length file - at))) }
         ensures rest { IfOk result (λ n. drop n into.new ≡ drop n into.old) }
         ensures untouched { OnErr result (into.new ≡ into.old) }
-        ensures fails { IsErr result ↔ (Contains self.old.failing (self.old.calls + 1) ⊎ (files_of self.old.files name.now ≡ None)) }
+        ensures fails { IsErr result ↔ (Contains self.old.failing (self.old.calls + 1)
+            ⊎ (files_of self.old.files name.now ≡ None)) }
         ensures counted { self.new ≡ record self.old {
           calls = one_more self.old.calls;
           read_faults = if is_err result then one_more self.old.read_faults else self.old.read_faults;
@@ -185,10 +191,12 @@ impl Shelf for MemShelf {
     }
 
     fn put_at(&mut self, name: &str, at: u64, bytes: &[u8]) -> Result<usize, Failed>
-        requires { (files : Files) → Some (files_of self.old.files) ≡ Some files → (at ≡ 0) ⊎ (at ≡ length (bytes_at files name.now)) }
+        requires { (files : Files) → Some (files_of self.old.files) ≡ Some files
+            → (at ≡ 0) ⊎ (at ≡ length (bytes_at files name.now)) }
         ensures within { IfOk result (λ n. n ≤ length bytes.now) }
         ensures some { IfOk result (λ n. 0 < length bytes.now → 0 < n) }
-        ensures put { IfOk result (λ n. Some (files_of self.new.files) ≡ put_file_from (Some (files_of self.old.files)) name.now at (take n bytes.now)) }
+        ensures put { IfOk result (λ n. Some (files_of self.new.files)
+            ≡ put_file_from (Some (files_of self.old.files)) name.now at (take n bytes.now)) }
         ensures unchanged { OnErr result (Some (files_of self.new.files) ≡ Some (files_of self.old.files)) }
         ensures failed { OnErr result (Rose self.old.put_faults self.new.put_faults) }
         ensures failed_name { OnErr result (self.new.failed_put ≡ fnv_of name.now) }
@@ -200,7 +208,8 @@ impl Shelf for MemShelf {
 
         ensures moved { IfOk result (λ n. n ≡ min self.old.most (length bytes.now)) }
         ensures fails { Contains self.old.failing (self.old.calls + 1) ⊎ (self.old.dry < self.new.dry) → IsErr result }
-        ensures fails_only { IsErr result → Contains self.old.failing (self.old.calls + 1) ⊎ Rose self.old.dry self.new.dry }
+        ensures fails_only { IsErr result → Contains self.old.failing (self.old.calls + 1)
+            ⊎ Rose self.old.dry self.new.dry }
         ensures counted { self.new ≡ record self.old {
           files = self.new.files;
           calls = one_more self.old.calls;
@@ -260,7 +269,8 @@ fn put_piece(
 ) -> Result<(), AllocError>
     requires { (at ≡ 0) ⊎ (at ≡ length (bytes_at (files_of (named files.old.items)) name.now)) }
     ensures put { OnOk result (files_of (named files.new.items)
-        ≡ with_file (files_of (named files.old.items)) name.now (take at (bytes_at (files_of (named files.old.items)) name.now) ++ piece.now)) }
+        ≡ with_file (files_of (named files.old.items)) name.now
+            (take at (bytes_at (files_of (named files.old.items)) name.now) ++ piece.now)) }
     ensures unchanged { OnErr result (named files.new.items ≡ named files.old.items) }
 {
     match place_of(files.as_slice(), name) {

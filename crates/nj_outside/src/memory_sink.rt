@@ -26,7 +26,8 @@ impl Model for MemSink {
 
     ghost Value = { MemorySink };
 
-    ghost view = { λ s. record { written = s.bytes.items; failing = s.failing.items; most = s.most; calls = s.calls; faults = s.faults; dry = s.dry } };
+    ghost view = { λ s. record { written = s.bytes.items; failing = s.failing.items; most = s.most; calls = s.calls;
+        faults = s.faults; dry = s.dry } };
 
     ghost invariant = { λ s. 1 ≤ s.most };
 }
@@ -36,7 +37,8 @@ impl MemSink {
     /// `most` bytes.
     pub fn new(alloc: Global, failing: Vec<u64>, most: usize) -> MemSink
         requires { 1 ≤ most }
-        ensures { result ≡ record { written = []; failing = failing.items; most = most; calls = 0; faults = 0; dry = 0 } }
+        ensures { result ≡ record { written = []; failing = failing.items; most = most; calls = 0; faults = 0;
+            dry = 0 } }
     {
         MemSink {
             bytes: Vec::new(alloc),
@@ -87,7 +89,8 @@ impl Sink for MemSink {
     fn write(&mut self, bytes: &[u8]) -> Result<usize, Failed>
         ensures within { IfOk result (λ n. n ≤ length bytes.now) }
         ensures some { IfOk result (λ n. 0 < length bytes.now → 0 < n) }
-        ensures appends { IfOk result (λ n. Some self.new.written ≡ appended (Some self.old.written) (take n bytes.now)) }
+        ensures appends { IfOk result (λ n. Some self.new.written
+            ≡ appended (Some self.old.written) (take n bytes.now)) }
         ensures unchanged { OnErr result (Some self.new.written ≡ Some self.old.written) }
         ensures wrote { IsMemoryWrite self.old bytes.now (result_ok result) self.new }
         ensures failed { OnErr result (Rose self.old.faults self.new.faults) }
@@ -96,7 +99,8 @@ impl Sink for MemSink {
 
         ensures moved { IfOk result (λ n. n ≡ min self.old.most (length bytes.now)) }
         ensures fails { Contains self.old.failing (self.old.calls + 1) ⊎ (self.old.dry < self.new.dry) → IsErr result }
-        ensures fails_only { IsErr result → Contains self.old.failing (self.old.calls + 1) ⊎ Rose self.old.dry self.new.dry }
+        ensures fails_only { IsErr result → Contains self.old.failing (self.old.calls + 1)
+            ⊎ Rose self.old.dry self.new.dry }
         ensures counted { self.new ≡ record self.old {
           written = self.new.written;
           calls = one_more self.old.calls;

@@ -36,18 +36,22 @@ pub fn read_all<S: Shelf>(
     name: &str,
     limit: u64,
 ) -> Result<Vec<u8>, ReadRefused>
-    ensures whole { (files : Files) → S.content shelf.old ≡ Some files → IfOk result (λ bytes. files name.now ≡ Some bytes.items) }
+    ensures whole { (files : Files) → S.content shelf.old ≡ Some files
+        → IfOk result (λ bytes. files name.now ≡ Some bytes.items) }
     ensures within { IfOk result (λ bytes. vec_len bytes ≤ limit) }
-    ensures too_long { (files : Files) → S.content shelf.old ≡ Some files → (n : ℕ) → IsErrOf result (ReadRefused.TooLong n)
+    ensures too_long { (files : Files) → S.content shelf.old ≡ Some files → (n : ℕ)
+        → IsErrOf result (ReadRefused.TooLong n)
         → (file : List ℕ) × (files name.now ≡ Some file) × (limit < length file) }
     ensures too_long_limit { (n : ℕ) → IsErrOf result (ReadRefused.TooLong n) → n ≡ limit }
     ensures fault { IsErrOf result ReadRefused.ReadFault → Rose (S.read_faults shelf.old) (S.read_faults shelf.new) }
     ensures fault_name { IsErrOf result ReadRefused.ReadFault → S.failed_read shelf.new ≡ fnv_of name.now }
 
     // Where no read failed, memory aside, a file that fits is read and a longer one is refused as such.
-    ensures fits { (files : Files) → S.content shelf.old ≡ Some files → (file : List ℕ) → files name.now ≡ Some file → length file ≤ limit
+    ensures fits { (files : Files) → S.content shelf.old ≡ Some files → (file : List ℕ) → files name.now ≡ Some file
+        → length file ≤ limit
         → (Rose (S.read_faults shelf.old) (S.read_faults shelf.new) → ⊥) → IsOkUnless result ReadRefused.NoMemory }
-    ensures long { (files : Files) → S.content shelf.old ≡ Some files → (file : List ℕ) → files name.now ≡ Some file → limit < length file
+    ensures long { (files : Files) → S.content shelf.old ≡ Some files → (file : List ℕ) → files name.now ≡ Some file
+        → limit < length file
         → (Rose (S.read_faults shelf.old) (S.read_faults shelf.new) → ⊥)
         → IsErrOf result (ReadRefused.TooLong limit) ⊎ IsErrOf result ReadRefused.NoMemory }
 

@@ -46,10 +46,12 @@ pub trait Shelf {
     /// answers how many were taken, of a nonempty piece at least one. A file that is not there is
     /// made. `at` is 0 or the file's length.
     fn put_at(&mut self, name: &str, at: u64, bytes: &[u8]) -> Result<usize, Failed>
-        requires { (files : Files) → content self.old ≡ Some files → (at ≡ 0) ⊎ (at ≡ length (bytes_at files name.now)) }
+        requires { (files : Files) → content self.old ≡ Some files
+            → (at ≡ 0) ⊎ (at ≡ length (bytes_at files name.now)) }
         ensures within { IfOk result (λ n. n ≤ length bytes.now) }
         ensures some { IfOk result (λ n. 0 < length bytes.now → 0 < n) }
-        ensures put { IfOk result (λ n. content self.new ≡ put_file_from (content self.old) name.now at (take n bytes.now)) }
+        ensures put { IfOk result (λ n. content self.new
+            ≡ put_file_from (content self.old) name.now at (take n bytes.now)) }
         ensures unchanged { OnErr result (content self.new ≡ content self.old) }
         ensures failed { OnErr result (Rose (put_faults self.old) (put_faults self.new)) }
         ensures failed_name { OnErr result (failed_put self.new ≡ fnv_of name.now) }

@@ -13,8 +13,8 @@ pub trait Sink {
     /// How many writes failed. It never falls.
     ghost faults: { Self → ℕ };
 
-    /// What a write does: the sink before, the piece, how many of its bytes were taken (none where the write failed), and
-    /// the sink after.
+    /// What a write does: the sink before, the piece, how many of its bytes were taken (none where the write failed),
+    /// and the sink after.
     ghost wrote: { Self → List ℕ → Option ℕ → Self → Type 0 };
 
     /// Appends bytes from the front of the piece, of a nonempty one at least one, and answers how many.

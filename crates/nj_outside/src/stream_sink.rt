@@ -24,6 +24,7 @@ impl<W: Write + Drop> Model for StreamSink<W> {
 }
 
 impl<W: Write + Drop> StreamSink<W> {
+    /// A sink that writes to a stream, with no fault counted so far.
     pub fn new(stream: W) -> StreamSink<W>
         ensures { result ≡ 0 }
     {

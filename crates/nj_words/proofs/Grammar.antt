@@ -17,11 +17,13 @@ equals_there : (label value : Word) → list_any is_equals_sign (label ++ 61 ∷
 equals_there [] value = refl
 equals_there (byte ∷ label) value = go (is_equals_sign byte) (equals_there label value)
   where
-    go : (b : Bool) → list_any is_equals_sign (label ++ 61 ∷ value) ≡ true → (b || list_any is_equals_sign (label ++ 61 ∷ value)) ≡ true
+    go : (b : Bool) → list_any is_equals_sign (label ++ 61 ∷ value) ≡ true
+        → (b || list_any is_equals_sign (label ++ 61 ∷ value)) ≡ true
     go true e = refl
     go false e = e
 
-no_equals_head : (byte : ℕ) (label : Word) → HasNoEquals (byte ∷ label) → (is_equals_sign byte ≡ false) × HasNoEquals label
+no_equals_head : (byte : ℕ) (label : Word) → HasNoEquals (byte ∷ label)
+    → (is_equals_sign byte ≡ false) × HasNoEquals label
 no_equals_head byte label none = or_parts (is_equals_sign byte) (list_any is_equals_sign label) none
 
 before_equals : (label value : Word) → HasNoEquals label → before_first is_equals_sign (label ++ 61 ∷ value) ≡ label
@@ -32,7 +34,8 @@ before_equals (byte ∷ label) value none =
     rw (other, one_more) (ap (λ bytes. byte ∷ bytes) (before_equals label value parts.1))
 
 -- what stands behind the first `=` does not change with a byte before it
-after_more : (byte : ℕ) (text : Word) → is_equals_sign byte ≡ false → after_first is_equals_sign (byte ∷ text) ≡ after_first is_equals_sign text
+after_more : (byte : ℕ) (text : Word) → is_equals_sign byte ≡ false
+    → after_first is_equals_sign (byte ∷ text) ≡ after_first is_equals_sign text
 after_more byte text other =
     let same : 1 + position_or_len is_equals_sign text ≡ position_or_len is_equals_sign text + 1 = omega arith in
     ap (λ n. drop n (byte ∷ text)) (more_one _) ∙ rw other (ap (λ n. drop n text) same)
@@ -44,21 +47,27 @@ after_equals (byte ∷ label) value none =
     after_more byte (label ++ 61 ∷ value) parts.0 ∙ after_equals label value parts.1
 
 -- the kind of a word that the grammar writes
-joined_kind : (label value : Word) → HasNoEquals label → kind_of_word (codes "--" ++ (label ++ (codes "=" ++ value))) ≡ whole_option label value
+joined_kind : (label value : Word) → HasNoEquals label
+    → kind_of_word (codes "--" ++ (label ++ (codes "=" ++ value))) ≡ whole_option label value
 unfolding kind_of_word
 joined_kind label value none =
     longer label value
-    ∙ ap (λ b. cond b (whole_option (before_first is_equals_sign (label ++ 61 ∷ value)) (after_first is_equals_sign (label ++ 61 ∷ value))) (open_option (label ++ 61 ∷ value))) (equals_there label value)
+    ∙ ap (λ b. cond b (whole_option (before_first is_equals_sign (label ++ 61 ∷ value))
+        (after_first is_equals_sign (label ++ 61 ∷ value))) (open_option (label ++ 61 ∷ value)))
+        (equals_there label value)
     ∙ (λ i. whole_option (before_equals label value none i) (after_equals label value none i))
   where
     longer : (l v : Word) → kind_of_word (45 ∷ 45 ∷ (l ++ 61 ∷ v)) ≡ option_kind (l ++ 61 ∷ v)
     longer [] v = refl
     longer (byte ∷ l) v = refl
 
-apart_kind : (label : Word) → HasNoEquals label → 0 < length label → kind_of_word (codes "--" ++ label) ≡ open_option label
+apart_kind : (label : Word) → HasNoEquals label → 0 < length label
+    → kind_of_word (codes "--" ++ label) ≡ open_option label
 unfolding kind_of_word
 apart_kind [] none some = absurd (omega arith)
-apart_kind (byte ∷ label) none some = ap (λ b. cond b (whole_option (before_first is_equals_sign (byte ∷ label)) (after_first is_equals_sign (byte ∷ label))) (open_option (byte ∷ label))) none
+apart_kind (byte ∷ label) none some =
+    ap (λ b. cond b (whole_option (before_first is_equals_sign (byte ∷ label))
+        (after_first is_equals_sign (byte ∷ label))) (open_option (byte ∷ label))) none
 
 name_kind : (word : Word) → IsName word → kind_of_word word ≡ plain
 unfolding kind_of_word
@@ -78,12 +87,15 @@ unfolding pieces kind_of_word
 said _ _ nothing = refl
 said _ _ (mark words) = refl
 said _ _ (named word words rest is more) =
-    ap (λ kind. read_kind kind word words (λ waiting. pieces waiting words)) (name_kind word is) ∙ ap (before_others (name word)) (said words rest more)
+    ap (λ kind. read_kind kind word words (λ waiting. pieces waiting words)) (name_kind word is)
+        ∙ ap (before_others (name word)) (said words rest more)
 said _ _ (joined label value words rest none more) =
-    ap (λ kind. read_kind kind (codes "--" ++ (label ++ (codes "=" ++ value))) words (λ waiting. pieces waiting words)) (joined_kind label value none)
+    ap (λ kind. read_kind kind (codes "--" ++ (label ++ (codes "=" ++ value))) words (λ waiting. pieces waiting words))
+        (joined_kind label value none)
     ∙ ap (before_others (option label value)) (said words rest more)
 said _ _ (apart label value words rest none some free more) =
-    ap (λ kind. read_kind kind (codes "--" ++ label) (value ∷ words) (λ waiting. pieces waiting (value ∷ words))) (apart_kind label none some)
+    ap (λ kind. read_kind kind (codes "--" ++ label) (value ∷ words) (λ waiting. pieces waiting (value ∷ words)))
+        (apart_kind label none some)
     ∙ ap (λ b. cond b None (before_others (option label value) (pieces None words))) free
     ∙ ap (before_others (option label value)) (said words rest more)
 
@@ -96,21 +108,26 @@ SpelledAs word plain = IsName word
 SpelledAs word unreadable = Unit {0}
 
 abbrev IsCut : Word → Type 0
-IsCut text = (text ≡ before_first is_equals_sign text ++ 61 ∷ after_first is_equals_sign text) × HasNoEquals (before_first is_equals_sign text)
+IsCut text =
+    (text ≡ before_first is_equals_sign text ++ 61 ∷ after_first is_equals_sign text)
+    × HasNoEquals (before_first is_equals_sign text)
 
 -- a text with an `=` is cut at the first one
 cut_at_equals : (text : Word) → list_any is_equals_sign text ≡ true → IsCut text
 cut_at_equals [] some = absurd (true≢false (sym some))
 cut_at_equals (byte ∷ text) some = go (is_equals_sign byte) refl some (cut_at_equals text)
   where
-    go : (b : Bool) → is_equals_sign byte ≡ b → list_any is_equals_sign (byte ∷ text) ≡ true → (list_any is_equals_sign text ≡ true → IsCut text) → IsCut (byte ∷ text)
+    go : (b : Bool) → is_equals_sign byte ≡ b → list_any is_equals_sign (byte ∷ text) ≡ true
+        → (list_any is_equals_sign text ≡ true → IsCut text) → IsCut (byte ∷ text)
     go true same some later =
         let is : byte ≡ 61 = eqb-true byte 61 same in
         (rw same (ap (λ b. b ∷ text) is), rw same refl)
     go false other some later =
         let cut = later (rw other at some) in
-        let before : before_first is_equals_sign (byte ∷ text) ≡ byte ∷ before_first is_equals_sign text = rw (other, one_more) refl in
-        let after : after_first is_equals_sign (byte ∷ text) ≡ after_first is_equals_sign text = after_more byte text other in (
+        let before : before_first is_equals_sign (byte ∷ text) ≡ byte ∷ before_first is_equals_sign text =
+            rw (other, one_more) refl in
+        let after : after_first is_equals_sign (byte ∷ text) ≡ after_first is_equals_sign text =
+            after_more byte text other in (
           ap (λ bytes. byte ∷ bytes) cut.0 ∙ (λ i. sym before i ++ 61 ∷ sym after i),
           ap (list_any is_equals_sign) before ∙ rw other cut.1,
         )
@@ -118,7 +135,8 @@ cut_at_equals (byte ∷ text) some = go (is_equals_sign byte) refl some (cut_at_
 dashes_spell : (first : ℕ) (rest : Word) → SpelledAs (45 ∷ 45 ∷ first ∷ rest) (option_kind (first ∷ rest))
 dashes_spell first rest = go (list_any is_equals_sign (first ∷ rest)) refl
   where
-    go : (b : Bool) → list_any is_equals_sign (first ∷ rest) ≡ b → SpelledAs (45 ∷ 45 ∷ first ∷ rest) (option_kind (first ∷ rest))
+    go : (b : Bool) → list_any is_equals_sign (first ∷ rest) ≡ b
+        → SpelledAs (45 ∷ 45 ∷ first ∷ rest) (option_kind (first ∷ rest))
     go true e = let cut = cut_at_equals (first ∷ rest) e in rw e (ap (λ bytes. 45 ∷ 45 ∷ bytes) cut.0, cut.1)
     go false e = rw e (refl, e, omega arith)
 
@@ -149,39 +167,52 @@ spells (first ∷ rest) = elim (cases_eq first 45) [
       rw (left, right) (inr (rw right refl))
 ]
 
-others : (piece : Piece) (found : Option (List Piece)) (ps : List Piece) → before_others piece found ≡ Some ps → (rest : List Piece) × (found ≡ Some rest) × (ps ≡ piece ∷ rest)
+others : (piece : Piece) (found : Option (List Piece)) (ps : List Piece) → before_others piece found ≡ Some ps
+    → (rest : List Piece) × (found ≡ Some rest) × (ps ≡ piece ∷ rest)
 others piece None ps e = cc
 others piece (Some rest) ps e = (rest, refl, sym (same_Some (piece ∷ rest) ps e))
 
 -- what the words mean that follow those read so far: none wait, or an option that stands open does
 abbrev Means : Option Word → List Word → Type 0
 Means None words = (found : List Piece) → pieces None words ≡ Some found → Says words found
-Means (Some label) words = (found : List Piece) → HasNoEquals label → 0 < length label → pieces (Some label) words ≡ Some found → Says ((codes "--" ++ label) ∷ words) found
+Means (Some label) words =
+    (found : List Piece) → HasNoEquals label → 0 < length label → pieces (Some label) words ≡ Some found
+    → Says ((codes "--" ++ label) ∷ words) found
 
-idle_means : (word : Word) (words : List Word) → ((waiting : Option Word) → Means waiting words) → Means None (word ∷ words)
+idle_means : (word : Word) (words : List Word) → ((waiting : Option Word) → Means waiting words)
+    → Means None (word ∷ words)
 unfolding pieces
 idle_means word words later found e = go (kind_of_word word) (spells word) e
   where
-    go : (kind : WordKind) → SpelledAs word kind → read_kind kind word words (λ waiting. pieces waiting words) ≡ Some found → Says (word ∷ words) found
-    go names_follow is e = subst (λ w. Says (w ∷ words) found) (sym is) (subst (Says (codes "--" ∷ words)) (same_Some (map name words) found e) (mark words))
+    go : (kind : WordKind) → SpelledAs word kind
+        → read_kind kind word words (λ waiting. pieces waiting words) ≡ Some found → Says (word ∷ words) found
+    go names_follow is e =
+        subst (λ w. Says (w ∷ words) found) (sym is)
+            (subst (Says (codes "--" ∷ words)) (same_Some (map name words) found e) (mark words))
     go (whole_option label value) is e =
         let rest = others (option label value) (pieces None words) found e in
-        subst (λ w. Says (w ∷ words) found) (sym is.0) (subst (Says ((codes "--" ++ (label ++ (codes "=" ++ value))) ∷ words)) (sym rest.2) (joined label value words rest.0 is.1 (later None rest.0 rest.1)))
+        subst (λ w. Says (w ∷ words) found) (sym is.0)
+            (subst (Says ((codes "--" ++ (label ++ (codes "=" ++ value))) ∷ words)) (sym rest.2)
+                (joined label value words rest.0 is.1 (later None rest.0 rest.1)))
     go (open_option label) is e = subst (λ w. Says (w ∷ words) found) (sym is.0) (later (Some label) found is.1 is.2 e)
     go plain is e =
         let rest = others (name word) (pieces None words) found e in
         subst (Says (word ∷ words)) (sym rest.2) (named word words rest.0 is (later None rest.0 rest.1))
     go unreadable is e = cc
 
-waiting_means : (label word : Word) (words : List Word) → ((waiting : Option Word) → Means waiting words) → Means (Some label) (word ∷ words)
+waiting_means : (label word : Word) (words : List Word) → ((waiting : Option Word) → Means waiting words)
+    → Means (Some label) (word ∷ words)
 unfolding pieces
 waiting_means label word words later found none some e = go (begins_with_hyphen word) refl e
   where
-    go : (b : Bool) → begins_with_hyphen word ≡ b → cond b None (before_others (option label word) (pieces None words)) ≡ Some found → Says ((codes "--" ++ label) ∷ word ∷ words) found
+    go : (b : Bool) → begins_with_hyphen word ≡ b
+        → cond b None (before_others (option label word) (pieces None words)) ≡ Some found
+        → Says ((codes "--" ++ label) ∷ word ∷ words) found
     go true hyphen e = cc
     go false free e =
         let rest = others (option label word) (pieces None words) found e in
-        subst (Says ((codes "--" ++ label) ∷ word ∷ words)) (sym rest.2) (apart label word words rest.0 none some free (later None rest.0 rest.1))
+        subst (Says ((codes "--" ++ label) ∷ word ∷ words)) (sym rest.2)
+            (apart label word words rest.0 none some free (later None rest.0 rest.1))
 
 means : (words : List Word) (waiting : Option Word) → Means waiting words
 unfolding pieces

@@ -10,22 +10,29 @@ use Rattle.nj_words.specs.Parser.{form_of, words_of}
 use Rattle.nj_words.proofs.Lookups.{same_word}
 
 -- the form takes nothing from the words
-pub none_made : (row : Row) (names options : List (Bor Word)) (words : List Word) → form_of names options ≡ row.form → taken (form_of names options) words ≡ None → command_of row words ≡ None
+pub none_made : (row : Row) (names options : List (Bor Word)) (words : List Word) → form_of names options ≡ row.form
+    → taken (form_of names options) words ≡ None → command_of row words ≡ None
 unfolding command_of
-none_made row names options words same none = ap (option_and_then row.made) (ap (λ form. taken form words) (sym same) ∙ none)
+none_made row names options words same none =
+    ap (option_and_then row.made) (ap (λ form. taken form words) (sym same) ∙ none)
 
 -- the command is made of what the form takes
-pub all_made : (row : Row) (names options : List (Bor Word)) (words : List Word) (given : Taken) → form_of names options ≡ row.form → taken (form_of names options) words ≡ Some given → command_of row words ≡ row.made given
+pub all_made : (row : Row) (names options : List (Bor Word)) (words : List Word) (given : Taken)
+    → form_of names options ≡ row.form → taken (form_of names options) words ≡ Some given
+    → command_of row words ≡ row.made given
 unfolding command_of
-all_made row names options words given same all = ap (option_and_then row.made) (ap (λ form. taken form words) (sym same) ∙ all)
+all_made row names options words given same all =
+    ap (option_and_then row.made) (ap (λ form. taken form words) (sym same) ∙ all)
 
 other_word : (word other : Word) → (word ≡ other → ⊥) → bytes_eq word other ≡ false
 other_word word other ne = false_from_ne_true _ (λ same. ne (same_word word other same))
 
 -- the words of a list that has a first one
-pub first_read : {Z : Type 0} (words : List (String Z)) (first : String Z) (rest : List (String Z)) (word bytes : Word) → words ≡ first ∷ rest → word ≡ string_bytes first → word ≡ bytes
+pub first_read : {Z : Type 0} (words : List (String Z)) (first : String Z) (rest : List (String Z)) (word bytes : Word)
+    → words ≡ first ∷ rest → word ≡ string_bytes first → word ≡ bytes
     → reading (words_of words) ≡ reading (bytes ∷ words_of rest)
-first_read words first rest word bytes split is spells = ap (λ ws. reading (words_of ws)) split ∙ ap (λ w. reading (w ∷ words_of rest)) (sym is ∙ spells)
+first_read words first rest word bytes split is spells =
+    ap (λ ws. reading (words_of ws)) split ∙ ap (λ w. reading (w ∷ words_of rest)) (sym is ∙ spells)
 
 pub nothing_read : {Z : Type 0} (words : List (String Z)) → length words ≡ 0 → reading (words_of words) ≡ None
 unfolding reading
@@ -73,10 +80,14 @@ unfolding reading
 watch_read words = refl
 
 -- no command has this word
-pub other_read : (word : Word) (words : List Word) → (word ≡ codes "play" → ⊥) → (word ≡ codes "search" → ⊥) → (word ≡ codes "resume" → ⊥) → (word ≡ codes "replay" → ⊥) → (word ≡ codes "check" → ⊥) → (word ≡ codes "workload" → ⊥)
-    → (word ≡ codes "asm" → ⊥) → (word ≡ codes "clean" → ⊥) → (word ≡ codes "trace" → ⊥) → (word ≡ codes "watch" → ⊥) → reading (word ∷ words) ≡ None
+pub other_read : (word : Word) (words : List Word) → (word ≡ codes "play" → ⊥) → (word ≡ codes "search" → ⊥)
+    → (word ≡ codes "resume" → ⊥) → (word ≡ codes "replay" → ⊥) → (word ≡ codes "check" → ⊥)
+    → (word ≡ codes "workload" → ⊥)
+    → (word ≡ codes "asm" → ⊥) → (word ≡ codes "clean" → ⊥) → (word ≡ codes "trace" → ⊥) → (word ≡ codes "watch" → ⊥)
+    → reading (word ∷ words) ≡ None
 unfolding reading
-other_read word words not_play not_search not_resume not_replay not_check not_workload not_asm not_clean not_trace not_watch =
+other_read word words not_play not_search not_resume not_replay not_check not_workload not_asm not_clean not_trace
+    not_watch =
     let play_differs = other_word word (codes "play") not_play in
     let search_differs = other_word word (codes "search") not_search in
     let resume_differs = other_word word (codes "resume") not_resume in
@@ -87,4 +98,5 @@ other_read word words not_play not_search not_resume not_replay not_check not_wo
     let clean_differs = other_word word (codes "clean") not_clean in
     let trace_differs = other_word word (codes "trace") not_trace in
     let watch_differs = other_word word (codes "watch") not_watch in
-    rw (play_differs, search_differs, resume_differs, replay_differs, check_differs, workload_differs, asm_differs, clean_differs, trace_differs, watch_differs) refl
+    rw (play_differs, search_differs, resume_differs, replay_differs, check_differs, workload_differs, asm_differs,
+        clean_differs, trace_differs, watch_differs) refl

@@ -19,42 +19,62 @@ are_utf8 : {Z : Type 0} (words : List (String Z)) → AreUtf8 (words_of words)
 are_utf8 [] = tt
 are_utf8 (word ∷ words) = (IsUtf8-string_bytes word, are_utf8 words)
 
-module _ {Z : Type 0} (names options : List (Bor Word)) (words : List (String Z)) (few : length names < 2 ^ 32) (distinct : is_distinct (texts names ++ texts options) ≡ true) where
-  whole : cond (has_lone_value false (words_of words)) None (option_and_then (taken_rows (form_of names options)) (unless (parser_fault (form_of names options) (words_of words)) (Some (parser_rows (form_of names options) (words_of words)))))
+module _ {Z : Type 0} (names options : List (Bor Word)) (words : List (String Z)) (few : length names < 2 ^ 32)
+    (distinct : is_distinct (texts names ++ texts options) ≡ true) where
+  whole : cond (has_lone_value false (words_of words)) None
+      (option_and_then (taken_rows (form_of names options))
+          (unless (parser_fault (form_of names options) (words_of words))
+              (Some (parser_rows (form_of names options) (words_of words)))))
       ≡ taken (form_of names options) (words_of words)
   whole = reads_taken (form_of names options) (words_of words) (is_few names few) distinct (are_utf8 words)
 
   -- a lone hyphen stands for a value
   pub take_lone : has_lone_value false (words_of words) ≡ true → taken (form_of names options) (words_of words) ≡ None
-  take_lone lone = sym whole ∙ ap (λ b. cond b None (option_and_then (taken_rows (form_of names options)) (unless (parser_fault (form_of names options) (words_of words)) (Some (parser_rows (form_of names options) (words_of words)))))) lone
+  take_lone lone =
+      sym whole ∙ ap (λ b. cond b None (option_and_then (taken_rows (form_of names options))
+          (unless (parser_fault (form_of names options) (words_of words))
+              (Some (parser_rows (form_of names options) (words_of words)))))) lone
 
   -- the parser refuses the words
-  pub take_refused : has_lone_value false (words_of words) ≡ false → (parser_fault (form_of names options) (words_of words) ≡ [] → ⊥) → taken (form_of names options) (words_of words) ≡ None
+  pub take_refused : has_lone_value false (words_of words) ≡ false
+      → (parser_fault (form_of names options) (words_of words) ≡ [] → ⊥)
+      → taken (form_of names options) (words_of words) ≡ None
   take_refused lone fault =
-      sym whole ∙ (λ i. cond (lone i) None (option_and_then (taken_rows (form_of names options)) (unless (parser_fault (form_of names options) (words_of words)) (Some (parser_rows (form_of names options) (words_of words))))))
+      sym whole ∙ (λ i. cond (lone i) None (option_and_then (taken_rows (form_of names options))
+          (unless (parser_fault (form_of names options) (words_of words))
+              (Some (parser_rows (form_of names options) (words_of words))))))
       ∙ go (parser_fault (form_of names options) (words_of words)) fault
     where
-      go : (kinds : Kinds) → (kinds ≡ [] → ⊥) → option_and_then (taken_rows (form_of names options)) (unless kinds (Some (parser_rows (form_of names options) (words_of words)))) ≡ None
+      go : (kinds : Kinds) → (kinds ≡ [] → ⊥)
+          → option_and_then (taken_rows (form_of names options))
+              (unless kinds (Some (parser_rows (form_of names options) (words_of words)))) ≡ None
       go [] none = absurd (none refl)
       go (kind ∷ kinds) some = refl
 
-  found_rows : (found : ArgMatches) → has_lone_value false (words_of words) ≡ false → IsParse (form_of names options) (words_of words) found
+  found_rows : (found : ArgMatches) → has_lone_value false (words_of words) ≡ false
+      → IsParse (form_of names options) (words_of words) found
       → taken (form_of names options) (words_of words) ≡ taken_rows (form_of names options) (rows_of (found_of found))
   found_rows found lone parses =
       sym whole
-      ∙ (λ i. cond (lone i) None (option_and_then (taken_rows (form_of names options)) (unless (parses.0 i) (Some (sym parses.1 i)))))
+      ∙ (λ i. cond (lone i) None (option_and_then (taken_rows (form_of names options))
+          (unless (parses.0 i) (Some (sym parses.1 i)))))
 
   -- a name is missing or empty
-  pub take_missing : (found : ArgMatches) → has_lone_value false (words_of words) ≡ false → IsParse (form_of names options) (words_of words) found
+  pub take_missing : (found : ArgMatches) → has_lone_value false (words_of words) ≡ false
+      → IsParse (form_of names options) (words_of words) found
       → given (map (word_read found) (texts names)) ≡ None → taken (form_of names options) (words_of words) ≡ None
   unfolding word_read
   take_missing found lone parses missing =
       found_rows found lone parses
-      ∙ ap (option_map (λ (ns : List Word). record { names = ns; values = map (λ label. first_of label (rows_of (found_of found))) (texts options) })) missing
+      ∙ ap (option_map (λ (ns : List Word). record
+          { names = ns; values = map (λ label. first_of label (rows_of (found_of found))) (texts options) })) missing
 
-  pub take_all : (found : ArgMatches) (given_names : List Word) (values : List (Option Word)) → has_lone_value false (words_of words) ≡ false
-      → IsParse (form_of names options) (words_of words) found → given (map (word_read found) (texts names)) ≡ Some given_names
-      → values ≡ map (word_read found) (texts options) → taken (form_of names options) (words_of words) ≡ Some (record { names = given_names; values = values })
+  pub take_all : (found : ArgMatches) (given_names : List Word) (values : List (Option Word))
+      → has_lone_value false (words_of words) ≡ false
+      → IsParse (form_of names options) (words_of words) found
+      → given (map (word_read found) (texts names)) ≡ Some given_names
+      → values ≡ map (word_read found) (texts options)
+      → taken (form_of names options) (words_of words) ≡ Some (record { names = given_names; values = values })
   unfolding word_read
   take_all found given_names values lone parses all same =
       found_rows found lone parses

@@ -99,7 +99,8 @@ pub struct SearchOptions {
 }
 
 impl Command {
-    /// How many workers the command asks for: those of a search, begun or gone on with, 1 to 64, and one for every other.
+    /// How many workers the command asks for: those of a search, begun or gone on with, 1 to 64, and one for every
+    /// other.
     #[tactic(auto, unfolding(crate::specs::Commands::workers_of))]
     pub fn workers(&self) -> u32
         ensures { result ≡ workers_of self.now }

@@ -6,7 +6,8 @@ use Rattle.nj_outside.proofs.memory_shelf.bytes_of.Goals as goal
 pub returns-in-Some : goal.returns-in-Some
 returns-in-Some c =
     ap Some c.as_slice.ensures.value
-    ∙ sym (first_found c.args.files.now c.args.name.now c.in-Some.place c.index-files-place.result c.in-Some.ensures.found)
+    ∙ sym (first_found c.args.files.now c.args.name.now c.in-Some.place c.index-files-place.result
+        c.in-Some.ensures.found)
 
 pub returns-in-None : goal.returns-in-None
 returns-in-None c = sym (none_found _ _ c.in-None.ensures.missing)

@@ -10,4 +10,5 @@ invariant-loop-name l = app_of l.command ≡ app_with (map new_rule (texts (take
 
 -- and then the options so far
 abbrev pub invariant-loop-label : goal.invariant-loop-label
-invariant-loop-label l = app_of l.command ≡ app_with (map new_rule (texts l.names) ++ map option_rule (texts (take l.label-index l.options)))
+invariant-loop-label l =
+    app_of l.command ≡ app_with (map new_rule (texts l.names) ++ map option_rule (texts (take l.label-index l.options)))

@@ -7,4 +7,5 @@ use Rattle.nj_words.proofs.parser.names_read.Given as goal
 -- the words so far, before those of the names that are left
 abbrev pub invariant-loop-name : goal.invariant-loop-name
 invariant-loop-name l = (length l.words.items ≡ l.name-index) × (
-    given (map (word_read l.matches) (texts l.names)) ≡ given_after (texts l.words.items) (given (map (word_read l.matches) (texts (drop l.name-index l.names)))))
+    given (map (word_read l.matches) (texts l.names))
+        ≡ given_after (texts l.words.items) (given (map (word_read l.matches) (texts (drop l.name-index l.names)))))
