@@ -1,8 +1,8 @@
-//! Command lines and what they come to. A case has its words behind `$`, the lines of the file `movie` behind `<` (with `^`
-//! for a carriage return), those of `out` behind `>`, a last line without its end behind `~`, the line of `err` behind `!`
-//! (behind `?` without its end), its status behind `=`, and how many bytes the file `K` has then behind `&`. Behind `%` stand the numbers of the calls of
-//! the shelf, of `out` and of `err` that fail, 0 for none. A case that begins with `+` has the files that the one before it
-//! left.
+//! Command lines and what they come to. A case has its words behind `$`, the lines of the file `movie` behind `<` (with
+//! `^` for a carriage return), those of `out` behind `>`, a last line without its end behind `~`, the line of `err`
+//! behind `!` (behind `?` without its end), its status behind `=`, and how many bytes the file `K` has then behind `&`.
+//! Behind `%` stand the numbers of the calls of the shelf, of `out` and of `err` that fail, 0 for none. A case that
+//! begins with `+` has the files that the one before it left.
 
 /// Of `play`, and of words that are no command line.
 pub const PLAYS: &str = r#"$ play count -

@@ -484,8 +484,8 @@ const COUNTS: &str = r#"{"version":1,
 "inputs":[{"pads":["........","...R...."]}],
 "rules":[]}"#;
 
-// A search of two workers that meet: how many pieces met the other, the status, whether the text is that of 23 frames without
-// a button, and the bytes of `err`.
+// A search of two workers that meet: how many pieces met the other, the status, whether the text is that of 23 frames
+// without a button, and the bytes of `err`.
 fn met<R: Threads + Wait + Sync, L: Ledger + Send>(
     rt: &R,
     alloc: Global,
@@ -517,8 +517,8 @@ fn work_is_shared(rt: HostRuntime) -> Result<(), Fail> {
     Ok(())
 }
 
-// The files of the workload of number 0, searched by one worker and by eight: both statuses, whether the first text is that
-// of a win in four steps, and whether the second text is the first.
+// The files of the workload of number 0, searched by one worker and by eight: both statuses, whether the first text is
+// that of a win in four steps, and whether the second text is the first.
 fn eight_as_one<R: Threads + Wait + Sync, L: Ledger + Send>(
     rt: &R,
     alloc: Global,

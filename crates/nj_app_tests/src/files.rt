@@ -57,8 +57,8 @@ fn named(alloc: Global, name: &str, bytes: Vec<u8>) -> Result<(String, Vec<u8>),
     Ok((String::from_str(alloc, name)?, bytes))
 }
 
-/// `count` counts turns of its loop at $10, `jam` jams at once, `short` ends inside its header, `walk` is moved by Right,
-/// and `goal` is its script.
+/// `count` counts turns of its loop at $10, `jam` jams at once, `short` ends inside its header, `walk` is moved by
+/// Right, and `goal` is its script.
 pub fn shelf_with(alloc: Global, movie: &[u8], failing: &[u64]) -> Result<MemShelf, AllocError> {
     let mut files = Vec::new(alloc);
     let count = cartridge(alloc, HEADER, &[0xE6, 0x10, 0x4C, 0x00, 0x80], 0)?;

@@ -1,5 +1,5 @@
-//! `search CART SCRIPT START` and `resume CART SCRIPT START SAVED`: the outcome of a planned search, by one thread or by
-//! several workers, and at its limit its state as a file to go on with.
+//! `search CART SCRIPT START` and `resume CART SCRIPT START SAVED`: the outcome of a planned search, by one thread or
+//! by several workers, and at its limit its state as a file to go on with.
 
 ghost use Rattle.std.specs.Prelude.{◌≡◌, ◌≢◌, ◌≤◌, length, map, option_map, Contains, IfOk, IfSome, IsErrOf, Some, None, Err};
 ghost use Rattle.std.specs.List.{AllZip};
@@ -304,7 +304,8 @@ pub fn share<R: Threads + Wait + Sync, S: Shelf, G: Gate, L: Ledger + Send>(
     ensures fault_name { IsErrOf result Stop.ReadFault →
         Contains (map fnv_of (names_in files.now)) (S.failed_read shelf.new) }
     ensures frames { (told : Files) → S.content shelf.old ≡ Some told →
-        AreCounted COUNTERS steps.old.items steps.new.items (frames_of (given told (share_work files.now options.now))) }
+        AreCounted COUNTERS steps.old.items steps.new.items
+            (frames_of (given told (share_work files.now options.now))) }
     ensures never_falls { AllZip (λ before after. before ≤ after) steps.old.items steps.new.items }
     ensures content { S.content shelf.new ≡ S.content shelf.old }
     ensures put_faults { S.put_faults shelf.new ≡ S.put_faults shelf.old }
