@@ -5,7 +5,8 @@ use Rattle.std.proofs.lemmas.Bool.{ltb-true, ltb-false}
 use Rattle.nj_lines.specs.Lines.{joined, lines, text_len, IsEnded, IsLast, AreLines}
 
 -- the place of the first line feed, where one was found
-pub place_found : (place length at : ℕ) (found : Bool) → ltb place length ≡ found → cond found (Some place) None ≡ Some at →
+pub place_found : (place length at : ℕ) (found : Bool) → ltb place length ≡ found
+    → cond found (Some place) None ≡ Some at →
     at + 1 ≡ min (place + 1) length
 place_found place length at true found read =
     let same : place ≡ at = cc in
@@ -26,7 +27,8 @@ line_end bytes = min (text_len bytes + 1) (length bytes)
 one_more : (byte : ℕ) (bytes : List ℕ) (n : ℕ) (ends : Bool) →
     n ≡ min (cond (not ends) (1 + text_len bytes) 0 + 1) (suc (length bytes)) →
     (0 < length bytes → lines bytes ≡ take (line_end bytes) bytes ∷ lines (drop (line_end bytes) bytes)) →
-    cond ends ((byte ∷ []) ∷ lines bytes) (joined byte (lines bytes)) ≡ take n (byte ∷ bytes) ∷ lines (drop n (byte ∷ bytes))
+    cond ends ((byte ∷ []) ∷ lines bytes) (joined byte (lines bytes))
+        ≡ take n (byte ∷ bytes) ∷ lines (drop n (byte ∷ bytes))
 one_more byte bytes n true cut rest = let one : n ≡ 1 = omega arith in rw one
 one_more byte [] n false cut rest = let one : n ≡ 1 = omega arith in rw one
 one_more byte (next ∷ more) n false cut rest =
@@ -61,13 +63,15 @@ IsEnded-joined byte line other ended = rw other (omega arith)
 IsLast-joined : (byte : ℕ) (line : List ℕ) → (byte == 10) ≡ false → IsLast line → IsLast (byte ∷ line)
 IsLast-joined byte line other last = (omega arith, rw other (omega arith))
 
-AreLines-joined : (byte : ℕ) (parts : List (List ℕ)) → (byte == 10) ≡ false → AreLines parts → AreLines (joined byte parts)
+AreLines-joined : (byte : ℕ) (parts : List (List ℕ)) → (byte == 10) ≡ false → AreLines parts
+    → AreLines (joined byte parts)
 AreLines-joined byte [] other are = (omega arith, omega arith)
 AreLines-joined byte (line ∷ []) other are = IsLast-joined byte line other are
 AreLines-joined byte (line ∷ next ∷ rest) other are = (IsEnded-joined byte line other are.0, are.1)
 
 -- a line feed alone put before lines
-AreLines-ended : (byte : ℕ) (parts : List (List ℕ)) → (byte == 10) ≡ true → AreLines parts → AreLines ((byte ∷ []) ∷ parts)
+AreLines-ended : (byte : ℕ) (parts : List (List ℕ)) → (byte == 10) ≡ true → AreLines parts
+    → AreLines ((byte ∷ []) ∷ parts)
 AreLines-ended byte [] ends are = (omega arith, omega arith)
 AreLines-ended byte (line ∷ rest) ends are = (rw ends (omega arith), are)
 

@@ -36,9 +36,11 @@ pub IsPlain-decimal : (n : ℕ) → n < 2 ^ 64 → IsPlain (decimal n)
 IsPlain-decimal n below =
     decimal_by_steps (λ n digits. IsPlain digits)
     (λ n small. IsPlain-byte (48 + n) (λ same. omega arith))
-    (λ n digits large plain. IsPlain-append digits ((48 + n % 10) ∷ []) plain (IsPlain-byte (48 + n % 10) (λ same. omega arith)))
+    (λ n digits large plain. IsPlain-append digits ((48 + n % 10) ∷ []) plain
+        (IsPlain-byte (48 + n % 10) (λ same. omega arith)))
     n below
 
 pub IsPlain-signed : (n : ℤ) → FitsSigned w64 n → IsPlain (signed_decimal n)
 IsPlain-signed (pos n) fits = IsPlain-decimal n (omega (arith, fits))
-IsPlain-signed (negsuc n) fits = IsPlain-append (45 ∷ []) (decimal (suc n)) refl (IsPlain-decimal (suc n) (omega (arith, fits)))
+IsPlain-signed (negsuc n) fits =
+    IsPlain-append (45 ∷ []) (decimal (suc n)) refl (IsPlain-decimal (suc n) (omega (arith, fits)))

@@ -1,5 +1,5 @@
--- The lines of a text of bytes. A line ends with a line feed, which belongs to it (POSIX.1, "Line"; that the last one may
--- lack it is our own, after POSIX.1, "Incomplete Line").
+-- The lines of a text of bytes. A line ends with a line feed, which belongs to it (POSIX.1, "Line"; that the last one
+-- may lack it is our own, after POSIX.1, "Incomplete Line").
 use Rattle.std.specs.Prelude.{◌≡◌, ◌<◌, ◌≤◌, ℕ, ◌+◌, ◌-◌, ◌==◌, nat_eq, if◌then◌else◌, List, [], ◌∷◌, length, take}
 use Rattle.std.specs.List.{ends_with, position_or_len}
 
