@@ -2,12 +2,10 @@
 
 ghost use Rattle.std.specs.Prelude.{◌≡◌};
 
-use crate::cases::{
-    CHECKS, CLEANS, FAULTS, LISTS, PLANS, PLAYS, QUOTAS, REPLAYS, SAVES, SEARCHES, SOURCES, TRACES,
-    WINS,
-};
+use crate::cases::{CHECKS, CLEANS, FAULTS, LISTS, PLANS, PLAYS, REPLAYS, SOURCES, TRACES};
 use crate::files::{GOAL, made_shelf, shelf_with};
 use crate::meeting::Meeting;
+use crate::searches::{QUOTAS, SAVES, SEARCHES, WINS};
 use nj_app::{COUNTERS, Gate, OpenGate, run, run_plain};
 use nj_outside::{MemShelf, MemSink, fnv, fnv_on, read_decimal};
 use nj_steps::Steps;
