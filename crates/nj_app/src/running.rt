@@ -55,7 +55,7 @@ pub fn run_plain<S: Shelf, O: Sink, E: Sink, L: Ledger>(
     ensures complete { (files : Files) → S.content shelf.old ≡ Some files →
         ¬ Rose (S.read_faults shelf.old) (S.read_faults shelf.new) → ¬ Rose (O.faults out.old) (O.faults out.new) →
         ¬ Rose (S.put_faults shelf.old) (S.put_faults shelf.new) → result ≢ 9
-            → IsAnswered (answer (map string_bytes words.now) files) result (O.written out.old)
+        → IsAnswered (answer (map string_bytes words.now) files) result (O.written out.old)
         (O.written out.new) }
 
     // status 3 tells that the words have no reading, and such words have it unless memory ran out
@@ -141,10 +141,7 @@ fn reply_to<S: Shelf, L: Ledger>(
 }
 
 /// The reply to a command.
-#[tactic(auto, unfolding(crate::specs::Answer::work_of, crate::specs::Asm::asm_work, crate::specs::Check::check_work,
-    crate::specs::Clean::clean_work, crate::specs::Play::play_work, crate::specs::Replay::replay_work,
-    crate::specs::Search::search_work, crate::specs::Trace::trace_work, crate::specs::Watch::watch_work,
-    nj_words::specs::Commands::IsInRange))]
+#[tactic(auto, unfolding(crate::specs::Answer::work_of, crate::specs::Asm::asm_work, crate::specs::Check::check_work, crate::specs::Clean::clean_work, crate::specs::Play::play_work, crate::specs::Replay::replay_work, crate::specs::Search::search_work, crate::specs::Trace::trace_work, crate::specs::Watch::watch_work, nj_words::specs::Commands::IsInRange))]
 pub fn carry_out<S: Shelf, L: Ledger>(
     alloc: Global,
     command: &Command,

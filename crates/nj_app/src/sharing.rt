@@ -57,7 +57,7 @@ pub fn run<R: Threads + Wait + Sync, S: Shelf, O: Sink, E: Sink, G: Gate, L: Led
     ensures complete { (files : Files) → S.content shelf.old ≡ Some files →
         ¬ Rose (S.read_faults shelf.old) (S.read_faults shelf.new) → ¬ Rose (O.faults out.old) (O.faults out.new) →
         ¬ Rose (S.put_faults shelf.old) (S.put_faults shelf.new) → result ≢ 9
-            → IsAnswered (answer (map string_bytes words.now) files) result (O.written out.old)
+        → IsAnswered (answer (map string_bytes words.now) files) result (O.written out.old)
         (O.written out.new) }
 
     // status 3 tells that the words have no reading, and such words have it unless memory ran out
@@ -147,8 +147,7 @@ fn reply_by_workers<R: Threads + Wait + Sync, S: Shelf, G: Gate, L: Ledger + Sen
 
 /// The reply to a command. Every command but a search by several workers, begun or gone on with, is carried out on the
 /// first counter.
-#[tactic(auto, unfolding(crate::specs::Answer::work_of, crate::specs::Search::search_work,
-    nj_words::specs::Commands::IsInRange))]
+#[tactic(auto, unfolding(crate::specs::Answer::work_of, crate::specs::Search::search_work, nj_words::specs::Commands::IsInRange))]
 fn carry_out_by_workers<R: Threads + Wait + Sync, S: Shelf, G: Gate, L: Ledger + Send>(
     rt: &R,
     alloc: Global,

@@ -28,7 +28,7 @@ one_more : (byte : ℕ) (bytes : List ℕ) (n : ℕ) (ends : Bool) →
     n ≡ min (cond (not ends) (1 + text_len bytes) 0 + 1) (suc (length bytes)) →
     (0 < length bytes → lines bytes ≡ take (line_end bytes) bytes ∷ lines (drop (line_end bytes) bytes)) →
     cond ends ((byte ∷ []) ∷ lines bytes) (joined byte (lines bytes))
-        ≡ take n (byte ∷ bytes) ∷ lines (drop n (byte ∷ bytes))
+    ≡ take n (byte ∷ bytes) ∷ lines (drop n (byte ∷ bytes))
 one_more byte bytes n true cut rest = let one : n ≡ 1 = omega arith in rw one
 one_more byte [] n false cut rest = let one : n ≡ 1 = omega arith in rw one
 one_more byte (next ∷ more) n false cut rest =

@@ -37,7 +37,7 @@ IsPlain-decimal n below =
     decimal_by_steps (λ n digits. IsPlain digits)
     (λ n small. IsPlain-byte (48 + n) (λ same. omega arith))
     (λ n digits large plain. IsPlain-append digits ((48 + n % 10) ∷ []) plain
-        (IsPlain-byte (48 + n % 10) (λ same. omega arith)))
+    (IsPlain-byte (48 + n % 10) (λ same. omega arith)))
     n below
 
 pub IsPlain-signed : (n : ℤ) → FitsSigned w64 n → IsPlain (signed_decimal n)

@@ -12,12 +12,12 @@ IsBegun (Some file) bytes = (length bytes ≤ length file) × (bytes ≡ take (l
 pub begun_more : (o : Option (List ℕ)) (bytes piece : List ℕ) (n : ℕ)
     → IsBegun o bytes → n ≤ length piece → (o ≡ None → ⊥)
     → ((file : List ℕ) → o ≡ Some file
-        → (n ≤ length file - length bytes) × (take n piece ≡ take n (drop (length bytes) file)))
+    → (n ≤ length file - length bytes) × (take n piece ≡ take n (drop (length bytes) file)))
     → IsBegun o (bytes ++ take n piece)
 begun_more None bytes piece n begun within there read = absurd (there refl)
 begun_more (Some file) bytes piece n begun within there read =
     let long : length (bytes ++ take n piece) ≡ length bytes + n =
-        length-append bytes (take n piece) ∙ ap (λ k. length bytes + k) (length-take-le n piece within) in
+    length-append bytes (take n piece) ∙ ap (λ k. length bytes + k) (length-take-le n piece within) in
     let bound : n ≤ length file - length bytes = (read file refl).0 in
     let before : length bytes ≤ length file = begun.0 in (
       omega arith,

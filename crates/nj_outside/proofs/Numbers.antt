@@ -17,8 +17,12 @@ numerals = numerals_by_value _ (search rules)
 pub is_decimal-Decides : (text : List ℕ) → Decides (is_decimal text) (IsDecimal text)
 unfolding is_decimal
 is_decimal-Decides text = (
-  (λ passed. record { digits = grind (arith, nat_tests); some = grind (arith, nat_tests);
-      few = grind (arith, nat_tests); fits = grind (arith, nat_tests) }),
+  (λ passed. record {
+    digits = grind (arith, nat_tests);
+    some = grind (arith, nat_tests);
+    few = grind (arith, nat_tests);
+    fits = grind (arith, nat_tests);
+  }),
   (λ is. let digits = is.digits in let some = is.some in let few = is.few in let fits =
       is.fits in grind (arith, nat_tests)),
 )
@@ -44,9 +48,10 @@ decimal_exactly text o is = by_test (is_decimal text) (is_decimal-Decides text) 
   by_test : (b : Bool) → Decides b (IsDecimal text) → o ≡ (if b then Some (digits_value 10 text) else None)
       → IsSome o ↔ IsDecimal text
   by_test true d same = ((λ _. d.0 refl), (λ _. ap is_some same))
-  by_test false d same =
-      ((λ some. absurd (let none : is_some o ≡ false = ap is_some same in let there : is_some o ≡ true = some in cc)),
-          (λ one. absurd (let clash = d.1 one in cc)))
+  by_test false d same = (
+    (λ some. absurd (let none : is_some o ≡ false = ap is_some same in let there : is_some o ≡ true = some in cc)),
+    (λ one. absurd (let clash = d.1 one in cc)),
+  )
 
 -- what the parse of at most 20 digits gives is what the text is as a number
 pub parsed : {E : Type 0} (text : List ℕ) (r : Result ℕ E) → ParsesUnsigned 64 10 text r

@@ -67,13 +67,13 @@ put_at_first (pair ∷ rest) name zero absent new within same before kept =
     ap (λ n. if bytes_eq n other then Some new.1.items else files_of (named rest) other) (kept ∙ is)
     ∙ twice (bytes_eq name other) new.1.items pair.1.items (files_of (named rest) other)
     ∙ ap (λ n. if bytes_eq name other then Some new.1.items
-        else (if bytes_eq n other then Some pair.1.items else files_of (named rest) other)) (sym is))
+    else (if bytes_eq n other then Some pair.1.items else files_of (named rest) other)) (sym is))
 put_at_first (pair ∷ rest) name (suc k) absent new within same before kept =
     fun_ext (λ other.
     ap (λ f. if bytes_eq (string_bytes pair.0) other then Some pair.1.items else f other)
     (put_at_first rest name k absent new (omega arith) same (λ j d lt. before (suc j) d (omega arith)) kept)
     ∙ passed (bytes_eq (string_bytes pair.0) other) (bytes_eq name other) pair.1.items new.1.items
-        (files_of (named rest) other)
+    (files_of (named rest) other)
     (apart (string_bytes pair.0) name other (before 0 absent (omega arith))))
 
 -- new bytes in the first pair of the name put the file
@@ -94,7 +94,7 @@ last_put (pair ∷ rest) name new none is =
     ap (λ f. if bytes_eq (string_bytes pair.0) other then Some pair.1.items else f other)
     (last_put rest name new (λ k absent lt. none (suc k) absent (omega arith)) is)
     ∙ passed (bytes_eq (string_bytes pair.0) other) (bytes_eq name other) pair.1.items new.1.items
-        (files_of (named rest) other)
+    (files_of (named rest) other)
     (apart (string_bytes pair.0) name other (none 0 pair (omega arith))))
 
 -- the bytes of the file are those of the first pair of its name
@@ -108,11 +108,11 @@ pub piece_put : (pairs : List Pair) (name : List ℕ) (k at : ℕ) (piece : List
     → IsFirst pairs name k → old ≡ get_or pairs k old → string_bytes new.0 ≡ string_bytes old.0
     → new.1.items ≡ take at old.1.items ++ piece
     → files_of (named (set pairs k new)) ≡ with_file (files_of (named pairs)) name
-        (take at (bytes_at (files_of (named pairs)) name) ++ piece)
+    (take at (bytes_at (files_of (named pairs)) name) ++ piece)
 piece_put pairs name k at piece old new first is kept put =
     first_put pairs name k old new first (kept ∙ ap (λ (p : Pair). string_bytes p.0) is)
     ∙ ap (with_file (files_of (named pairs)) name)
-        (put ∙ ap (λ x. take at x ++ piece) (sym (bytes_found pairs name k old first is)))
+    (put ∙ ap (λ x. take at x ++ piece) (sym (bytes_found pairs name k old first is)))
 
 -- a first pair with the same name and bytes leaves the files
 pub piece_kept : (pairs : List Pair) (k : ℕ) (old new : Pair)
@@ -120,15 +120,15 @@ pub piece_kept : (pairs : List Pair) (k : ℕ) (old new : Pair)
     → named (set pairs k new) ≡ named pairs
 piece_kept pairs k old new is name bytes =
     map-set_same file_of pairs k new old (let same : file_of new ≡ file_of old =
-        cc (name, bytes) in same ∙ ap file_of is)
+    cc (name, bytes) in same ∙ ap file_of is)
 
 -- a new pair at the end has a new file's bytes
 pub new_put : (pairs : List Pair) (name : List ℕ) (at : ℕ) (piece : List ℕ) (new : Pair)
     → NoneBefore pairs name (length pairs) → string_bytes new.0 ≡ name → new.1.items ≡ piece
     → files_of (named (pairs ++ new ∷ [])) ≡ with_file (files_of (named pairs)) name
-        (take at (bytes_at (files_of (named pairs)) name) ++ piece)
+    (take at (bytes_at (files_of (named pairs)) name) ++ piece)
 new_put pairs name at piece new none is put =
     let absent : bytes_at (files_of (named pairs)) name ≡ [] = ap (λ o. unwrap_or o []) (none_found pairs name none) in
     last_put pairs name new none is
     ∙ ap (with_file (files_of (named pairs)) name)
-        (put ∙ ap (λ x. x ++ piece) (sym (take_all at [] (omega arith))) ∙ ap (λ x. take at x ++ piece) (sym absent))
+    (put ∙ ap (λ x. x ++ piece) (sym (take_all at [] (omega arith))) ∙ ap (λ x. take at x ++ piece) (sym absent))

@@ -24,9 +24,9 @@ pub put_file_from-put_file : (old : Option Files) (name bytes piece : List ℕ)
 put_file_from-put_file None name bytes piece = refl
 put_file_from-put_file (Some files) name bytes piece =
     ap (λ x. Some (with_file (with_file files name bytes) name (take (length bytes) x ++ piece)))
-        (length-put files name bytes)
+    (length-put files name bytes)
     ∙ ap (λ x. Some (with_file (with_file files name bytes) name (x ++ piece)))
-        (take_all (length bytes) bytes (omega arith))
+    (take_all (length bytes) bytes (omega arith))
     ∙ ap Some (with_file_twice files name bytes (bytes ++ piece))
 
 -- the next piece of the text is put after its first i bytes
@@ -36,7 +36,7 @@ pub put_more : (now old told : Option Files) (name text : List ℕ) (i n : ℕ)
 put_more now old told name text i n within before here =
     here ∙ ap (λ t. put_file_from t name i (take n (drop i text))) before
     ∙ ap (λ k. put_file_from (put_file old name (take i text)) name k (take n (drop i text)))
-        (sym (length-take-le i text within))
+    (sym (length-take-le i text within))
     ∙ put_file_from-put_file old name (take i text) (take n (drop i text))
     ∙ ap (put_file old name) (sym (take-add i n text))
 
@@ -47,7 +47,7 @@ put_place None told files name text i within before is =
     let clash : put_file None name (take i text) ≡ Some files = sym before ∙ is in cc
 put_place (Some was) told files name text i within before is =
     let same : with_file was name (take i text) ≡ files =
-        let both : Some (with_file was name (take i text)) ≡ Some files = sym before ∙ is in cc in
+    let both : Some (with_file was name (take i text)) ≡ Some files = sym before ∙ is in cc in
     sym (length-take-le i text within)
     ∙ ap length (sym (length-put was name (take i text)))
     ∙ ap (λ f. length (bytes_at f name)) same
@@ -74,4 +74,4 @@ module _ {S : Type 0} (wrote : S → List ℕ → Option ℕ → S → Type 0) (
       HandsOver wrote sink (drop taken text) false next
   none_handed sink next left is some here =
       fails sink next (drop taken text) (omega (arith, length-drop taken text))
-          (subst (λ piece. wrote sink piece None next) is here)
+      (subst (λ piece. wrote sink piece None next) is here)

@@ -15,7 +15,7 @@ pub record IsDecimal (text : List ℕ) : Type 0 where
 unfoldable pub is_decimal : List ℕ → Bool
 is_decimal text =
     list_all is_ascii_digit text && nat_lt 0 (length text) && nat_le (length text) 20
-        && nat_lt (digits_value 10 text) (2 ^ 64)
+    && nat_lt (digits_value 10 text) (2 ^ 64)
 
 -- the number that the text is, if it is one
 unfoldable pub decimal_of : List ℕ → Option ℕ

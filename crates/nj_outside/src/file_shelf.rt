@@ -27,8 +27,12 @@ impl<R: Files + Drop> Model for FileShelf<R> {
 
     ghost Value = { RealShelf };
 
-    ghost view = { λ s. record { read_faults = s.read_faults; failed_read = s.failed_read; put_faults = s.put_faults;
-        failed_put = s.failed_put } };
+    ghost view = { λ s. record {
+      read_faults = s.read_faults;
+      failed_read = s.failed_read;
+      put_faults = s.put_faults;
+      failed_put = s.failed_put;
+    } };
 }
 
 impl<R: Files + Drop> FileShelf<R> {

@@ -119,8 +119,10 @@ impl MemShelf {
     }
 
     fn fail_read(&mut self, name: &str) -> Failed
-        ensures { self.new ≡ record self.old { read_faults = one_more self.old.read_faults;
-            failed_read = fnv_of name.now } }
+        ensures { self.new ≡ record self.old {
+          read_faults = one_more self.old.read_faults;
+          failed_read = fnv_of name.now;
+        } }
     {
         self.read_faults = self.read_faults.saturating_add(1);
         self.failed_read = fnv(name.as_bytes());
@@ -128,8 +130,10 @@ impl MemShelf {
     }
 
     fn fail_put(&mut self, name: &str) -> Failed
-        ensures { self.new ≡ record self.old { put_faults = one_more self.old.put_faults;
-            failed_put = fnv_of name.now } }
+        ensures { self.new ≡ record self.old {
+          put_faults = one_more self.old.put_faults;
+          failed_put = fnv_of name.now;
+        } }
     {
         self.put_faults = self.put_faults.saturating_add(1);
         self.failed_put = fnv(name.as_bytes());
@@ -270,7 +274,7 @@ fn put_piece(
     requires { (at ≡ 0) ⊎ (at ≡ length (bytes_at (files_of (named files.old.items)) name.now)) }
     ensures put { OnOk result (files_of (named files.new.items)
         ≡ with_file (files_of (named files.old.items)) name.now
-            (take at (bytes_at (files_of (named files.old.items)) name.now) ++ piece.now)) }
+        (take at (bytes_at (files_of (named files.old.items)) name.now) ++ piece.now)) }
     ensures unchanged { OnErr result (named files.new.items ≡ named files.old.items) }
 {
     match place_of(files.as_slice(), name) {

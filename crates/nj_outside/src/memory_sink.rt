@@ -26,8 +26,14 @@ impl Model for MemSink {
 
     ghost Value = { MemorySink };
 
-    ghost view = { λ s. record { written = s.bytes.items; failing = s.failing.items; most = s.most; calls = s.calls;
-        faults = s.faults; dry = s.dry } };
+    ghost view = { λ s. record {
+      written = s.bytes.items;
+      failing = s.failing.items;
+      most = s.most;
+      calls = s.calls;
+      faults = s.faults;
+      dry = s.dry;
+    } };
 
     ghost invariant = { λ s. 1 ≤ s.most };
 }
@@ -37,8 +43,14 @@ impl MemSink {
     /// `most` bytes.
     pub fn new(alloc: Global, failing: Vec<u64>, most: usize) -> MemSink
         requires { 1 ≤ most }
-        ensures { result ≡ record { written = []; failing = failing.items; most = most; calls = 0; faults = 0;
-            dry = 0 } }
+        ensures { result ≡ record {
+          written = [];
+          failing = failing.items;
+          most = most;
+          calls = 0;
+          faults = 0;
+          dry = 0;
+        } }
     {
         MemSink {
             bytes: Vec::new(alloc),

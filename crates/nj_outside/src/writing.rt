@@ -39,7 +39,7 @@ pub fn put_all<S: Shelf>(shelf: &mut S, name: &str, bytes: &[u8]) -> Result<(), 
     ensures ok { OnOk result (S.content shelf.new ≡ put_file (S.content shelf.old) name.now bytes.now) }
     ensures prefix { OnErr result ((S.content shelf.new ≡ S.content shelf.old)
         ⊎ ((n : ℕ) × (n ≤ length bytes.now)
-            × (S.content shelf.new ≡ put_file (S.content shelf.old) name.now (take n bytes.now)))) }
+        × (S.content shelf.new ≡ put_file (S.content shelf.old) name.now (take n bytes.now)))) }
     ensures fault { OnErr result (Rose (S.put_faults shelf.old) (S.put_faults shelf.new)) }
     ensures fault_name { OnErr result (S.failed_put shelf.new ≡ fnv_of name.now) }
     ensures not_failed { OnOk result (S.failed_put shelf.new ≡ S.failed_put shelf.old) }

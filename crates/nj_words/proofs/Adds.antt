@@ -87,7 +87,7 @@ name_is_new labels rows id value label apart =
 same_either_way : (word other : Word) → bytes_eq word other ≡ bytes_eq other word
 same_either_way word other =
     same_from_decides _ _ (bytes_eq-Decides word other)
-        (Decides-like _ (λ e. sym e) (λ e. sym e) (bytes_eq-Decides other word))
+    (Decides-like _ (λ e. sym e) (λ e. sym e) (bytes_eq-Decides other word))
 
 pub same_tests : {X : Type 0} (p q : X → Bool) (xs : List X) → ((x : X) → p x ≡ q x) → list_all p xs ≡ list_all q xs
 same_tests p q [] e = refl
@@ -100,10 +100,10 @@ new_after : (labels : List Word) (rows : List Row) (label value : Word) (others 
 new_after labels rows label value [] = refl
 new_after labels rows label value (other ∷ others) =
     ap₂ (λ a b. a && b) (ap (λ b. is_among other labels && not b)
-        (row_more other rows (use_row label value) ∙ ap (λ b. has_row other rows || b) (same_either_way label other)))
+    (row_more other rows (use_row label value) ∙ ap (λ b. has_row other rows || b) (same_either_way label other)))
     (new_after labels rows label value others)
     ∙ go (is_among other labels) (has_row other rows) (bytes_eq other label) (list_all (is_new labels rows) others)
-        (is_among label others)
+    (is_among label others)
   where
     go : (known used same rest among : Bool)
         → (known && not (used || same) && (rest && not among)) ≡ (known && not used && rest && not (same || among))
@@ -143,7 +143,7 @@ Closes labels ids rows ps =
 
 option_closes : (labels ids : List Word) (rows : List Row) (label word : Word) (ps : List Piece)
     → (is_among label labels ≡ true → has_row label rows ≡ false
-        → Closes labels ids (rows ++ use_row label word ∷ []) ps) → Closes labels ids rows (option label word ∷ ps)
+    → Closes labels ids (rows ++ use_row label word ∷ []) ps) → Closes labels ids rows (option label word ∷ ps)
 option_closes labels ids rows label word ps later = go (is_among label labels) refl (has_row label rows) refl
   where
     go : (known : Bool) → is_among label labels ≡ known → (used : Bool) → has_row label rows ≡ used
@@ -153,9 +153,9 @@ option_closes labels ids rows label word ps later = go (is_among label labels) r
     go true k false u =
         rw (k, u) (later k u ∙ ap₂ (λ b rs. cond b (Some rs) None)
         (ap (λ b. is_enough ids (names_in ps) && (b && is_distinct (labels_in ps)))
-            (new_after labels rows label word (labels_in ps))
+        (new_after labels rows label word (labels_in ps))
         ∙ new_option true (is_enough ids (names_in ps)) true (list_all (is_new labels rows) (labels_in ps))
-            (is_among label (labels_in ps)) (is_distinct (labels_in ps)) refl refl)
+        (is_among label (labels_in ps)) (is_distinct (labels_in ps)) refl refl)
         (append_assoc rows (use_row label word ∷ []) (piece_rows ids ps)))
 
 name_closes : (labels : List Word) (id : Word) (ids : List Word) (rows : List Row) (word : Word) (ps : List Piece)
@@ -163,7 +163,7 @@ name_closes : (labels : List Word) (id : Word) (ids : List Word) (rows : List Ro
     → Closes labels ids (rows ++ use_row id word ∷ []) ps → Closes labels (id ∷ ids) rows (name word ∷ ps)
 name_closes labels id ids rows word ps unused apart later =
     rw unused (later ∙ ap₂ (λ b rs. cond (is_enough ids (names_in ps) && (b && is_distinct (labels_in ps)))
-        (Some rs) None)
+    (Some rs) None)
     (same_tests _ _ (labels_in ps) (λ label. name_is_new labels rows id word label apart))
     (append_assoc rows (use_row id word ∷ []) (piece_rows ids ps)))
 
@@ -177,9 +177,9 @@ closes labels (id ∷ ids) rows (name word ∷ ps) distinct apart unused =
     let here : is_among id (id ∷ ids) ≡ true = rw (equals_itself id) refl in
     name_closes labels id ids rows word ps (unused id here) (apart id here)
     (closes labels ids (rows ++ use_row id word ∷ []) ps parts.1
-        (λ other among. apart other (or_second (bytes_eq id other) (is_among other ids) among))
+    (λ other among. apart other (or_second (bytes_eq id other) (is_among other ids) among))
     (unused_next id ids rows word (not-true (is_among id ids) parts.0) unused))
 closes labels ids rows (option label word ∷ ps) distinct apart unused =
     option_closes labels ids rows label word ps
-        (λ known new. closes labels ids (rows ++ use_row label word ∷ []) ps distinct apart
-            (unused_option label labels ids rows word known apart unused))
+    (λ known new. closes labels ids (rows ++ use_row label word ∷ []) ps distinct apart
+    (unused_option label labels ids rows word known apart unused))

@@ -14,7 +14,7 @@ pub rule_more : (f : Word → Rule) (before : List Rule) (xs : List (Bor Word)) 
 rule_more f before xs i d lt =
     ap app_with (append_assoc before (map f (texts (take i xs))) (f (slice_index_or xs i d).now ∷ [])
     ∙ ap (λ rs. before ++ rs) (sym (ap (map f) (map-append (λ s. s.now) (take i xs) (slice_index_or xs i d ∷ []))
-        ∙ map-append f (texts (take i xs)) ((slice_index_or xs i d).now ∷ []))
+    ∙ map-append f (texts (take i xs)) ((slice_index_or xs i d).now ∷ []))
     ∙ ap (λ ys. map f (texts ys)) (sym (take_more xs i d lt))))
 
 pub name_step : (xs : List (Bor Word)) (i : ℕ) (d : Bor Word) (old new : App) → i < length xs
@@ -30,4 +30,4 @@ pub option_step : (before : List Rule) (xs : List (Bor Word)) (i : ℕ) (d : Bor
     → new ≡ app_with (before ++ map option_rule (texts (take (i + 1) xs)))
 option_step before xs i d old new lt so_far more =
     more ∙ ap (λ app. with_rule app (option_rule (slice_index_or xs i d).now)) so_far
-        ∙ rule_more option_rule before xs i d lt
+    ∙ rule_more option_rule before xs i d lt

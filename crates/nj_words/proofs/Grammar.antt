@@ -53,8 +53,8 @@ unfolding kind_of_word
 joined_kind label value none =
     longer label value
     ∙ ap (λ b. cond b (whole_option (before_first is_equals_sign (label ++ 61 ∷ value))
-        (after_first is_equals_sign (label ++ 61 ∷ value))) (open_option (label ++ 61 ∷ value)))
-        (equals_there label value)
+    (after_first is_equals_sign (label ++ 61 ∷ value))) (open_option (label ++ 61 ∷ value)))
+    (equals_there label value)
     ∙ (λ i. whole_option (before_equals label value none i) (after_equals label value none i))
   where
     longer : (l v : Word) → kind_of_word (45 ∷ 45 ∷ (l ++ 61 ∷ v)) ≡ option_kind (l ++ 61 ∷ v)
@@ -67,7 +67,7 @@ unfolding kind_of_word
 apart_kind [] none some = absurd (omega arith)
 apart_kind (byte ∷ label) none some =
     ap (λ b. cond b (whole_option (before_first is_equals_sign (byte ∷ label))
-        (after_first is_equals_sign (byte ∷ label))) (open_option (byte ∷ label))) none
+    (after_first is_equals_sign (byte ∷ label))) (open_option (byte ∷ label))) none
 
 name_kind : (word : Word) → IsName word → kind_of_word word ≡ plain
 unfolding kind_of_word
@@ -88,14 +88,14 @@ said _ _ nothing = refl
 said _ _ (mark words) = refl
 said _ _ (named word words rest is more) =
     ap (λ kind. read_kind kind word words (λ waiting. pieces waiting words)) (name_kind word is)
-        ∙ ap (before_others (name word)) (said words rest more)
+    ∙ ap (before_others (name word)) (said words rest more)
 said _ _ (joined label value words rest none more) =
     ap (λ kind. read_kind kind (codes "--" ++ (label ++ (codes "=" ++ value))) words (λ waiting. pieces waiting words))
-        (joined_kind label value none)
+    (joined_kind label value none)
     ∙ ap (before_others (option label value)) (said words rest more)
 said _ _ (apart label value words rest none some free more) =
     ap (λ kind. read_kind kind (codes "--" ++ label) (value ∷ words) (λ waiting. pieces waiting (value ∷ words)))
-        (apart_kind label none some)
+    (apart_kind label none some)
     ∙ ap (λ b. cond b None (before_others (option label value) (pieces None words))) free
     ∙ ap (before_others (option label value)) (said words rest more)
 
@@ -125,9 +125,9 @@ cut_at_equals (byte ∷ text) some = go (is_equals_sign byte) refl some (cut_at_
     go false other some later =
         let cut = later (rw other at some) in
         let before : before_first is_equals_sign (byte ∷ text) ≡ byte ∷ before_first is_equals_sign text =
-            rw (other, one_more) refl in
+        rw (other, one_more) refl in
         let after : after_first is_equals_sign (byte ∷ text) ≡ after_first is_equals_sign text =
-            after_more byte text other in (
+        after_more byte text other in (
           ap (λ bytes. byte ∷ bytes) cut.0 ∙ (λ i. sym before i ++ 61 ∷ sym after i),
           ap (list_any is_equals_sign) before ∙ rw other cut.1,
         )
@@ -188,12 +188,12 @@ idle_means word words later found e = go (kind_of_word word) (spells word) e
         → read_kind kind word words (λ waiting. pieces waiting words) ≡ Some found → Says (word ∷ words) found
     go names_follow is e =
         subst (λ w. Says (w ∷ words) found) (sym is)
-            (subst (Says (codes "--" ∷ words)) (same_Some (map name words) found e) (mark words))
+        (subst (Says (codes "--" ∷ words)) (same_Some (map name words) found e) (mark words))
     go (whole_option label value) is e =
         let rest = others (option label value) (pieces None words) found e in
         subst (λ w. Says (w ∷ words) found) (sym is.0)
-            (subst (Says ((codes "--" ++ (label ++ (codes "=" ++ value))) ∷ words)) (sym rest.2)
-                (joined label value words rest.0 is.1 (later None rest.0 rest.1)))
+        (subst (Says ((codes "--" ++ (label ++ (codes "=" ++ value))) ∷ words)) (sym rest.2)
+        (joined label value words rest.0 is.1 (later None rest.0 rest.1)))
     go (open_option label) is e = subst (λ w. Says (w ∷ words) found) (sym is.0) (later (Some label) found is.1 is.2 e)
     go plain is e =
         let rest = others (name word) (pieces None words) found e in
@@ -212,7 +212,7 @@ waiting_means label word words later found none some e = go (begins_with_hyphen 
     go false free e =
         let rest = others (option label word) (pieces None words) found e in
         subst (Says ((codes "--" ++ label) ∷ word ∷ words)) (sym rest.2)
-            (apart label word words rest.0 none some free (later None rest.0 rest.1))
+        (apart label word words rest.0 none some free (later None rest.0 rest.1))
 
 means : (words : List Word) (waiting : Option Word) → Means waiting words
 unfolding pieces

@@ -18,7 +18,7 @@ LexesAs word (open_option label) = (bytes_eq word (codes "--") ≡ false) × (lo
 LexesAs word plain = (bytes_eq word (codes "--") ≡ false) × (long_of word ≡ None) × (short_of word ≡ None)
 LexesAs word unreadable =
     (bytes_eq word (codes "--") ≡ false) × (long_of word ≡ None)
-        × ((first : ℕ) × (rest : Word) × (word ≡ 45 ∷ first ∷ rest) × (short_of word ≡ Some (first ∷ rest)))
+    × ((first : ℕ) × (rest : Word) × (word ≡ 45 ∷ first ∷ rest) × (short_of word ≡ Some (first ∷ rest)))
 
 one_more : (n : ℕ) → 1 + n ≡ suc n
 one_more n = omega arith
@@ -88,9 +88,9 @@ pub first_letter : (first : ℕ) (rest : Word) → IsUtf8 (45 ∷ first ∷ rest
 first_letter first rest utf8 =
     let spelled : 45 ∷ first ∷ rest ≡ encode 45 ++ (first ∷ rest) = rw hyphen_code refl in
     let parts : chars (45 ∷ first ∷ rest) ≡ 45 ∷ chars (first ∷ rest) =
-        chars_past_char (45 ∷ first ∷ rest) (first ∷ rest) 45 utf8 spelled in
+    chars_past_char (45 ∷ first ∷ rest) (first ∷ rest) 45 utf8 spelled in
     let whole : encodes (45 ∷ chars (first ∷ rest)) ≡ 45 ∷ first ∷ rest =
-        ap encodes (sym parts) ∙ encodes-chars (45 ∷ first ∷ rest) utf8 in
+    ap encodes (sym parts) ∙ encodes-chars (45 ∷ first ∷ rest) utf8 in
     let cut = cons_from_encodes (45 ∷ chars (first ∷ rest)) (first ∷ rest) 45 (whole ∙ spelled) in
     go (chars (first ∷ rest)) cut.0 cut.1 cut.2
   where

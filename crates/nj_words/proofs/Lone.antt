@@ -7,7 +7,7 @@ use Rattle.nj_words.specs.Parser.{has_lone_value, is_open_option, words_of}
 
 module _ {Z : Type 0} (words : List (String Z)) (i : ℕ) (item : String Z) (word : Word) (waits : Bool) (whole : Bool)
     (lt : i < length words) (at : item ≡ get_or words i item) (is : word ≡ string_bytes item)
-        (so_far : whole ≡ has_lone_value waits (words_of (drop i words))) where
+    (so_far : whole ≡ has_lone_value waits (words_of (drop i words))) where
   -- the search at this word
   here : whole ≡ cond (bytes_eq word (codes "--")) false
       ((waits && bytes_eq word (codes "-")) || has_lone_value (is_open_option word) (words_of (drop (i + 1) words)))
@@ -18,12 +18,12 @@ module _ {Z : Type 0} (words : List (String Z)) (i : ℕ) (item : String Z) (wor
   pub lone_mark : bytes_eq word (codes "--") ≡ true → false ≡ whole
   lone_mark mark =
       sym (here ∙ (λ j. cond (mark j) false ((waits && bytes_eq word (codes "-"))
-          || has_lone_value (is_open_option word) (words_of (drop (i + 1) words)))))
+      || has_lone_value (is_open_option word) (words_of (drop (i + 1) words)))))
 
   pub lone_found : bytes_eq word (codes "--") ≡ false → waits ≡ true → bytes_eq word (codes "-") ≡ true → true ≡ whole
   lone_found mark waiting hyphen =
       sym (here ∙ (λ j. cond (mark j) false ((waiting j && hyphen j)
-          || has_lone_value (is_open_option word) (words_of (drop (i + 1) words)))))
+      || has_lone_value (is_open_option word) (words_of (drop (i + 1) words)))))
 
   pub lone_next : (next : Bool) → bytes_eq word (codes "--") ≡ false → (waits && bytes_eq word (codes "-")) ≡ false
       → next ≡ is_open_option word → whole ≡ has_lone_value next (words_of (drop (i + 1) words))

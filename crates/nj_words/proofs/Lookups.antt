@@ -60,10 +60,10 @@ pub known_label : (id : Word) (place : ℕ) (ids labels : List Word) → is_amon
 known_label id place [] [] e = absurd (true≢false (sym e))
 known_label id place [] (label ∷ labels) e =
     known_more (Some label) None label id (uses place [] labels)
-        (λ other. known_label id place [] labels (rw other at e))
+    (λ other. known_label id place [] labels (rw other at e))
 known_label id place (name ∷ ids) labels e =
     known_more None (Some place) name id (uses (place + 1) ids labels)
-        (λ other. known_label id (place + 1) ids labels e)
+    (λ other. known_label id (place + 1) ids labels e)
 
 pub known_name : (id : Word) (place k : ℕ) (ids labels : List Word) → slice_get ids k ≡ Some id
     → IsKnown (uses place ids labels) id
@@ -71,7 +71,7 @@ known_name id place k [] labels e = cc
 known_name id place zero (name ∷ ids) labels e =
     known_more None (Some place) name id (uses (place + 1) ids labels)
     (λ other. let same : name ≡ id =
-        cc in absurd (true≢false (sym (equals_itself id) ∙ ap (λ w. bytes_eq w id) (sym same) ∙ other)))
+    cc in absurd (true≢false (sym (equals_itself id) ∙ ap (λ w. bytes_eq w id) (sym same) ∙ other)))
 known_name id place (suc k) (name ∷ ids) labels e =
     known_more None (Some place) name id (uses (place + 1) ids labels)
-        (λ other. known_name id (place + 1) k ids labels e)
+    (λ other. known_name id (place + 1) k ids labels e)

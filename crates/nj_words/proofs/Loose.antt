@@ -85,7 +85,7 @@ idle_word word words later = go (kind_of_word word) (looks word)
         let mark = seen.0 in
         let closed = seen.2 in
         rw (mark, closed) (before_unless (has_lone_value false words) (option label content) (loose None words)
-            ∙ ap (before_others (option label content)) (later None))
+        ∙ ap (before_others (option label content)) (later None))
     go (open_option label) seen =
         let mark = seen.0 in
         let opens = seen.2 in
@@ -94,7 +94,7 @@ idle_word word words later = go (kind_of_word word) (looks word)
         let mark = seen.0 in
         let closed = seen.2 in
         rw (mark, closed) (before_unless (has_lone_value false words) (name word) (loose None words)
-            ∙ ap (before_others (name word)) (later None))
+        ∙ ap (before_others (name word)) (later None))
     go unreadable seen = same_either (has_lone_value false (word ∷ words)) None
 
 -- a word where an option waits, by its kind

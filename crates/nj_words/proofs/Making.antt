@@ -98,5 +98,15 @@ other_read word words not_play not_search not_resume not_replay not_check not_wo
     let clean_differs = other_word word (codes "clean") not_clean in
     let trace_differs = other_word word (codes "trace") not_trace in
     let watch_differs = other_word word (codes "watch") not_watch in
-    rw (play_differs, search_differs, resume_differs, replay_differs, check_differs, workload_differs, asm_differs,
-        clean_differs, trace_differs, watch_differs) refl
+    rw (
+      play_differs,
+      search_differs,
+      resume_differs,
+      replay_differs,
+      check_differs,
+      workload_differs,
+      asm_differs,
+      clean_differs,
+      trace_differs,
+      watch_differs,
+    ) refl

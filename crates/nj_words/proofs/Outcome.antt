@@ -28,11 +28,11 @@ settled_outcome rules held = unless (settle_fault rules false held) (Some (settl
 abbrev pub outcome : Shape → Walk → List Text → Option (List Row)
 outcome shape place words =
     unless (walk_fault shape [] place words) (settled_outcome shape.rules
-        (fold (walked shape.rules []) place words).held)
+    (fold (walked shape.rules []) place words).held)
 
 pub outcome_step : (shape : Shape) (place : Walk) (word : Text) (words : List Text)
     → outcome shape place (word ∷ words) ≡ unless (turn_fault shape [] place word)
-        (outcome shape (walked shape.rules [] place word) words)
+    (outcome shape (walked shape.rules [] place word) words)
 unfolding walk_fault
 outcome_step shape place word words = unless-or (turn_fault shape [] place word) _ _
 
@@ -47,7 +47,7 @@ no_subcommand_fault top (Some stop) = refl
 
 level_outcome : (form : Form) (words : List Text)
     → unless (level_fault (built_shape form) [] nothing_held words false [])
-        (Some (rows_after (built_shape form).rules [] words))
+    (Some (rows_after (built_shape form).rules [] words))
     ≡ outcome (built_shape form) (walk_from nothing_held) words
 level_outcome form words =
     let end = (walk (built_shape form).rules [] nothing_held words).held in
@@ -55,7 +55,7 @@ level_outcome form words =
     let same : finished (built_shape form).rules end ≡ rows = kept_all rows 1 form.names form.options in
     let defaults : defaults_fault rows (built_shape form).rules ≡ [] = no_defaults rows 1 form.names form.options in
     let check : check_fault (built_shape form) (finished (built_shape form).rules end) false ≡ [] =
-        no_check form (finished (built_shape form).rules end) in
+    no_check form (finished (built_shape form).rules end) in
     unless-or (walk_fault (built_shape form) [] (walk_from nothing_held) words) _ _
     ∙ ap (unless (walk_fault (built_shape form) [] (walk_from nothing_held) words))
     (unless-or (settle_fault (built_shape form).rules false end) _ _
@@ -70,8 +70,8 @@ unfolding parser_fault parser_rows
 parse_outcome form words fits =
     let stop = (walk (built_shape form).rules [] nothing_held words).stopped in
     ap (λ (app : App). unless (built_fault app nothing_held words)
-        (Some (rows_after app.top.rules (names_of app) words))) (built_is form fits)
+    (Some (rows_after app.top.rules (names_of app) words))) (built_is form fits)
     ∙ ap₂ (λ (o : Option _) k. unless (level_fault (built_shape form) [] nothing_held words (is_some o) k)
-        (Some (rows_after (built_shape form).rules [] words)))
+    (Some (rows_after (built_shape form).rules [] words)))
     (no_subcommand (built_shape form) stop) (no_subcommand_fault (built_shape form) stop)
     ∙ level_outcome form words

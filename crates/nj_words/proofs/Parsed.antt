@@ -32,9 +32,10 @@ pub parsed_ok : (form : Form) (app : App) (words : List Word) (found : ArgMatche
 unfolding parser_fault parser_rows
 parsed_ok form app words found is few passes matches =
     let free = free_app form app is few in
-    let simple = (and_parts (is_simple app) _ free).0 in
-    (ap (λ a. fault_of a words) (sym is) ∙ passes free,
-        (matches simple).0 ∙ ap (λ a. Rattle.clap.specs.Simple.matches_of a words) is)
+    let simple = (and_parts (is_simple app) _ free).0 in (
+      ap (λ a. fault_of a words) (sym is) ∙ passes free,
+      (matches simple).0 ∙ ap (λ a. Rattle.clap.specs.Simple.matches_of a words) is,
+    )
 
 pub parsed_err : (form : Form) (app : App) (words : List Word) (error : Error) → app ≡ parser_app form
     → 1 + length form.names ≤ usize_max
@@ -72,10 +73,10 @@ pub given_step : (read : Word → Option Word) (names : List (Bor Word)) (i : �
     → whole ≡ given_after (texts after) (given (map read (texts (drop (i + 1) names))))
 given_step read names i d words after word whole lt pushed is full so_far =
     so_far ∙ ap (given_after (texts words)) (at_drop_more (λ ns. given (map read (texts ns))) names i d lt
-        ∙ given_word _ word.now _ is full)
+    ∙ given_word _ word.now _ is full)
     ∙ joins (given (map read (texts (drop (i + 1) names))))
     ∙ ap (λ ws. given_after ws (given (map read (texts (drop (i + 1) names)))))
-        (sym (ap texts pushed ∙ map-append (λ s. s.now) words (word ∷ [])))
+    (sym (ap texts pushed ∙ map-append (λ s. s.now) words (word ∷ [])))
   where
     joins : (found : Option (List Word))
         → given_after (texts words) (option_map (λ ws. word.now ∷ ws) found)
@@ -96,4 +97,4 @@ pub given_ends : (read : Word → Option Word) (names : List (Bor Word)) (i : �
 unfolding given
 given_ends read names i words whole past so_far =
     so_far ∙ ap (given_after (texts words)) (at_drop_all (λ ns. given (map read (texts ns))) names i past)
-        ∙ ap Some (append-nil (texts words))
+    ∙ ap Some (append-nil (texts words))

@@ -22,7 +22,7 @@ use Rattle.nj_words.proofs.Adds.{AreApart, closes, is_enough, is_new, piece_rows
 same_count : (m n : ℕ) → (suc m == suc n) ≡ (m == n)
 same_count m n =
     same_from_decides _ _ (Decides-eqb (suc m) (suc n))
-        (Decides-like _ (λ e. ap suc e) (λ e. omega arith) (Decides-eqb m n))
+    (Decides-like _ (λ e. ap suc e) (λ e. omega arith) (Decides-eqb m n))
 
 past_row : (id : Word) (row : Row) (rows : List Row) → bytes_eq row.id id ≡ false
     → first_of id (row ∷ rows) ≡ first_of id rows
@@ -50,8 +50,8 @@ values_read ids [] ps apart = refl
 values_read ids (label ∷ labels) ps apart =
     let here : is_among label (label ∷ labels) ≡ true = rw (equals_itself label) refl in
     ap₂ (λ v vs. v ∷ vs) (value_read ids label ps (apart label here))
-        (values_read ids labels ps (λ other among.
-            apart other (or_second (bytes_eq label other) (is_among other labels) among)))
+    (values_read ids labels ps (λ other among.
+    apart other (or_second (bytes_eq label other) (is_among other labels) among)))
 
 -- a row of another id is passed over
 past_rows : (row : Row) (rows : List Row) (ids : List Word)
@@ -61,7 +61,7 @@ past_rows row rows [] apart = refl
 past_rows row rows (id ∷ ids) apart =
     let here : is_among id (id ∷ ids) ≡ true = rw (equals_itself id) refl in
     ap₂ (λ v vs. v ∷ vs) (past_row id row rows (apart id here))
-        (past_rows row rows ids (λ other among. apart other (or_second (bytes_eq id other) (is_among other ids) among)))
+    (past_rows row rows ids (λ other among. apart other (or_second (bytes_eq id other) (is_among other ids) among)))
 
 -- each name is there and none is left over
 abbrev are_all : List Word → List Word → Bool
@@ -73,7 +73,7 @@ name_given : (ids : List Word) (word : Word) (words : List Word) (found : Option
     ≡ cond (are_all (id ∷ ids) (word ∷ words)) (Some (word ∷ words)) None
 name_given ids word words found is id =
     let counts : (suc (length words) == suc (length ids)) ≡ (length words == length ids) =
-        same_count (length words) (length ids) in
+    same_count (length words) (length ids) in
     rw (is, counts) (go (is_nonempty word) (length words == length ids) (list_all is_nonempty words))
   where
     go : (full same rest : Bool)
@@ -102,16 +102,16 @@ names_read (id ∷ ids) (name word ∷ ps) distinct apart enough =
     let here = equals_itself id in
     let fresh = not-true (is_among id ids) parts.0 in
     let past = past_rows (use_row id word) (piece_rows ids ps) ids
-        (λ other among. false_from_ne_true _ (λ same.
-            true≢false (sym among ∙ ap (λ w. is_among w ids) (sym (same_word id other same)) ∙ fresh))) in
+    (λ other among. false_from_ne_true _ (λ same.
+    true≢false (sym among ∙ ap (λ w. is_among w ids) (sym (same_word id other same)) ∙ fresh))) in
     rw (here, past) (name_given ids word (names_in ps) _
-        (names_read ids ps parts.1 (λ other among.
-            apart other (or_second (bytes_eq id other) (is_among other ids) among)) enough) id)
+    (names_read ids ps parts.1 (λ other among.
+    apart other (or_second (bytes_eq id other) (is_among other ids) among)) enough) id)
 names_read ids (option label word ∷ ps) distinct apart enough =
     ap given (past_rows (use_row label word) (piece_rows ids ps) ids
-        (λ other among. (or_parts (bytes_eq label other) (is_among other (labels_in ps)) (apart other among)).0))
+    (λ other among. (or_parts (bytes_eq label other) (is_among other (labels_in ps)) (apart other among)).0))
     ∙ names_read ids ps distinct (λ other among.
-        (or_parts (bytes_eq label other) (is_among other (labels_in ps)) (apart other among)).1) enough
+    (or_parts (bytes_eq label other) (is_among other (labels_in ps)) (apart other among)).1) enough
 
 -- too few ids for the words: their counts differ
 not_enough : (ids words : List Word) → is_enough ids words ≡ false → (length words == length ids) ≡ false
@@ -128,7 +128,7 @@ options_apart ids labels (other ∷ others) apart known word among =
     let parts = and_parts _ _ known in
     or_from (bytes_eq other word) (is_among word others)
     (false_from_ne_true _ (λ same. true≢false (sym parts.0 ∙ ap (λ w. is_among w labels) (same_word other word same)
-        ∙ apart word among)))
+    ∙ apart word among)))
     (options_apart ids labels others apart parts.1 word among)
 
 among_append : (word : Word) (xs ys : List Word) → is_among word (xs ++ ys) ≡ (is_among word xs || is_among word ys)
@@ -174,12 +174,12 @@ pieces_read form ps distinct =
     let names_distinct = distinct_left ids labels distinct in
     let apart = distinct_apart ids labels distinct in
     let known : list_all (is_new labels []) (labels_in ps) ≡ list_all (λ label. is_among label labels) (labels_in ps) =
-        same_tests _ _ (labels_in ps) (λ label. and_true (is_among label labels)) in
+    same_tests _ _ (labels_in ps) (λ label. and_true (is_among label labels)) in
     ap (option_and_then (taken_rows form)) (closes labels ids [] ps names_distinct apart (λ word among. refl))
     ∙ ap (λ b. option_and_then (taken_rows form)
-        (cond (is_enough ids (names_in ps) && (b && is_distinct (labels_in ps))) (Some (piece_rows ids ps)) None)) known
+    (cond (is_enough ids (names_in ps) && (b && is_distinct (labels_in ps))) (Some (piece_rows ids ps)) None)) known
     ∙ go (is_enough ids (names_in ps)) refl (list_all (λ label. is_among label labels) (labels_in ps)) refl
-        (is_distinct (labels_in ps)) names_distinct apart
+    (is_distinct (labels_in ps)) names_distinct apart
   where
     and_true : (b : Bool) → (b && true) ≡ b
     and_true true = refl
@@ -204,10 +204,10 @@ pieces_read form ps distinct =
         → list_all (λ label. is_among label form.options) (labels_in ps) ≡ known → (distinct : Bool)
         → is_distinct form.names ≡ true → AreApart form.names form.options
         → option_and_then (taken_rows form) (cond (enough && (known && distinct))
-            (Some (piece_rows form.names ps)) None)
+        (Some (piece_rows form.names ps)) None)
         ≡ cond (length (names_in ps) == length form.names
-            && (list_all is_nonempty (names_in ps) && (known && distinct)))
-            (Some (made (map (value_in ps) form.options) (names_in ps))) None
+        && (list_all is_nonempty (names_in ps) && (known && distinct)))
+        (Some (made (map (value_in ps) form.options) (names_in ps))) None
     go enough e false k distinct nd apart =
         rw (and_false enough) (sym (none_left _ _ false distinct refl))
     go enough e true k false nd apart = rw (and_false enough) (sym (none_left _ _ true false refl))
@@ -215,20 +215,20 @@ pieces_read form ps distinct =
     go true e true k true nd apart =
         rw (names_read form.names ps nd (options_apart form.names form.options (labels_in ps) apart k) e)
         (ends (length (names_in ps) == length form.names) (list_all is_nonempty (names_in ps)) _
-            (values_read form.names form.options ps
-                (λ label among. false_from_ne_true _ (λ there. true≢false (sym among ∙ apart label there)))))
+        (values_read form.names form.options ps
+        (λ label among. false_from_ne_true _ (λ there. true≢false (sym among ∙ apart label there)))))
 
 -- what the code does is what the form takes: the scan for a lone hyphen, the parser, and what the getters read
 pub reads_taken : (form : Form) (words : List Word) → 1 + length form.names ≤ usize_max
     → is_distinct (form.names ++ form.options) ≡ true → AreUtf8 words
     → cond (has_lone_value false words) None (option_and_then (taken_rows form)
-        (unless (parser_fault form words) (Some (parser_rows form words)))) ≡ taken form words
+    (unless (parser_fault form words) (Some (parser_rows form words)))) ≡ taken form words
 unfolding taken
 reads_taken form words few distinct utf8 =
     ap (λ o. cond (has_lone_value false words) None (option_and_then (taken_rows form) o))
-        (parse_is form words few utf8)
+    (parse_is form words few utf8)
     ∙ ap (cond (has_lone_value false words) None)
-        (then_then (loose None words) (added form.options form.names []) (taken_rows form)
+    (then_then (loose None words) (added form.options form.names []) (taken_rows form)
     ∙ (λ i. option_and_then (λ ps. pieces_read form ps distinct i) (loose None words)))
     ∙ unless_then (has_lone_value false words) (loose None words)
     ∙ ap (option_and_then (taken_from form)) (splits words None)

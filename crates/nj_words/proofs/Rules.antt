@@ -40,7 +40,7 @@ filled_uses place (id ∷ ids) labels fits =
     let next : min (place + 1) usize_max ≡ place + 1 = omega arith in
     ap (λ rules. use_rule None (Some place) id ∷ rules)
     (ap (λ n. filled_from n (map new_rule ids ++ map option_rule labels)) next
-        ∙ filled_uses (place + 1) ids labels (omega arith))
+    ∙ filled_uses (place + 1) ids labels (omega arith))
 
 -- the form's command, built
 abbrev pub built_shape : Form → Shape
@@ -50,8 +50,10 @@ built_shape form =
 pub built_is : (form : Form) → 1 + length form.names ≤ usize_max
     → ◌≡◌ {A = App} (built (parser_app form)) (record { top = built_shape form; subs = [] })
 built_is form fits =
-    ap (λ rules. record { top = record (parser_shape rules) { is_built = true; disable_help_subcommand = true };
-        subs = [] }) (filled_uses 1 form.names form.options fits)
+    ap (λ rules. record {
+      top = record (parser_shape rules) { is_built = true; disable_help_subcommand = true };
+      subs = [];
+    }) (filled_uses 1 form.names form.options fits)
 
 all_uses : (p : Rule → Bool) → ((long : Option Word) (index : Option ℕ) (id : Word) → p (use_rule long index id) ≡ true)
     → (place : ℕ) (ids labels : List Word) → list_all p (uses place ids labels) ≡ true
@@ -83,16 +85,16 @@ early_false false c = refl
 pub simple_and_free : (form : Form) → 1 + length form.names ≤ usize_max → is_simple_and_free (parser_app form) ≡ true
 simple_and_free form fits =
     let raw : list_all (λ r. r.is_simple) (parser_rules form) ≡ true =
-        all_raw (λ r. r.is_simple) (λ _. refl) (λ _. refl) form.names form.options in
+    all_raw (λ r. r.is_simple) (λ _. refl) (λ _. refl) form.names form.options in
     let is = built_is form fits in
     let simple : list_all (λ r. r.is_simple) (uses 1 form.names form.options) ≡ true =
-        all_uses (λ r. r.is_simple) (λ _ _ _. refl) 1 form.names form.options in
+    all_uses (λ r. r.is_simple) (λ _ _ _. refl) 1 form.names form.options in
     let free : list_all (λ r. r.is_free) (uses 1 form.names form.options) ≡ true =
-        all_uses (λ r. r.is_free) (λ _ _ _. refl) 1 form.names form.options in
+    all_uses (λ r. r.is_free) (λ _ _ _. refl) 1 form.names form.options in
     let early : (n : ℕ) → list_any (is_early_multiple n) (uses 1 form.names form.options) ≡ false =
-        λ n. no_uses (is_early_multiple n) (λ long index id. early_false (is_some index) _) 1 form.names form.options in
+    λ n. no_uses (is_early_multiple n) (λ long index id. early_false (is_some index) _) 1 form.names form.options in
     ap (λ (b : App). is_buildable (parser_app form) && (is_ready b.top && list_all is_ready_leaf b.subs)
-        && is_free_app b) is ∙ rw (raw, simple, early, free) refl
+    && is_free_app b) is ∙ rw (raw, simple, early, free) refl
 
 pub same_either : {X : Type 0} (b : Bool) (x : X) → cond b x x ≡ x
 same_either true x = refl
@@ -123,13 +125,13 @@ pub kept_all : (rows : List Row) (place : ℕ) (ids labels : List Word)
 kept_all rows place [] [] = refl
 kept_all rows place [] (label ∷ labels) =
     ap (λ r. fold with_default r (map option_use labels)) (kept rows (Some label) None label)
-        ∙ kept_all rows place [] labels
+    ∙ kept_all rows place [] labels
 kept_all rows place (id ∷ ids) labels =
     ap (λ r. fold with_default r (uses (place + 1) ids labels)) (kept rows None (Some place) id)
-        ∙ kept_all rows (place + 1) ids labels
+    ∙ kept_all rows (place + 1) ids labels
 
 pub no_check : (form : Form) (rows : List Row) → check_fault (built_shape form) rows false ≡ []
 no_check form rows =
     let none : list_any (λ a. a.required && not (is_given a.id rows)) (uses 1 form.names form.options) ≡ false =
-        no_uses (λ a. a.required && not (is_given a.id rows)) (λ _ _ _. refl) 1 form.names form.options in
+    no_uses (λ a. a.required && not (is_given a.id rows)) (λ _ _ _. refl) 1 form.names form.options in
     rw none refl

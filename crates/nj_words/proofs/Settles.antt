@@ -38,12 +38,12 @@ at_missing id change missing (row ∷ rows) e = go (bytes_eq row.id id) refl e (
 
 pub use_adds : (long : Option Word) (index : Option ℕ) (id value : Word) (rows : List Row)
     → unless (use_fault false (use_rule long index id) (value ∷ []) rows)
-        (Some (used (use_rule long index id) (value ∷ []) rows)) ≡ adds id value rows
+    (Some (used (use_rule long index id) (value ∷ []) rows)) ≡ adds id value rows
 use_adds long index id value rows = go (has_row id rows) refl
   where
     go : (b : Bool) → has_row id rows ≡ b
         → unless (use_fault false (use_rule long index id) (value ∷ []) rows)
-            (Some (used (use_rule long index id) (value ∷ []) rows)) ≡ adds id value rows
+        (Some (used (use_rule long index id) (value ∷ []) rows)) ≡ adds id value rows
     go true e = rw e refl
     go false e =
         let gone : without id rows ≡ rows = at_missing id (λ _. []) [] rows e ∙ append-nil rows in
@@ -56,11 +56,11 @@ pub settles_one : (rules : List Rule) (rows : List Row) (id value : Word) → Is
     → settled_outcome rules (holding rows (Some (id, value ∷ []))) ≡ adds id value rows
 settles_one rules rows id value known =
     ap (λ (found : Option Rule). unless (option_map_or (λ a. use_fault false a (value ∷ []) rows) found [])
-        (Some (used_by_id found (value ∷ []) rows))) known.2
+    (Some (used_by_id found (value ∷ []) rows))) known.2
     ∙ use_adds known.0 known.1 id value rows
 
 pub settles_none : (rules : List Rule) (rows : List Row) (id : Word) → IsKnown rules id
     → settled_outcome rules (holding rows (Some (id, []))) ≡ None
 settles_none rules rows id known =
     ap (λ (found : Option Rule). unless (option_map_or (λ a. use_fault false a [] rows) found [])
-        (Some (used_by_id found [] rows))) known.2
+    (Some (used_by_id found [] rows))) known.2

@@ -23,8 +23,8 @@ module _ {Z : Type 0} (names options : List (Bor Word)) (words : List (String Z)
     (distinct : is_distinct (texts names ++ texts options) ≡ true) where
   whole : cond (has_lone_value false (words_of words)) None
       (option_and_then (taken_rows (form_of names options))
-          (unless (parser_fault (form_of names options) (words_of words))
-              (Some (parser_rows (form_of names options) (words_of words)))))
+      (unless (parser_fault (form_of names options) (words_of words))
+      (Some (parser_rows (form_of names options) (words_of words)))))
       ≡ taken (form_of names options) (words_of words)
   whole = reads_taken (form_of names options) (words_of words) (is_few names few) distinct (are_utf8 words)
 
@@ -32,8 +32,8 @@ module _ {Z : Type 0} (names options : List (Bor Word)) (words : List (String Z)
   pub take_lone : has_lone_value false (words_of words) ≡ true → taken (form_of names options) (words_of words) ≡ None
   take_lone lone =
       sym whole ∙ ap (λ b. cond b None (option_and_then (taken_rows (form_of names options))
-          (unless (parser_fault (form_of names options) (words_of words))
-              (Some (parser_rows (form_of names options) (words_of words)))))) lone
+      (unless (parser_fault (form_of names options) (words_of words))
+      (Some (parser_rows (form_of names options) (words_of words)))))) lone
 
   -- the parser refuses the words
   pub take_refused : has_lone_value false (words_of words) ≡ false
@@ -41,13 +41,13 @@ module _ {Z : Type 0} (names options : List (Bor Word)) (words : List (String Z)
       → taken (form_of names options) (words_of words) ≡ None
   take_refused lone fault =
       sym whole ∙ (λ i. cond (lone i) None (option_and_then (taken_rows (form_of names options))
-          (unless (parser_fault (form_of names options) (words_of words))
-              (Some (parser_rows (form_of names options) (words_of words))))))
+      (unless (parser_fault (form_of names options) (words_of words))
+      (Some (parser_rows (form_of names options) (words_of words))))))
       ∙ go (parser_fault (form_of names options) (words_of words)) fault
     where
       go : (kinds : Kinds) → (kinds ≡ [] → ⊥)
           → option_and_then (taken_rows (form_of names options))
-              (unless kinds (Some (parser_rows (form_of names options) (words_of words)))) ≡ None
+          (unless kinds (Some (parser_rows (form_of names options) (words_of words)))) ≡ None
       go [] none = absurd (none refl)
       go (kind ∷ kinds) some = refl
 
@@ -57,7 +57,7 @@ module _ {Z : Type 0} (names options : List (Bor Word)) (words : List (String Z)
   found_rows found lone parses =
       sym whole
       ∙ (λ i. cond (lone i) None (option_and_then (taken_rows (form_of names options))
-          (unless (parses.0 i) (Some (sym parses.1 i)))))
+      (unless (parses.0 i) (Some (sym parses.1 i)))))
 
   -- a name is missing or empty
   pub take_missing : (found : ArgMatches) → has_lone_value false (words_of words) ≡ false
@@ -67,7 +67,7 @@ module _ {Z : Type 0} (names options : List (Bor Word)) (words : List (String Z)
   take_missing found lone parses missing =
       found_rows found lone parses
       ∙ ap (option_map (λ (ns : List Word). record
-          { names = ns; values = map (λ label. first_of label (rows_of (found_of found))) (texts options) })) missing
+      { names = ns; values = map (λ label. first_of label (rows_of (found_of found))) (texts options) })) missing
 
   pub take_all : (found : ArgMatches) (given_names : List Word) (values : List (Option Word))
       → has_lone_value false (words_of words) ≡ false

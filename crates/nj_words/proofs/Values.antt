@@ -11,11 +11,11 @@ use Rattle.nj_words.specs.Options.{in_range, name_or_none, number_in, number_or}
 pub value_here : (values : List (Option (Bor Word))) (place : ℕ) (value : Option (Bor Word)) → place < length values
     → value ≡ get_or values place value
     → option_map (λ v. v.now) value ≡ unwrap_or
-        (slice_get (map (option_map (λ (v : Bor Word). v.now)) values) place) None
+    (slice_get (map (option_map (λ (v : Bor Word). v.now)) values) place) None
 value_here values place value lt at =
     sym (ap (λ o. unwrap_or o None) (slice_get-map (option_map (λ (v : Bor Word). v.now)) values place
-        ∙ ap (option_map (option_map (λ (v : Bor Word). v.now)))
-            (slice_get-get_or values place value lt ∙ ap Some (sym at))))
+    ∙ ap (option_map (option_map (λ (v : Bor Word). v.now)))
+    (slice_get-get_or values place value lt ∙ ap Some (sym at))))
 
 pub number_found : (low high number : ℕ) (word : Word) (found : Option ℕ) (result : Option ℕ) → found ≡ decimal_of word
     → found ≡ Some number → result ≡ in_range low high number → result ≡ number_in low high word
@@ -59,4 +59,4 @@ pub full_name : (word : Bor Word) (value : Option (Bor Word)) (read : Option Wor
 unfolding name_or_none
 full_name word value read text is some full same =
     ap name_or_none (sym is ∙ ap (option_map (λ (v : Bor Word). v.now)) some)
-        ∙ ap (λ b. cond b (Some (Some word.now)) None) full ∙ ap (λ t. Some (Some t)) (sym same)
+    ∙ ap (λ b. cond b (Some (Some word.now)) None) full ∙ ap (λ t. Some (Some t)) (sym same)

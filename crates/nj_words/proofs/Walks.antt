@@ -61,14 +61,14 @@ step_is : (form : Form) (rows : List Row) (pending : Option (Text × List Text))
     → word_fault (built_shape form) [] trailing waiting word (holding rows pending) ≡ fault
     → outcome (built_shape form) (standing rows pending waiting place trailing) (word ∷ words)
     ≡ unless (or_else fault (step_fault (built_shape form) place held step))
-        (outcome (built_shape form) (after_step (rules_of form) word
-            (standing rows pending waiting place trailing) held step) words)
+    (outcome (built_shape form) (after_step (rules_of form) word
+    (standing rows pending waiting place trailing) held step) words)
 unfolding walked
 step_is form rows pending waiting place trailing word words held step fault met failed =
     outcome_step (built_shape form) (standing rows pending waiting place trailing) word words
     ∙ ap₂ (λ (m : Held × Step) k. unless (or_else k (step_fault (built_shape form) place m.0 m.1))
-        (outcome (built_shape form) (after_step (rules_of form) word
-            (standing rows pending waiting place trailing) m.0 m.1) words))
+    (outcome (built_shape form) (after_step (rules_of form) word
+    (standing rows pending waiting place trailing) m.0 m.1) words))
     met failed
 
 or_false : (b : Bool) → (b || false) ≡ b
@@ -80,20 +80,20 @@ to_name : (form : Form) (rows : List Row) (pending : Option (Text × List Text))
     (trailing : Bool) (id word : Word) (words : List Word)
     → place < usize_max → arg_by_index (rules_of form) place ≡ Some (use_rule None (Some place) id)
     → unless (or_else [] (step_fault (built_shape form) place (holding rows pending) value))
-        (outcome (built_shape form) (after_step (rules_of form) word (standing rows pending waiting place trailing)
-            (holding rows pending) value) words)
+    (outcome (built_shape form) (after_step (rules_of form) word (standing rows pending waiting place trailing)
+    (holding rows pending) value) words)
     ≡ option_and_then (λ more. outcome (built_shape form)
-        (standing more (Some (id, word ∷ [])) idle (place + 1) trailing) words)
-        (settled_outcome (rules_of form) (holding rows pending))
+    (standing more (Some (id, word ∷ [])) idle (place + 1) trailing) words)
+    (settled_outcome (rules_of form) (holding rows pending))
 to_name form rows pending waiting place trailing id word words lt found =
     let here = holding rows pending in
     let alone : (walking.is_pending (use_rule None (Some place) id) pending && false) ≡ false = and_false _ in
     let next : min (place + 1) usize_max ≡ place + 1 = omega arith in
     let same : (trailing || false) ≡ trailing = or_false trailing in
     ap (λ o. unless (option_map_or (λ a. positional_fault (rules_of form) false a here) o
-        (stray_fault (built_shape form)))
+    (stray_fault (built_shape form)))
     (outcome (built_shape form) (to_positional (rules_of form) o word
-        (standing rows pending waiting place trailing) here) words)) found
+    (standing rows pending waiting place trailing) here) words)) found
     ∙ (λ i. unless (cond (alone i) [] (settle_fault (rules_of form) false here))
     (outcome (built_shape form) (record {
       held = pushed id word (cond (alone i) here (settled (rules_of form) here));
@@ -110,14 +110,14 @@ to_none : (form : Form) (rows : List Row) (pending : Option (Text × List Text))
     (trailing : Bool) (word : Word) (words : List Word)
     → arg_by_index (rules_of form) place ≡ None
     → unless (or_else [] (step_fault (built_shape form) place (holding rows pending) value))
-        (outcome (built_shape form) (after_step (rules_of form) word (standing rows pending waiting place trailing)
-            (holding rows pending) value) words)
+    (outcome (built_shape form) (after_step (rules_of form) word (standing rows pending waiting place trailing)
+    (holding rows pending) value) words)
     ≡ None
 to_none form rows pending waiting place trailing word words found =
     ap (λ o. unless (option_map_or (λ a. positional_fault (rules_of form) false a (holding rows pending)) o
-        (stray_fault (built_shape form)))
+    (stray_fault (built_shape form)))
     (outcome (built_shape form) (to_positional (rules_of form) o word (standing rows pending waiting place trailing)
-        (holding rows pending)) words)) found
+    (holding rows pending)) words)) found
 
 -- what is left of the names from a place on
 abbrev pub AtPlace : List Word → ℕ → Type 0
@@ -137,30 +137,30 @@ at_place (id ∷ ids) (suc k) = elim (at_place ids k) [
 abbrev named : Form → ℕ → Word → List Word → Bool → List Row → Option (List Row)
 named form k word words trailing rows =
     option_and_then (λ id. outcome (built_shape form)
-        (standing rows (Some (id, word ∷ [])) idle (suc k + 1) trailing) words) (slice_get form.names k)
+    (standing rows (Some (id, word ∷ [])) idle (suc k + 1) trailing) words) (slice_get form.names k)
 
 to_next : (form : Form) (rows : List Row) (pending : Option (Text × List Text)) (waiting : Waiting) (k : ℕ)
     (trailing : Bool) (word : Word) (words : List Word)
     → 1 + length form.names ≤ usize_max
     → unless (or_else [] (step_fault (built_shape form) (suc k) (holding rows pending) value))
-        (outcome (built_shape form) (after_step (rules_of form) word (standing rows pending waiting (suc k) trailing)
-            (holding rows pending) value) words)
+    (outcome (built_shape form) (after_step (rules_of form) word (standing rows pending waiting (suc k) trailing)
+    (holding rows pending) value) words)
     ≡ option_and_then (named form k word words trailing) (settled_outcome (rules_of form) (holding rows pending))
 to_next form rows pending waiting k trailing word words fits =
     let found = by_place 1 (suc k) k form.names form.options (omega arith) in
     elim (at_place form.names k) [
       | inl none ↦
           to_none form rows pending waiting (suc k) trailing word words
-              (found ∙ ap (option_map (use_rule None (Some (suc k)))) none.0)
+          (found ∙ ap (option_map (use_rule None (Some (suc k)))) none.0)
           ∙ sym (none_then _ _ (λ more. ap (option_and_then
-              (λ id. outcome (built_shape form) (standing more (Some (id, word ∷ [])) idle (suc k + 1) trailing) words))
-              none.0))
+          (λ id. outcome (built_shape form) (standing more (Some (id, word ∷ [])) idle (suc k + 1) trailing) words))
+          none.0))
       | inr some ↦
           to_name form rows pending waiting (suc k) trailing some.0 word words (omega (arith, some.3))
-              (found ∙ ap (option_map (use_rule None (Some (suc k)))) some.1)
+          (found ∙ ap (option_map (use_rule None (Some (suc k)))) some.1)
           ∙ (λ i. option_and_then (λ more. option_and_then
-              (λ id. outcome (built_shape form) (standing more (Some (id, word ∷ [])) idle (suc k + 1) trailing) words)
-              (sym some.1 i)) (settled_outcome (rules_of form) (holding rows pending)))
+          (λ id. outcome (built_shape form) (standing more (Some (id, word ∷ [])) idle (suc k + 1) trailing) words)
+          (sym some.1 i)) (settled_outcome (rules_of form) (holding rows pending)))
     ]
 
 -- the rows of the pieces that are still to come
@@ -170,24 +170,24 @@ completed form k found rows = option_and_then (added form.options (drop k form.n
 named_is : (form : Form) (k : ℕ) (word : Word) (words : List Word) (trailing : Bool) (more : List Row)
     (found : Option (List Piece))
     → ((id : Word) (rows : List Row)
-        → outcome (built_shape form) (standing rows (Some (id, word ∷ [])) idle (suc (suc k)) trailing) words
+    → outcome (built_shape form) (standing rows (Some (id, word ∷ [])) idle (suc (suc k)) trailing) words
     ≡ option_and_then (completed form (suc k) found)
-        (settled_outcome (rules_of form) (holding rows (Some (id, word ∷ [])))))
+    (settled_outcome (rules_of form) (holding rows (Some (id, word ∷ [])))))
     → named form k word words trailing more ≡ completed form k (before_others (name word) found) more
 named_is form k word words trailing more found later = elim (at_place form.names k) [
   | inl none ↦
       ap (option_and_then (λ id. outcome (built_shape form)
-          (standing more (Some (id, word ∷ [])) idle (suc k + 1) trailing) words)) none.0
+      (standing more (Some (id, word ∷ [])) idle (suc k + 1) trailing) words)) none.0
       ∙ sym (then_mapped found (λ ps. name word ∷ ps) (added form.options (drop k form.names) more)
       ∙ none_then found _ (λ ps. ap (λ ids. added form.options ids more (name word ∷ ps)) none.1))
   | inr some ↦
       let place : suc k + 1 ≡ suc (suc k) = omega arith in
       ap (option_and_then (λ id. outcome (built_shape form)
-          (standing more (Some (id, word ∷ [])) idle (suc k + 1) trailing) words)) some.1
+      (standing more (Some (id, word ∷ [])) idle (suc k + 1) trailing) words)) some.1
       ∙ ap (λ n. outcome (built_shape form) (standing more (Some (some.0, word ∷ [])) idle n trailing) words) place
       ∙ later some.0 more
       ∙ ap (option_and_then (completed form (suc k) found))
-          (settles_one (rules_of form) more some.0 word (known_name some.0 1 k form.names form.options some.1))
+      (settles_one (rules_of form) more some.0 word (known_name some.0 1 k form.names form.options some.1))
       ∙ swapped (adds some.0 word more) found (λ rows ps. added form.options (drop (suc k) form.names) rows ps)
       ∙ sym (then_mapped found (λ ps. name word ∷ ps) (added form.options (drop k form.names) more)
       ∙ ap (λ ids. option_and_then (λ ps. added form.options ids more (name word ∷ ps)) found) some.2)
@@ -198,15 +198,15 @@ trailed : (form : Form) → 1 + length form.names ≤ usize_max
     → (words : List Word) (k : ℕ) (rows : List Row) (pending : Option (Text × List Text)) (waiting : Waiting)
     → outcome (built_shape form) (standing rows pending waiting (suc k) true) words
     ≡ option_and_then (completed form k (Some (map name words)))
-        (settled_outcome (rules_of form) (holding rows pending))
+    (settled_outcome (rules_of form) (holding rows pending))
 unfolding walk_fault
 trailed form fits [] k rows pending waiting = sym (then_Some _)
 trailed form fits (word ∷ words) k rows pending waiting =
     step_is form rows pending waiting (suc k) true word words (holding rows pending) value [] refl refl
     ∙ to_next form rows pending waiting k true word words fits
     ∙ (λ i. option_and_then (λ more. named_is form k word words true more (Some (map name words))
-        (λ id rows. trailed form fits words (suc k) rows (Some (id, word ∷ [])) idle) i)
-        (settled_outcome (rules_of form) (holding rows pending)))
+    (λ id rows. trailed form fits words (suc k) rows (Some (id, word ∷ [])) idle) i)
+    (settled_outcome (rules_of form) (holding rows pending)))
 
 -- what the walk finds in the words from a place on, where no option waits or one does
 abbrev pub Finds : Form → ℕ → Option Word → List Word → Type 0
@@ -224,7 +224,7 @@ option_added : (form : Form) (k : ℕ) (label word : Word) (rows : List Row) (fo
 option_added form k label word rows found known =
     then_mapped found (λ ps. option label word ∷ ps) (added form.options (drop k form.names) rows)
     ∙ ap (λ b. option_and_then (λ ps. cond b (option_and_then (λ more. added form.options (drop k form.names) more ps)
-        (adds label word rows)) None) found) known
+    (adds label word rows)) None) found) known
     ∙ swapped found (adds label word rows) (λ ps more. added form.options (drop k form.names) more ps)
 
 option_unknown : (form : Form) (k : ℕ) (label word : Word) (rows : List Row) (found : Option (List Piece))
@@ -233,7 +233,7 @@ option_unknown : (form : Form) (k : ℕ) (label word : Word) (rows : List Row) (
 option_unknown form k label word rows found unknown =
     then_mapped found (λ ps. option label word ∷ ps) (added form.options (drop k form.names) rows)
     ∙ none_then found _ (λ ps. ap (λ b. cond b
-        (option_and_then (λ more. added form.options (drop k form.names) more ps) (adds label word rows)) None) unknown)
+    (option_and_then (λ more. added form.options (drop k form.names) more ps) (adds label word rows)) None) unknown)
 
 waits_unknown : (form : Form) (k : ℕ) (label : Word) (rows : List Row) (words : List Word)
     → is_among label form.options ≡ false
@@ -254,7 +254,7 @@ abbrev FindsKind : Form → ℕ → Word → List Word → List Row → Option (
 FindsKind form k word words rows pending kind =
     outcome (built_shape form) (standing rows pending idle (suc k) false) (word ∷ words)
     ≡ option_and_then (completed form k (read_kind kind word words (λ waiting. loose waiting words)))
-        (settled_outcome (rules_of form) (holding rows pending))
+    (settled_outcome (rules_of form) (holding rows pending))
 
 abbrev Later : Form → List Word → Type 0
 Later form words = (k : ℕ) (waiting : Option Word) → Finds form k waiting words
@@ -268,31 +268,31 @@ whole_found : (form : Form) (k : ℕ) (word : Word) (words : List Word) (rows : 
 whole_found form k word words rows pending label given dashes long later false known =
     let here = holding rows pending in
     let found : arg_by_long (rules_of form) label ≡ None =
-        by_long label 1 form.names form.options ∙ ap (λ b. cond b (Some (option_use label)) None) known in
+    by_long label 1 form.names form.options ∙ ap (λ b. cond b (Some (option_use label)) None) known in
     step_is form rows pending idle (suc k) false word words here value (kind.UnknownArgument ∷ [])
     (rw (dashes, long, found) refl) (rw (dashes, long, found) refl)
     ∙ sym (none_then (settled_outcome (rules_of form) here) _
-        (λ more. option_unknown form k label given more (loose None words) known))
+    (λ more. option_unknown form k label given more (loose None words) known))
 whole_found form k word words rows pending label given dashes long later true known =
     let here = holding rows pending in
     let c = rules_of form in
     let found : arg_by_long c label ≡ Some (option_use label) =
-        by_long label 1 form.names form.options ∙ ap (λ b. cond b (Some (option_use label)) None) known in
+    by_long label 1 form.names form.options ∙ ap (λ b. cond b (Some (option_use label)) None) known in
     let now = settled_rows c pending rows in
     let next = used (option_use label) (given ∷ []) now in
     step_is form rows pending idle (suc k) false word words (reacted c (option_use label) (given ∷ []) here)
-        (walking.next idle) (react_fault c false (option_use label) (given ∷ []) here)
+    (walking.next idle) (react_fault c false (option_use label) (given ∷ []) here)
     (rw (dashes, long, found) refl) (rw (dashes, long, found) refl)
     ∙ unless-or (react_fault c false (option_use label) (given ∷ []) here) [] _
     ∙ unless-or (settle_fault c false here) (use_fault false (option_use label) (given ∷ []) now) _
     ∙ ap (λ o. unless (settle_fault c false here) (unless (use_fault false (option_use label) (given ∷ []) now) o))
-        (later k None next None)
+    (later k None next None)
     ∙ ap (unless (settle_fault c false here)) (unless-then (use_fault false (option_use label) (given ∷ []) now)
-        (Some next) (completed form k (loose None words))
+    (Some next) (completed form k (loose None words))
     ∙ ap (option_and_then (completed form k (loose None words))) (use_adds (Some label) None label given now)
     ∙ sym (option_added form k label given now (loose None words) known))
     ∙ unless-then (settle_fault c false here) (Some now)
-        (completed form k (before_others (option label given) (loose None words)))
+    (completed form k (before_others (option label given) (loose None words)))
 
 -- an option whose value is the next word
 open_found : (form : Form) (k : ℕ) (word : Word) (words : List Word) (rows : List Row)
@@ -303,7 +303,7 @@ open_found : (form : Form) (k : ℕ) (word : Word) (words : List Word) (rows : L
 open_found form k word words rows pending label dashes long later false known =
     let here = holding rows pending in
     let found : arg_by_long (rules_of form) label ≡ None =
-        by_long label 1 form.names form.options ∙ ap (λ b. cond b (Some (option_use label)) None) known in
+    by_long label 1 form.names form.options ∙ ap (λ b. cond b (Some (option_use label)) None) known in
     step_is form rows pending idle (suc k) false word words here value (kind.UnknownArgument ∷ [])
     (rw (dashes, long, found) refl) (rw (dashes, long, found) refl)
     ∙ sym (none_then (settled_outcome (rules_of form) here) _ (λ more. waits_unknown form k label more words known))
@@ -311,10 +311,10 @@ open_found form k word words rows pending label dashes long later true known =
     let here = holding rows pending in
     let c = rules_of form in
     let found : arg_by_long c label ≡ Some (option_use label) =
-        by_long label 1 form.names form.options ∙ ap (λ b. cond b (Some (option_use label)) None) known in
+    by_long label 1 form.names form.options ∙ ap (λ b. cond b (Some (option_use label)) None) known in
     let now = settled_rows c pending rows in
     step_is form rows pending idle (suc k) false word words (holding now (Some (label, [])))
-        (walking.next (walking.option label)) (settle_fault c false here)
+    (walking.next (walking.option label)) (settle_fault c false here)
     (rw (dashes, long, found) refl) (rw (dashes, long, found) refl)
     ∙ unless-or (settle_fault c false here) [] _
     ∙ ap (unless (settle_fault c false here)) (later k (Some label) now known)
@@ -345,7 +345,7 @@ unreadable_found form k word words rows pending utf8 lexed =
     let here = holding rows pending in
     let met = word_met (rules_of form) [] false idle (suc k) word here in
     step_is form rows pending idle (suc k) false word words met.0 met.1 (kind.UnknownArgument ∷ []) refl
-        (short_unknown form word rows pending idle refl utf8 lexed)
+    (short_unknown form word rows pending idle refl utf8 lexed)
     ∙ sym (none_then (settled_outcome (rules_of form) here) _ (λ more. refl))
 
 -- a name
@@ -357,11 +357,11 @@ plain_found form fits k word words rows pending lexed later =
     let long = lexed.1 in
     let short = lexed.2 in
     step_is form rows pending idle (suc k) false word words (holding rows pending) value []
-        (rw (dashes, long, short) refl) (rw (dashes, long, short) refl)
+    (rw (dashes, long, short) refl) (rw (dashes, long, short) refl)
     ∙ to_next form rows pending idle k false word words fits
     ∙ (λ i. option_and_then (λ more. named_is form k word words false more (loose None words)
-        (λ id given. later (suc k) None given (Some (id, word ∷ []))) i)
-        (settled_outcome (rules_of form) (holding rows pending)))
+    (λ id given. later (suc k) None given (Some (id, word ∷ []))) i)
+    (settled_outcome (rules_of form) (holding rows pending)))
 
 -- a word where an option waits, by its kind
 abbrev WaitsKind : Form → ℕ → Word → Word → List Word → List Row → WordKind → Type 0
@@ -385,7 +385,7 @@ module _ (form : Form) (k : ℕ) (label : Word) (known : is_among label form.opt
       → WaitsKind form k label word words rows names_follow
   waits_mark fits dashes =
       step_is form rows (Some (label, [])) (walking.option label) (suc k) false word words
-          (holding rows (Some (label, []))) (walking.trailing (suc k)) []
+      (holding rows (Some (label, []))) (walking.trailing (suc k)) []
       (rw dashes refl) (rw dashes refl)
       ∙ trailed form fits words k rows (Some (label, [])) (walking.option label)
       ∙ ap (option_and_then (completed form k (Some (map name words)))) (settles_none (rules_of form) rows label rule)
@@ -393,33 +393,33 @@ module _ (form : Form) (k : ℕ) (label : Word) (known : is_among label form.opt
   waits_unreadable : IsUtf8 word → LexesAs word unreadable → WaitsKind form k label word words rows unreadable
   waits_unreadable utf8 lexed =
       let met = word_met (rules_of form) [] false (walking.option label) (suc k) word
-          (holding rows (Some (label, []))) in
+      (holding rows (Some (label, []))) in
       step_is form rows (Some (label, [])) (walking.option label) (suc k) false word words met.0 met.1
-          (kind.UnknownArgument ∷ []) refl
+      (kind.UnknownArgument ∷ []) refl
       (short_unknown form word rows (Some (label, [])) (walking.option label) refl utf8 lexed)
 
   -- another option in place of the value
   waits_option : (other : Word) (given : Option Word) → bytes_eq word (codes "--") ≡ false
       → long_of word ≡ Some (other, given)
       → outcome (built_shape form) (standing rows (Some (label, [])) (walking.option label) (suc k) false)
-          (word ∷ words) ≡ None
+      (word ∷ words) ≡ None
   waits_option other given dashes long =
       let here = holding rows (Some (label, [])) in
       let met = word_met (rules_of form) [] false (walking.option label) (suc k) word here in
       let fault : word_fault (built_shape form) [] false (walking.option label) word here
-          ≡ long_fault (rules_of form) false (arg_by_long (rules_of form) other) given here = rw (dashes, long) refl in
+      ≡ long_fault (rules_of form) false (arg_by_long (rules_of form) other) given here = rw (dashes, long) refl in
       step_is form rows (Some (label, [])) (walking.option label) (suc k) false word words met.0 met.1 _ refl
-          (fault ∙ ap (λ o. long_fault (rules_of form) false o given here) (by_long other 1 form.names form.options))
+      (fault ∙ ap (λ o. long_fault (rules_of form) false o given here) (by_long other 1 form.names form.options))
       ∙ go (is_among other form.options) given _ _
     where
       go : (b : Bool) (content : Option Word) (kinds : Kinds) (rest : Option (List Row))
           → unless (or_else (long_fault (rules_of form) false (cond b (Some (option_use other)) None) content
-              (holding rows (Some (label, [])))) kinds) rest ≡ None
+          (holding rows (Some (label, [])))) kinds) rest ≡ None
       go false content kinds rest = refl
       go true None kinds rest = ap (λ f. unless (or_else f kinds) rest) unsettled
       go true (Some v) kinds rest =
           ap (λ f. unless (or_else (or_else f (use_fault false (option_use other) (v ∷ [])
-              (settled_rows (rules_of form) (Some (label, [])) rows))) kinds) rest) unsettled
+          (settled_rows (rules_of form) (Some (label, [])) rows))) kinds) rest) unsettled
 
   waits_plain : LexesAs word plain → Later form words → WaitsKind form k label word words rows plain
   waits_plain lexed later =
@@ -430,7 +430,7 @@ module _ (form : Form) (k : ℕ) (label : Word) (known : is_among label form.opt
       let same = equals_itself label in
       let is = rule.2 in
       step_is form rows (Some (label, [])) (walking.option label) (suc k) false word words
-          (holding rows (Some (label, word ∷ []))) (walking.next idle) []
+      (holding rows (Some (label, word ∷ []))) (walking.next idle) []
       (rw (dashes, long, short, is, same) refl) (rw (dashes, long, short) refl)
       ∙ later k None rows (Some (label, word ∷ []))
       ∙ ap (option_and_then (completed form k (loose None words))) (settles_one (rules_of form) rows label word rule)
@@ -449,7 +449,7 @@ idle_word form fits k word words utf8 later rows pending = go (kind_of_word word
     go : (kind : WordKind) → LexesAs word kind → FindsKind form k word words rows pending kind
     go names_follow dashes =
         step_is form rows pending idle (suc k) false word words (holding rows pending) (walking.trailing (suc k)) []
-            (rw dashes refl) (rw dashes refl)
+        (rw dashes refl) (rw dashes refl)
         ∙ trailed form fits words k rows pending idle
     go (whole_option label given) lexed =
         whole_found form k word words rows pending label given lexed.0 lexed.1 later (is_among label form.options) refl

@@ -305,7 +305,7 @@ pub fn share<R: Threads + Wait + Sync, S: Shelf, G: Gate, L: Ledger + Send>(
         Contains (map fnv_of (names_in files.now)) (S.failed_read shelf.new) }
     ensures frames { (told : Files) → S.content shelf.old ≡ Some told →
         AreCounted COUNTERS steps.old.items steps.new.items
-            (frames_of (given told (share_work files.now options.now))) }
+        (frames_of (given told (share_work files.now options.now))) }
     ensures never_falls { AllZip (λ before after. before ≤ after) steps.old.items steps.new.items }
     ensures content { S.content shelf.new ≡ S.content shelf.old }
     ensures put_faults { S.put_faults shelf.new ≡ S.put_faults shelf.old }

@@ -22,7 +22,7 @@ pub returns-in-Replay-clause-serves : goal.returns-in-Replay-clause-serves
 returns-in-Replay-clause-serves g c = λ files told.
     subst (λ work. Serves files work (g.S.Shelf.failed_read c.serve-in-Replay.new.shelf) c.serve-in-Replay.result)
     (replay_is c.args.command.now _ _ _ _ _ _ _ _ c.in-Replay.is c.named-in-Replay.ensures.name
-        c.named-in-Replay-2.ensures.name
+    c.named-in-Replay-2.ensures.name
     c.named-in-Replay-3.ensures.name c.named-in-Replay-4.ensures.name)
     (c.serve-in-Replay.ensures.serves files told)
 
@@ -30,7 +30,7 @@ pub returns-in-Replay-clause-frames : goal.returns-in-Replay-clause-frames
 returns-in-Replay-clause-frames g c = λ files told.
     subst (λ work. c.serve-in-Replay.new.steps ≤ c.args.steps.now + frames_of (given files work))
     (replay_is c.args.command.now _ _ _ _ _ _ _ _ c.in-Replay.is c.named-in-Replay.ensures.name
-        c.named-in-Replay-2.ensures.name
+    c.named-in-Replay-2.ensures.name
     c.named-in-Replay-3.ensures.name c.named-in-Replay-4.ensures.name)
     (c.serve-in-Replay.ensures.frames files told)
 
@@ -86,7 +86,7 @@ pub returns-in-Clean-clause-serves : goal.returns-in-Clean-clause-serves
 returns-in-Clean-clause-serves g c = λ files told.
     subst (λ work. Serves files work (g.S.Shelf.failed_read c.serve-in-Clean.new.shelf) c.serve-in-Clean.result)
     (clean_is c.args.command.now _ _ _ _ _ _ _ _ c.in-Clean.is c.named-in-Clean.ensures.name
-        c.named-in-Clean-2.ensures.name
+    c.named-in-Clean-2.ensures.name
     c.named-in-Clean-3.ensures.name c.named-in-Clean-4.ensures.name)
     (c.serve-in-Clean.ensures.serves files told)
 
@@ -94,7 +94,7 @@ pub returns-in-Clean-clause-frames : goal.returns-in-Clean-clause-frames
 returns-in-Clean-clause-frames g c = λ files told.
     subst (λ work. c.serve-in-Clean.new.steps ≤ c.args.steps.now + frames_of (given files work))
     (clean_is c.args.command.now _ _ _ _ _ _ _ _ c.in-Clean.is c.named-in-Clean.ensures.name
-        c.named-in-Clean-2.ensures.name
+    c.named-in-Clean-2.ensures.name
     c.named-in-Clean-3.ensures.name c.named-in-Clean-4.ensures.name)
     (c.serve-in-Clean.ensures.frames files told)
 

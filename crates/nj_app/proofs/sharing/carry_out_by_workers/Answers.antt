@@ -36,7 +36,7 @@ returns-in-Resume-clause-serves g c = λ files told.
 pub returns-in-Resume-clause-frames : goal.returns-in-Resume-clause-frames
 returns-in-Resume-clause-frames g c = λ files told.
     subst (λ work. AreCounted COUNTERS c.args.steps.now.items c.share-in-Resume.new.steps.items
-        (frames_of (given files work)))
+    (frames_of (given files work)))
     (resume_is c.args.command.now _ _ _ _ _ c.in-Resume.is) (c.share-in-Resume.ensures.frames files told)
 
 pub returns-in_default-clause-frames : goal.returns-in_default-clause-frames

@@ -7,7 +7,7 @@ use Rattle.nj_app.proofs.telling.hand_over.Goals as goal
 pub returns-in-Ok-clause-written : goal.returns-in-Ok-clause-written
 returns-in-Ok-clause-written g c =
     always_ok c.put.result (c.in-Ok.ensures.ok
-        ∙ ap (λ text. appended (g.O.Sink.written c.args.out.now) text) c.as_slice.ensures.value)
+    ∙ ap (λ text. appended (g.O.Sink.written c.args.out.now) text) c.as_slice.ensures.value)
 
 pub returns-in-Ok-clause-no_write_fault : goal.returns-in-Ok-clause-no_write_fault
 returns-in-Ok-clause-no_write_fault g c = always_ok c.put.result c.in-Ok.ensures.no_fault
@@ -32,7 +32,7 @@ returns-in-Err-clause-fault g c =
         within = subst (λ text. front.0 ≤ length text) c.as_slice.ensures.value front.1;
         written =
             front.2 ∙ ap (λ text. appended (g.O.Sink.written c.args.out.now) (take front.0 text))
-                c.as_slice.ensures.value;
+            c.as_slice.ensures.value;
         files = refl;
       },
     )

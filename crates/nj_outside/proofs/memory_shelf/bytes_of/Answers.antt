@@ -7,7 +7,7 @@ pub returns-in-Some : goal.returns-in-Some
 returns-in-Some c =
     ap Some c.as_slice.ensures.value
     ∙ sym (first_found c.args.files.now c.args.name.now c.in-Some.place c.index-files-place.result
-        c.in-Some.ensures.found)
+    c.in-Some.ensures.found)
 
 pub returns-in-None : goal.returns-in-None
 returns-in-None c = sym (none_found _ _ c.in-None.ensures.missing)

@@ -7,7 +7,7 @@ pub returns-then-count-eq0-clause-whole : goal.returns-then-count-eq0-clause-who
 returns-then-count-eq0-clause-whole g c files told =
     let now : g.S.Shelf.content c.loop-piece.shelf ≡ Some files = c.loop-piece.invariant.content ∙ told in
     let place : c.len-in-loop-piece.result ≡ length c.loop-piece.bytes.items =
-        c.len-in-loop-piece.ensures ∙ c.loop-piece.bytes.ok.0 in
+    c.len-in-loop-piece.ensures ∙ c.loop-piece.bytes.ok.0 in
     let room : 0 < length c.read_at.new.into = omega arith in
     begun_whole _ _ (c.loop-piece.invariant.begun files told)
     (λ none. let missing = c.in-Ok.ensures.missing files now none in cc)
@@ -18,7 +18,7 @@ loop-piece-preserved g c = record {
   begun = λ files told.
       let now : g.S.Shelf.content c.loop-piece.shelf ≡ Some files = c.loop-piece.invariant.content ∙ told in
       let place : c.len-in-loop-piece.result ≡ length c.loop-piece.bytes.items =
-          c.len-in-loop-piece.ensures ∙ c.loop-piece.bytes.ok.0 in
+      c.len-in-loop-piece.ensures ∙ c.loop-piece.bytes.ok.0 in
       rw c.in_ok-extend_from_slice.ensures.items
       (begun_more _ _ _ _ (c.loop-piece.invariant.begun files told) c.in-Ok.ensures.within
       (λ none. let missing = c.in-Ok.ensures.missing files now none in cc)
@@ -38,7 +38,7 @@ pub returns-clause-fits : goal.returns-clause-fits
 returns-clause-fits g c files told file is fits _ =
     let place : vec_len c.loop-piece.bytes ≡ length c.loop-piece.bytes.items = c.loop-piece.bytes.ok.0 in
     let past = begun_past (files c.args.name.now) c.loop-piece.bytes.items c.args.limit
-        (c.loop-piece.invariant.begun files told) (omega arith) in
+    (c.loop-piece.invariant.begun files told) (omega arith) in
     let same : past.0 ≡ file = cc (past.1, is) in
     let long : length past.0 ≡ length file = ap length same in
     let over : c.args.limit < length past.0 = past.2 in

@@ -8,11 +8,11 @@ use Rattle.nj_words.proofs.commands.replay.Goals as goal
 pub returns-in_err-given-clause-usage : goal.returns-in_err-given-clause-usage
 returns-in_err-given-clause-usage c = λ usage.
     none_made replay_row c.as_slice.result.now c.as_slice-2.result.now (words_of c.args.words.now) (search rules)
-        (c.in_err-given.ensures.usage (search rules))
+    (c.in_err-given.ensures.usage (search rules))
 
 pub returns-clause-read : goal.returns-clause-read
 returns-clause-read c =
     all_made replay_row c.as_slice.result.now c.as_slice-2.result.now (words_of c.args.words.now)
-        (taken_of c.in_ok-given.given) (search rules) c.in_ok-given.ensures.given
+    (taken_of c.in_ok-given.given) (search rules) c.in_ok-given.ensures.given
     ∙ (λ i. Some (Replay (sym c.in_ok-name.ensures i) (sym c.in_ok-name-2.ensures i) (sym c.in_ok-name-3.ensures i)
-        (sym c.in_ok-name-4.ensures i)))
+    (sym c.in_ok-name-4.ensures i)))

@@ -16,12 +16,12 @@ returns-in_err-options-clause-usage c = λ usage.
     all_made search_row c.as_slice.result.now c.as_slice-2.result.now (words_of c.args.words.now)
     (taken_of c.in_ok-given.given) (search rules) c.in_ok-given.ensures.given
     ∙ ap (option_and_then (λ options. Some (Search (name_at (taken_of c.in_ok-given.given) 0)
-        (name_at (taken_of c.in_ok-given.given) 1) (name_at (taken_of c.in_ok-given.given) 2) options)))
-        (c.in_err-options.ensures.usage (search rules))
+    (name_at (taken_of c.in_ok-given.given) 1) (name_at (taken_of c.in_ok-given.given) 2) options)))
+    (c.in_err-options.ensures.usage (search rules))
 
 pub returns-clause-read : goal.returns-clause-read
 returns-clause-read c =
     all_made search_row c.as_slice.result.now c.as_slice-2.result.now (words_of c.args.words.now)
     (taken_of c.in_ok-given.given) (search rules) c.in_ok-given.ensures.given
     ∙ (λ i. option_and_then (λ options. Some (Search (sym c.in_ok-name.ensures i) (sym c.in_ok-name-2.ensures i)
-        (sym c.in_ok-name-3.ensures i) options)) (c.in_ok-options.ensures.read i))
+    (sym c.in_ok-name-3.ensures i) options)) (c.in_ok-options.ensures.read i))

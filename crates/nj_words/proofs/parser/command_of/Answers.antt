@@ -11,4 +11,4 @@ loop-name-preserved c =
 pub loop-label-preserved : goal.loop-label-preserved
 loop-label-preserved c =
     option_step (map new_rule (texts c.args.names.now)) c.args.options.now c.loop-label.label-index _ _ _
-        (omega arith) c.loop-label.invariant c.in_ok-command-2.ensures
+    (omega arith) c.loop-label.invariant c.in_ok-command-2.ensures

@@ -15,4 +15,4 @@ loop-name-preserved c = (
 pub returns-clause-read : goal.returns-clause-read
 returns-clause-read c =
     given_ends (word_read c.args.matches.now) c.args.names.now c.loop-name.name-index c.loop-name.words.items _
-        (omega arith) c.loop-name.invariant.1
+    (omega arith) c.loop-name.invariant.1

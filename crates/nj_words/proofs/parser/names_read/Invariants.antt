@@ -8,4 +8,4 @@ use Rattle.nj_words.proofs.parser.names_read.Given as goal
 abbrev pub invariant-loop-name : goal.invariant-loop-name
 invariant-loop-name l = (length l.words.items ≡ l.name-index) × (
     given (map (word_read l.matches) (texts l.names))
-        ≡ given_after (texts l.words.items) (given (map (word_read l.matches) (texts (drop l.name-index l.names)))))
+    ≡ given_after (texts l.words.items) (given (map (word_read l.matches) (texts (drop l.name-index l.names)))))

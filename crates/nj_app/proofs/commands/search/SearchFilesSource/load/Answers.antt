@@ -19,7 +19,7 @@ module _ (files : Files) (cart script start : List ℕ) (saved : Option (Bor (Li
   unfolding search_files
   game_stops failed stop result e h =
       first_stops files (game_files cart script start)
-          (λ said. saved_loaded (name_in saved) (input_of said)) failed stop
+      (λ said. saved_loaded (name_in saved) (input_of said)) failed stop
       result e h
 
   -- no saved search is read

@@ -12,4 +12,4 @@ returns-then-is_empty-clause-usage c =
 pub returns-clause-read : goal.returns-clause-read
 returns-clause-read c =
     full_name c.in-Some.word c.value.result _ c.in_ok-from_str.field-0 c.value.ensures c.in-Some.is
-        (search rules) c.in_ok-from_str.ensures
+    (search rules) c.in_ok-from_str.ensures
