@@ -13,7 +13,7 @@ ghost use Rattle.nj_app.specs.Work.{given, Reaches};
 ghost use Rattle.nj_words.specs.Commands.{reading, IsInRange};
 ghost use Rattle.nj_workers.specs.Counted.{AreCounted};
 
-use crate::commands::search::{SearchFiles, share};
+use crate::commands::search::{resumed, searched, share};
 use crate::running::carry_out;
 use crate::stops::{Reply, Stop};
 use crate::telling::tell;
@@ -180,13 +180,8 @@ fn carry_out_by_workers<R: Threads + Wait + Sync, S: Shelf, G: Gate, L: Ledger +
             start,
             options,
         } if options.workers > 1 => {
-            let files = SearchFiles {
-                cart,
-                script,
-                start,
-                saved: None,
-            };
-            share(rt, alloc, &files, options, shelf, gate, steps)
+            let task = searched(cart, script, start, options);
+            share(rt, alloc, &task.source, options, shelf, gate, steps)
         }
         Command::Resume {
             cart,
@@ -195,13 +190,8 @@ fn carry_out_by_workers<R: Threads + Wait + Sync, S: Shelf, G: Gate, L: Ledger +
             saved,
             options,
         } if options.workers > 1 => {
-            let files = SearchFiles {
-                cart,
-                script,
-                start,
-                saved: Some(saved),
-            };
-            share(rt, alloc, &files, options, shelf, gate, steps)
+            let task = resumed(cart, script, start, saved, options);
+            share(rt, alloc, &task.source, options, shelf, gate, steps)
         }
         _ => carry_out(alloc, command, shelf, &mut steps[0]),
     }
