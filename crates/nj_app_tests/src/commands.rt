@@ -3,11 +3,11 @@
 ghost use Rattle.std.specs.Prelude.{◌≡◌};
 
 use crate::cases::{CHECKS, CLEANS, FAULTS, LISTS, PLANS, PLAYS, REPLAYS, SOURCES, TRACES};
-use crate::files::{GOAL, made_shelf, shelf_with};
+use crate::files::{made_shelf, shelf_with};
 use crate::meeting::Meeting;
 use crate::searches::{QUOTAS, SAVES, SEARCHES, WINS};
 use nj_app::{COUNTERS, Gate, OpenGate, run, run_plain};
-use nj_outside::{MemShelf, MemSink, fnv, fnv_on, read_decimal};
+use nj_outside::{MemShelf, MemSink, read_decimal};
 use nj_steps::Steps;
 use std::alloc::{AllocError, Global};
 use std::marker::Brand;
@@ -412,29 +412,14 @@ fn saved_files_are_refused(rt: HostRuntime) -> Result<(), Fail> {
         "start",
         "nj: saved 2 Version n=9\n",
     )?;
-    Ok(())
-}
-
-// The hash of a saved file's bytes before the hash in it.
-fn hash_of(alloc: Global, saved: &[u8]) -> Result<u64, AllocError> {
-    let mut fields = Vec::from_slice(alloc, saved)?;
-    fields.truncate(82);
-    Ok(fnv(fields.as_slice()))
-}
-
-#[test]
-fn saved_files_have_hashes(rt: HostRuntime) -> Result<(), Fail> {
-    let alloc = rt.alloc();
-    let saved = saved_bytes(alloc)?;
-    let changed = with_byte(alloc, saved.as_slice(), 44, 1)?;
-    let kept = hash_of(alloc, saved.as_slice())?;
-    let now = hash_of(alloc, changed.as_slice())?;
-    let line = format!(in alloc; "nj: saved 9 Damaged kept={kept} now={now}\n")?;
-    expect_saved(&rt, alloc, changed.as_slice(), "start", line.as_str())?;
-    let now = fnv(GOAL.as_bytes());
-    let kept = fnv_on(now, &[0, 0, 0]);
-    let line = format!(in alloc; "nj: saved 4 OtherScript kept={kept} now={now}\n")?;
-    expect_saved(&rt, alloc, saved.as_slice(), "-", line.as_str())?;
+    let damaged = with_byte(alloc, saved.as_slice(), 44, 1)?;
+    expect_saved(
+        &rt,
+        alloc,
+        damaged.as_slice(),
+        "start",
+        "nj: saved 9 Damaged kept=15950387202685951007 now=3479608552922645262\n",
+    )?;
     Ok(())
 }
 

@@ -16,8 +16,8 @@ const BUTTON: [u8; 15] = [
     0xA9, 0x01, 0x8D, 0x16, 0x40, 0xAD, 0x16, 0x40, 0x29, 0x01, 0x85, 0x10, 0x4C, 0x05, 0x80,
 ];
 
-/// A point for each count at $10, and 100 more once it is 5, which wins.
-pub const GOAL: &str = r#"{"version":1,
+// A point for each count at $10, and 100 more once it is 5, which wins.
+const GOAL: &str = r#"{"version":1,
 "properties":[{"name":"x","at":16,"kind":"u8"},{"name":"t","at":17,"kind":"u8"}],
 "hash":["x"],
 "inputs":[{"pads":["........","...R...."]}],

@@ -181,6 +181,12 @@ $ resume walk goal start K --steps 3
 = 0
 
 +
+$ resume walk goal - K --steps 3
+! nj: saved 4 OtherScript kept=13907541807455636324 now=3446088229810688556
+& 90
+= 11
+
++
 $ resume walk goal start K --steps 1 --save=K
 > # limit step=3 frames=6 reward=3
 > |..|........|
