@@ -1,4 +1,5 @@
--- Shifts and rotations of a byte (NMOS 6502 instruction set: ASL, LSR, ROL, ROR; NESdev Wiki, "CPU unofficial opcodes": ARR).
+-- Shifts and rotations of a byte (NMOS 6502 instruction set: ASL, LSR, ROL, ROR; NESdev Wiki, "CPU unofficial opcodes":
+-- ARR).
 use Rattle.std.specs.Prelude.{ℕ, ◌+◌, ◌*◌, ◌/◌, ◌%◌, Bool, bit_and}
 use Rattle.nj_alu.specs.Bits.{bit, has_bit, differ}
 use Rattle.nj_alu.specs.declared.arithmetic.Sum.{Sum}

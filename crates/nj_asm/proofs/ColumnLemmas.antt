@@ -42,7 +42,8 @@ high_of i = slice_index i.operand 1
 
 -- the lines of a listing, and what stands behind their columns
 abbrev pub statement_line : ℕ → Instruction → List ℕ
-statement_line at i = (name_of (row_of i.opcode).op ++ operand_text (row_of i.opcode).mode at (low_of i) (high_of i)) ++ 10 ∷ []
+statement_line at i =
+    (name_of (row_of i.opcode).op ++ operand_text (row_of i.opcode).mode at (low_of i) (high_of i)) ++ 10 ∷ []
 
 abbrev pub lines_at : ℕ → List Instruction → List (List ℕ)
 lines_at at [] = []
@@ -69,25 +70,30 @@ length_small Indirect = omega arith
 length_small Relative = omega arith
 
 -- a line without its columns
-cut_line : (at k : ℕ) (operand : List ℕ) → length operand ≤ 2 → drop 14 (instruction_text at (k ∷ operand)) ≡ statement_line at (record { opcode = k; operand = operand })
+cut_line : (at k : ℕ) (operand : List ℕ) → length operand ≤ 2
+    → drop 14 (instruction_text at (k ∷ operand)) ≡ statement_line at (record { opcode = k; operand = operand })
 unfolding instruction_text place_text hex4 hex2
 cut_line at k [] short = refl
 cut_line at k (x ∷ []) short = refl
 cut_line at k (x ∷ y ∷ []) short = refl
 cut_line at k (x ∷ y ∷ z ∷ rest) short = absurd (omega arith)
 
-pub cut : (at : ℕ) (i : Instruction) → IsInstruction i → drop 14 (instruction_text at (encoding i)) ≡ statement_line at i
+pub cut : (at : ℕ) (i : Instruction) → IsInstruction i
+    → drop 14 (instruction_text at (encoding i)) ≡ statement_line at i
 cut at i is = cut_line at i.opcode i.operand (omega (arith, is.whole, length_small (row_of i.opcode).mode))
 
-pub cut_all : (at : ℕ) (all : List Instruction) → All IsInstruction all → flat_map (λ line. drop 14 line) (lines_at at all) ≡ concat (said_at at all)
+pub cut_all : (at : ℕ) (all : List Instruction) → All IsInstruction all
+    → flat_map (λ line. drop 14 line) (lines_at at all) ≡ concat (said_at at all)
 cut_all at [] are = refl
 cut_all at (i ∷ is) are =
-    λ j. cut at i (All-head IsInstruction i is are) j ++ cut_all (at + length (encoding i)) is (All-tail IsInstruction i is are) j
+    λ j. cut at i (All-head IsInstruction i is are) j
+    ++ cut_all (at + length (encoding i)) is (All-tail IsInstruction i is are) j
 
 -- the columns are plain text
 spaced_plain : (bytes : List ℕ) → list_all is_plain (flat_map spaced bytes) ≡ true
 spaced_plain [] = refl
-spaced_plain (byte ∷ bytes) = plain-append (32 ∷ hex2 byte) (flat_map spaced bytes) (hex2_plain byte) (spaced_plain bytes)
+spaced_plain (byte ∷ bytes) =
+    plain-append (32 ∷ hex2 byte) (flat_map spaced bytes) (hex2_plain byte) (spaced_plain bytes)
 
 choice_plain : (one two : Bool) → list_all is_plain (cond one (codes "      ") (cond two (codes "   ") [])) ≡ true
 choice_plain true two = refl
@@ -104,62 +110,83 @@ place_plain at bytes =
     refl
 
 -- each line is ended, with its columns and without
-said_plain : (at : ℕ) (i : Instruction) → IsInstruction i → list_all is_plain (name_of (row_of i.opcode).op ++ operand_text (row_of i.opcode).mode at (low_of i) (high_of i)) ≡ true
-said_plain at i is = plain-append (name_of (row_of i.opcode).op) (operand_text (row_of i.opcode).mode at (low_of i) (high_of i)) (name_plain i.opcode is.byte) (operand_plain (row_of i.opcode).mode at (low_of i) (high_of i))
+said_plain : (at : ℕ) (i : Instruction) → IsInstruction i → list_all is_plain
+    (name_of (row_of i.opcode).op ++ operand_text (row_of i.opcode).mode at (low_of i) (high_of i)) ≡ true
+said_plain at i is = plain-append (name_of (row_of i.opcode).op) (operand_text (row_of i.opcode).mode at (low_of i)
+    (high_of i)) (name_plain i.opcode is.byte) (operand_plain (row_of i.opcode).mode at (low_of i) (high_of i))
 
 pub said_ended : EndsLines → (at : ℕ) (i : Instruction) → IsInstruction i → IsEnded (statement_line at i)
-said_ended ends at i is = ends (name_of (row_of i.opcode).op ++ operand_text (row_of i.opcode).mode at (low_of i) (high_of i)) (plain_is _ (said_plain at i is))
+said_ended ends at i is = ends (name_of (row_of i.opcode).op
+    ++ operand_text (row_of i.opcode).mode at (low_of i) (high_of i)) (plain_is _ (said_plain at i is))
 
 line_ended : EndsLines → (at : ℕ) (i : Instruction) → IsInstruction i → IsEnded (instruction_text at (encoding i))
 unfolding instruction_text
 line_ended ends at i is =
-    ends (place_text at (encoding i) ++ name_of (row_of i.opcode).op ++ operand_text (row_of i.opcode).mode at (low_of i) (high_of i))
-    (plain_is (place_text at (encoding i) ++ name_of (row_of i.opcode).op ++ operand_text (row_of i.opcode).mode at (low_of i) (high_of i))
-    (plain-append (place_text at (encoding i) ++ name_of (row_of i.opcode).op) (operand_text (row_of i.opcode).mode at (low_of i) (high_of i))
-    (plain-append (place_text at (encoding i)) (name_of (row_of i.opcode).op) (place_plain at (encoding i)) (name_plain i.opcode is.byte))
+    ends (place_text at (encoding i) ++ name_of (row_of i.opcode).op
+    ++ operand_text (row_of i.opcode).mode at (low_of i) (high_of i))
+    (plain_is (place_text at (encoding i) ++ name_of (row_of i.opcode).op
+    ++ operand_text (row_of i.opcode).mode at (low_of i) (high_of i))
+    (plain-append (place_text at (encoding i) ++ name_of (row_of i.opcode).op)
+    (operand_text (row_of i.opcode).mode at (low_of i) (high_of i))
+    (plain-append (place_text at (encoding i)) (name_of (row_of i.opcode).op) (place_plain at (encoding i))
+    (name_plain i.opcode is.byte))
     (operand_plain (row_of i.opcode).mode at (low_of i) (high_of i))))
 
 lines_ended : EndsLines → (at : ℕ) (all : List Instruction) → All IsInstruction all → AreEnded (lines_at at all)
 lines_ended ends at [] are = tt
-lines_ended ends at (i ∷ is) are =
-    (line_ended ends at i (All-head IsInstruction i is are), lines_ended ends (at + length (encoding i)) is (All-tail IsInstruction i is are))
+lines_ended ends at (i ∷ is) are = (
+  line_ended ends at i (All-head IsInstruction i is are),
+  lines_ended ends (at + length (encoding i)) is (All-tail IsInstruction i is are),
+)
 
 pub all_ended : EndsLines → (at : ℕ) (all : List Instruction) → All IsInstruction all → AreEnded (said_at at all)
 all_ended ends at [] are = tt
-all_ended ends at (i ∷ is) are =
-    (said_ended ends at i (All-head IsInstruction i is are), all_ended ends (at + length (encoding i)) is (All-tail IsInstruction i is are))
+all_ended ends at (i ∷ is) are = (
+  said_ended ends at i (All-head IsInstruction i is are),
+  all_ended ends (at + length (encoding i)) is (All-tail IsInstruction i is are),
+)
 
 -- the listing is its lines, one behind another
 listed_first : (at : ℕ) (i : Instruction) (rest : List ℕ) → IsInstruction i → at < 65536 →
-    listed at 0 (encoding i ++ rest) ≡ instruction_text at (encoding i) ++ listed ((at + length (encoding i)) % 65536) 0 rest
+    listed at 0 (encoding i ++ rest)
+    ≡ instruction_text at (encoding i) ++ listed ((at + length (encoding i)) % 65536) 0 rest
 listed_first at i rest is within =
-    listed-instruction at (length (encoding i)) (encoding i ++ rest) within (omega arith) is.whole (omega arith) (omega (arith, length-append (encoding i) rest)) (runs i.opcode is.byte is.official)
-    ∙ (λ j. instruction_text at (take_at (encoding i) rest (length (encoding i)) refl j) ++ listed ((at + length (encoding i)) % 65536) 0 (drop_at (encoding i) rest (length (encoding i)) refl j))
+    listed-instruction at (length (encoding i)) (encoding i ++ rest) within (omega arith) is.whole (omega arith)
+    (omega (arith, length-append (encoding i) rest)) (runs i.opcode is.byte is.official)
+    ∙ (λ j. instruction_text at (take_at (encoding i) rest (length (encoding i)) refl j)
+    ++ listed ((at + length (encoding i)) % 65536) 0 (drop_at (encoding i) rest (length (encoding i)) refl j))
 
-listed_all : (here at : ℕ) (all : List Instruction) → at + length (encodings all) ≤ 65536 → (0 < length (encodings all) → here ≡ at) → All IsInstruction all →
+listed_all : (here at : ℕ) (all : List Instruction) → at + length (encodings all) ≤ 65536 →
+    (0 < length (encodings all) → here ≡ at) → All IsInstruction all →
     listed here 0 (encodings all) ≡ concat (lines_at at all)
 listed_all here at [] within same are = refl
 listed_all here at (i ∷ is) within same are =
-    let sum : length (encodings (i ∷ is)) ≡ length (encoding i) + length (encodings is) = length-append (encoding i) (encodings is) in
+    let sum : length (encodings (i ∷ is)) ≡ length (encoding i) + length (encodings is) =
+    length-append (encoding i) (encodings is) in
     let now : here ≡ at = same (omega (arith, sum)) in
     ap (λ n. listed n 0 (encodings (i ∷ is))) now
     ∙ listed_first at i (encodings is) (All-head IsInstruction i is are) (omega (arith, sum))
     ∙ ap (λ (text : List ℕ). instruction_text at (encoding i) ++ text)
-    (listed_all ((at + length (encoding i)) % 65536) (at + length (encoding i)) is (omega (arith, sum)) (λ some. omega (arith, sum, some)) (All-tail IsInstruction i is are))
+    (listed_all ((at + length (encoding i)) % 65536) (at + length (encoding i)) is (omega (arith, sum))
+    (λ some. omega (arith, sum, some)) (All-tail IsInstruction i is are))
 
 -- the statements of a listing
-pub statements_are : EndsLines → PartsLines → (origin : ℕ) (all : List Instruction) → origin + length (encodings all) ≤ 65536 → All IsInstruction all →
+pub statements_are : EndsLines → PartsLines → (origin : ℕ) (all : List Instruction) →
+    origin + length (encodings all) ≤ 65536 → All IsInstruction all →
     statements_of (listing_of origin (encodings all)) ≡ concat (said_at origin all)
 unfolding listing_of
 statements_are ends parts origin all within are =
     ap (λ (text : List ℕ). statements_of text) (listed_all origin origin all within (λ some. refl) are)
-    ∙ ap (λ (ls : List (List ℕ)). flat_map (λ line. drop 14 line) ls) (parts (lines_at origin all) (are_lines (lines_at origin all) (lines_ended ends origin all are)))
+    ∙ ap (λ (ls : List (List ℕ)). flat_map (λ line. drop 14 line) ls)
+    (parts (lines_at origin all) (are_lines (lines_at origin all) (lines_ended ends origin all are)))
     ∙ cut_all origin all are
 
 -- a listing of one line
-pub one_listed : (at : ℕ) (i : Instruction) → IsInstruction i → at + length (encoding i) ≤ 65536 → drop 14 (listing_of at (encoding i)) ≡ statement_line at i
+pub one_listed : (at : ℕ) (i : Instruction) → IsInstruction i → at + length (encoding i) ≤ 65536
+    → drop 14 (listing_of at (encoding i)) ≡ statement_line at i
 unfolding listing_of
 one_listed at i is within =
     ap (λ (bytes : List ℕ). drop 14 (listed at 0 bytes)) (sym (append-nil (encoding i)))
-    ∙ ap (λ (text : List ℕ). drop 14 text) (listed_first at i [] is (omega arith) ∙ append-nil (instruction_text at (encoding i)))
+    ∙ ap (λ (text : List ℕ). drop 14 text)
+    (listed_first at i [] is (omega arith) ∙ append-nil (instruction_text at (encoding i)))
     ∙ cut at i is

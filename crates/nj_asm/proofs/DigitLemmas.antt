@@ -14,7 +14,8 @@ abbrev pub is_plain : ℕ → Bool
 is_plain byte = ltb 31 byte && (ltb byte 127 && (not (byte == 58) && not (byte == 59)))
 
 -- functions that list the same 16 values agree below 16
-agree : {A : Type 0} (f g : ℕ → A) → map f (range_with_len 0 16) ≡ map g (range_with_len 0 16) → (n : ℕ) → n < 16 → f n ≡ g n
+agree : {A : Type 0} (f g : ℕ → A) → map f (range_with_len 0 16) ≡ map g (range_with_len 0 16) → (n : ℕ)
+    → n < 16 → f n ≡ g n
 agree f g e n h =
     sym (get_or-map-range_with_len f 0 16 n n (f n) h (omega arith))
     ∙ ap (λ xs. get_or xs n (f n)) e
@@ -54,14 +55,17 @@ pair_plain a b p q = rw (p, q)
 
 pub hex2_plain : (n : ℕ) → list_all is_plain (hex2 n) ≡ true
 unfolding hex2
-hex2_plain n = pair_plain (hex_digit (n / 16 % 16)) (hex_digit (n % 16)) (digit_plain (n / 16 % 16) (high_digit n)) (digit_plain (n % 16) (low_digit n))
+hex2_plain n = pair_plain (hex_digit (n / 16 % 16)) (hex_digit (n % 16)) (digit_plain (n / 16 % 16) (high_digit n))
+    (digit_plain (n % 16) (low_digit n))
 
-four_plain : (a b c d : ℕ) → list_all is_plain (a ∷ b ∷ []) ≡ true → list_all is_plain (c ∷ d ∷ []) ≡ true → list_all is_plain (a ∷ b ∷ c ∷ d ∷ []) ≡ true
+four_plain : (a b c d : ℕ) → list_all is_plain (a ∷ b ∷ []) ≡ true → list_all is_plain (c ∷ d ∷ []) ≡ true
+    → list_all is_plain (a ∷ b ∷ c ∷ d ∷ []) ≡ true
 four_plain a b c d p q = grind arith
 
 pub hex4_plain : (n : ℕ) → list_all is_plain (hex4 n) ≡ true
 unfolding hex4 hex2
-hex4_plain n = four_plain (front_digit (n / 256 % 256)) (back_digit (n / 256 % 256)) (front_digit (n % 256)) (back_digit (n % 256)) (hex2_plain (n / 256 % 256)) (hex2_plain (n % 256))
+hex4_plain n = four_plain (front_digit (n / 256 % 256)) (back_digit (n / 256 % 256)) (front_digit (n % 256))
+    (back_digit (n % 256)) (hex2_plain (n / 256 % 256)) (hex2_plain (n % 256))
 
 last_shown : (a b : ℕ) → is_blank b ≡ false → suffix_len is_blank (a ∷ b ∷ []) ≡ 0
 last_shown a b h = rw h
@@ -75,7 +79,8 @@ last_of_four a b c d h = rw h
 
 pub hex4_shown : (n : ℕ) → suffix_len is_blank (hex4 n) ≡ 0
 unfolding hex4 hex2
-hex4_shown n = last_of_four (front_digit (n / 256 % 256)) (back_digit (n / 256 % 256)) (front_digit (n % 256)) (back_digit (n % 256)) (digit_shown (n % 256 % 16) (low_digit (n % 256)))
+hex4_shown n = last_of_four (front_digit (n / 256 % 256)) (back_digit (n / 256 % 256)) (front_digit (n % 256))
+    (back_digit (n % 256)) (digit_shown (n % 256 % 16) (low_digit (n % 256)))
 
 pub hex2_length : (n : ℕ) → length (hex2 n) ≡ 2
 unfolding hex2
@@ -89,7 +94,8 @@ hex4_length n = refl
 below : (d v : ℕ) → digit_value d ≡ v → v < 16 → is_digit d 16 ≡ true
 below d v e h = ap (λ n. ltb n 16) e ∙ (Decides-ltb v 16).1 h
 
-two_read : (a b v w n : ℕ) → digit_value a ≡ v → digit_value b ≡ w → v < 16 → w < 16 → n ≡ v * 16 + w → literal_of 16 (a ∷ b ∷ []) ≡ Some (Literal n)
+two_read : (a b v w n : ℕ) → digit_value a ≡ v → digit_value b ≡ w → v < 16 → w < 16 → n ≡ v * 16 + w
+    → literal_of 16 (a ∷ b ∷ []) ≡ Some (Literal n)
 unfolding literal_of
 two_read a b v w n p q hv hw e =
     let small : min 65536 ((0 * 16 + v) * 16 + w) ≡ n = omega arith in
@@ -98,9 +104,11 @@ two_read a b v w n p q hv hw e =
 pub hex2_read : (n : ℕ) → n < 256 → literal_of 16 (hex2 n) ≡ Some (Literal n)
 unfolding hex2
 hex2_read n h =
-    two_read (front_digit n) (back_digit n) (n / 16 % 16) (n % 16) n (digit_is (n / 16 % 16) (high_digit n)) (digit_is (n % 16) (low_digit n)) (high_digit n) (low_digit n) (omega arith)
+    two_read (front_digit n) (back_digit n) (n / 16 % 16) (n % 16) n (digit_is (n / 16 % 16) (high_digit n))
+    (digit_is (n % 16) (low_digit n)) (high_digit n) (low_digit n) (omega arith)
 
-four_read : (a b c d t u v w n : ℕ) → digit_value a ≡ t → digit_value b ≡ u → digit_value c ≡ v → digit_value d ≡ w → t < 16 → u < 16 → v < 16 → w < 16 →
+four_read : (a b c d t u v w n : ℕ) → digit_value a ≡ t → digit_value b ≡ u → digit_value c ≡ v → digit_value d ≡ w →
+    t < 16 → u < 16 → v < 16 → w < 16 →
     n ≡ (t * 16 + u) * 256 + (v * 16 + w) → literal_of 16 (a ∷ b ∷ c ∷ d ∷ []) ≡ Some (Literal n)
 unfolding literal_of
 four_read a b c d t u v w n p q r s ht hu hv hw e =
@@ -113,7 +121,9 @@ hex4_read n h =
     let high : n / 256 % 256 ≡ n / 256 % 256 / 16 % 16 * 16 + n / 256 % 256 % 16 = omega arith in
     let low : n % 256 ≡ n % 256 / 16 % 16 * 16 + n % 256 % 16 = omega arith in
     let whole : n ≡ n / 256 % 256 * 256 + n % 256 = omega arith in
-    four_read (front_digit (n / 256 % 256)) (back_digit (n / 256 % 256)) (front_digit (n % 256)) (back_digit (n % 256)) (n / 256 % 256 / 16 % 16) (n / 256 % 256 % 16) (n % 256 / 16 % 16) (n % 256 % 16) n
-    (digit_is _ (high_digit (n / 256 % 256))) (digit_is _ (low_digit (n / 256 % 256))) (digit_is _ (high_digit (n % 256))) (digit_is _ (low_digit (n % 256)))
+    four_read (front_digit (n / 256 % 256)) (back_digit (n / 256 % 256)) (front_digit (n % 256)) (back_digit (n % 256))
+    (n / 256 % 256 / 16 % 16) (n / 256 % 256 % 16) (n % 256 / 16 % 16) (n % 256 % 16) n
+    (digit_is _ (high_digit (n / 256 % 256))) (digit_is _ (low_digit (n / 256 % 256)))
+    (digit_is _ (high_digit (n % 256))) (digit_is _ (low_digit (n % 256)))
     (high_digit (n / 256 % 256)) (low_digit (n / 256 % 256)) (high_digit (n % 256)) (low_digit (n % 256))
     (omega (arith, high, low, whole))

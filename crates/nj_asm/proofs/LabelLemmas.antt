@@ -10,7 +10,8 @@ pub none_is : (home : Option Home) → is_some home ≡ false → home ≡ None
 none_is None absent = refl
 none_is (Some home) absent = absurd cc
 
-noted_by : (b : Bool) (before : Option Home) (home : Home) → (b ≡ true → before ≡ None) → cond b (Some home) before ≡ option_or before (cond b (Some home) None)
+noted_by : (b : Bool) (before : Option Home) (home : Home) → (b ≡ true → before ≡ None)
+    → cond b (Some home) before ≡ option_or before (cond b (Some home) None)
 noted_by true None home h = refl
 noted_by true (Some other) home h = let none : Some other ≡ None = h refl in absurd cc
 noted_by false None home h = refl

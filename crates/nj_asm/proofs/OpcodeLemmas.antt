@@ -16,7 +16,8 @@ use Rattle.nj_isa.specs.Timing.{is_jam}
 use Rattle.nj_asm_lines.specs.Grammar.{number_of, is_spelled, is_row, is_code, first_code, opcode_of, is_mnemonic}
 
 -- functions that list the same 256 values agree below 256
-agree : {A : Type 0} (f g : ℕ → A) → map f (range_with_len 0 256) ≡ map g (range_with_len 0 256) → (n : ℕ) → n < 256 → f n ≡ g n
+agree : {A : Type 0} (f g : ℕ → A) → map f (range_with_len 0 256) ≡ map g (range_with_len 0 256) → (n : ℕ)
+    → n < 256 → f n ≡ g n
 agree f g e n h =
     sym (get_or-map-range_with_len f 0 256 n n (f n) h (omega arith))
     ∙ ap (λ xs. get_or xs n (f n)) e
@@ -83,7 +84,8 @@ chosen b m n h e = ap (λ (t : Bool). cond t m n) (sym h) ∙ e
 
 place_by_row : (keys : List ℕ) → map (place_in keys) (range_with_len 0 256) ≡ map (λ n. n) (range_with_len 0 256) →
     (n : ℕ) → n < 256 → is_official n ≡ true → place keys (row_key n) ≡ n
-place_by_row keys e n h official = chosen (is_official n) (place keys (row_key n)) n official (agree (place_in keys) (λ k. k) e n h)
+place_by_row keys e n h official =
+    chosen (is_official n) (place keys (row_key n)) n official (agree (place_in keys) (λ k. k) e n h)
 
 pub same_code : (j k : ℕ) → j < 256 → k < 256 → is_official j ≡ true → is_official k ≡ true →
     lowered (name_at j) ≡ lowered (name_at k) → number_of (row_of j).mode ≡ number_of (row_of k).mode → j ≡ k
@@ -101,9 +103,11 @@ all_branches : branches name_keys ≡ map (λ n. number_of (row_of n).mode == 12
 unfolding row_of name_of name_keys
 all_branches = refl
 
-branch_by_name : (keys : List ℕ) → branches keys ≡ map (λ n. number_of (row_of n).mode == 12) (range_with_len 0 256) → (n : ℕ) → n < 256 →
+branch_by_name : (keys : List ℕ) → branches keys ≡ map (λ n. number_of (row_of n).mode == 12) (range_with_len 0 256) →
+    (n : ℕ) → n < 256 →
     (number_of (row_of (place keys (name_key n))).mode == 12) ≡ (number_of (row_of n).mode == 12)
-branch_by_name keys e n h = agree (λ k. number_of (row_of (place keys (name_key k))).mode == 12) (λ k. number_of (row_of k).mode == 12) e n h
+branch_by_name keys e n h =
+    agree (λ k. number_of (row_of (place keys (name_key k))).mode == 12) (λ k. number_of (row_of k).mode == 12) e n h
 
 pub same_branch : (j k : ℕ) → j < 256 → k < 256 → lowered (name_at j) ≡ lowered (name_at k) →
     (number_of (row_of j).mode == 12) ≡ (number_of (row_of k).mode == 12)
@@ -127,7 +131,8 @@ pub word_at : (n : ℕ) → n < 256 → is_word (name_at n) ≡ true
 word_at n h = agree (λ k. is_word (name_at k)) (λ k. true) all_words n h
 
 -- no official opcode jams
-all_run : map (λ n. cond (is_official n) (is_jam (row_of n).op) false) (range_with_len 0 256) ≡ map (λ n. false) (range_with_len 0 256)
+all_run : map (λ n. cond (is_official n) (is_jam (row_of n).op) false) (range_with_len 0 256)
+    ≡ map (λ n. false) (range_with_len 0 256)
 unfolding row_of is_official
 all_run = refl
 
@@ -147,7 +152,8 @@ later test at k low fails passes = elim (eqb_tells at k) [ inl same ↦ here sam
     above other = omega arith
 
 -- a search among the codes finds the one that passes
-first_code_is_by : (test : ℕ → Bool) (at k : ℕ) (rest : Option ℕ) (b : Bool) → (b ≡ true → at ≡ k) → (b ≡ false → rest ≡ Some k) →
+first_code_is_by : (test : ℕ → Bool) (at k : ℕ) (rest : Option ℕ) (b : Bool) → (b ≡ true → at ≡ k) →
+    (b ≡ false → rest ≡ Some k) →
     cond b (Some at) rest ≡ Some k
 first_code_is_by test at k rest true here after = ap (λ (n : ℕ). Some n) (here refl)
 first_code_is_by test at k rest false here after = after refl
@@ -158,27 +164,33 @@ unfolding first_code
 first_code_is test at zero k low high passes one = absurd (omega arith)
 first_code_is test at (suc left) k low high passes one =
     first_code_is_by test at k (first_code test (at + 1) left) (test at) (λ h. one at (omega arith) h)
-    (λ h. first_code_is test (at + 1) left k (later test at k low h passes) (omega arith) passes (λ j within p. one j (omega arith) p))
+    (λ h. first_code_is test (at + 1) left k (later test at k low h passes) (omega arith) passes
+    (λ j within p. one j (omega arith) p))
 
 -- what it finds passes
 first_code_passes_by : (test : ℕ → Bool) (at end k : ℕ) (rest : Option ℕ) (b : Bool) → test at ≡ b → at < end →
     (rest ≡ Some k → (k < end) × (test k ≡ true)) → cond b (Some at) rest ≡ Some k → (k < end) × (test k ≡ true)
-first_code_passes_by test at end k rest true h low after e = let same : at ≡ k = cc in (omega arith, ap test (sym same) ∙ h)
+first_code_passes_by test at end k rest true h low after e = let same : at ≡ k =
+    cc in (omega arith, ap test (sym same) ∙ h)
 first_code_passes_by test at end k rest false h low after e = after e
 
-pub first_code_passes : (test : ℕ → Bool) (at left k : ℕ) → first_code test at left ≡ Some k → (k < at + left) × (test k ≡ true)
+pub first_code_passes : (test : ℕ → Bool) (at left k : ℕ) → first_code test at left ≡ Some k
+    → (k < at + left) × (test k ≡ true)
 unfolding first_code
 first_code_passes test at zero k found = absurd (cc)
 first_code_passes test at (suc left) k found =
     first_code_passes_by test at (at + suc left) k (first_code test (at + 1) left) (test at) refl (omega arith)
-    (λ e. let rest : (k < (at + 1) + left) × (test k ≡ true) = first_code_passes test (at + 1) left k e in (omega (arith, rest.0), rest.1)) found
+    (λ e. let rest : (k < (at + 1) + left) × (test k ≡ true) = first_code_passes test (at + 1) left k e in
+    (omega (arith, rest.0), rest.1)) found
 
 -- it finds one where one passes
-first_code_some_by : (at : ℕ) (rest : Option ℕ) (b : Bool) → (b ≡ false → is_some rest ≡ true) → is_some (cond b (Some at) rest) ≡ true
+first_code_some_by : (at : ℕ) (rest : Option ℕ) (b : Bool) → (b ≡ false → is_some rest ≡ true)
+    → is_some (cond b (Some at) rest) ≡ true
 first_code_some_by at rest true after = refl
 first_code_some_by at rest false after = after refl
 
-first_code_some : (test : ℕ → Bool) (at left k : ℕ) → at ≤ k → k < at + left → test k ≡ true → is_some (first_code test at left) ≡ true
+first_code_some : (test : ℕ → Bool) (at left k : ℕ) → at ≤ k → k < at + left → test k ≡ true
+    → is_some (first_code test at left) ≡ true
 unfolding first_code
 first_code_some test at zero k low high passes = absurd (omega arith)
 first_code_some test at (suc left) k low high passes =
@@ -191,7 +203,8 @@ spelled_itself word = (bytes_eq-Decides (lowered word) (lowered word)).1 refl
 code_itself : (k : ℕ) → is_official k ≡ true → is_code (name_at k) (Some (row_of k).mode) k ≡ true
 code_itself k official =
     and_from (is_official k) _ official
-    (and_from _ _ (spelled_itself (name_at k)) ((Decides-eqb (number_of (row_of k).mode) (number_of (row_of k).mode)).1 refl))
+    (and_from _ _ (spelled_itself (name_at k))
+    ((Decides-eqb (number_of (row_of k).mode) (number_of (row_of k).mode)).1 refl))
 
 -- an official opcode with the mnemonic and the mode
 record IsNamed (word : List ℕ) (m : Mode) (j : ℕ) : Type 0 where
@@ -232,7 +245,8 @@ none_by None h = refl
 none_by (Some a) h = absurd (h a refl)
 
 -- a mnemonic that is not a branch's has no mode of branches
-pub no_branch : (k : ℕ) → k < 256 → (number_of (row_of k).mode == 12) ≡ false → opcode_of (name_at k) (Some Relative) ≡ None
+pub no_branch : (k : ℕ) → k < 256 → (number_of (row_of k).mode == 12) ≡ false
+    → opcode_of (name_at k) (Some Relative) ≡ None
 no_branch k h other =
     none_by (opcode_of (name_at k) (Some Relative)) (λ c found.
     let o = opcode_other k c Relative found in
@@ -243,8 +257,10 @@ no_branch k h other =
 -- the mode with a number
 abbrev back : ℕ → Mode
 back n =
-    cond (n == 0) Implied (cond (n == 1) Accumulator (cond (n == 2) Immediate (cond (n == 3) Zp (cond (n == 4) ZpX (cond (n == 5) ZpY
-    (cond (n == 6) Abs (cond (n == 7) AbsX (cond (n == 8) AbsY (cond (n == 9) IndX (cond (n == 10) IndY (cond (n == 11) Indirect Relative)))))))))))
+    cond (n == 0) Implied
+    (cond (n == 1) Accumulator (cond (n == 2) Immediate (cond (n == 3) Zp (cond (n == 4) ZpX (cond (n == 5) ZpY
+    (cond (n == 6) Abs (cond (n == 7) AbsX
+    (cond (n == 8) AbsY (cond (n == 9) IndX (cond (n == 10) IndY (cond (n == 11) Indirect Relative)))))))))))
 
 back_is : (m : Mode) → back (number_of m) ≡ m
 back_is Implied = refl
@@ -262,7 +278,8 @@ back_is Indirect = refl
 back_is Relative = refl
 
 -- the operation has no opcode in a mode
-pub no_mode : (k : ℕ) (m : Mode) → k < 256 → ((code : ℕ) → code < 256 → (row_of code).op ≡ (row_of k).op → m ≡ (row_of code).mode → ⊥) →
+pub no_mode : (k : ℕ) (m : Mode) → k < 256 →
+    ((code : ℕ) → code < 256 → (row_of code).op ≡ (row_of k).op → m ≡ (row_of code).mode → ⊥) →
     opcode_of (name_at k) (Some m) ≡ None
 no_mode k m h none =
     none_by (opcode_of (name_at k) (Some m)) (λ c found.

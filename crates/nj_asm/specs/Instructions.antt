@@ -1,5 +1,5 @@
--- Whole official instructions, and a listing as a source again. The layout is our own; modes and opcodes are those of the
--- MCS6500 Family Programming Manual.
+-- Whole official instructions, and a listing as a source again. The layout is our own; modes and opcodes are those of
+-- the MCS6500 Family Programming Manual.
 use Rattle.std.specs.Prelude.{◌≡◌, ℕ, ◌<◌, true, List, [], ◌∷◌, ◌++◌, length, drop, codes, slice_index, Option, Some, None}
 use Rattle.std.specs.List.{All, flat_map}
 use Rattle.nj_lines.specs.Lines.{lines}
@@ -29,14 +29,15 @@ short_mode AbsX = Some ZpX
 short_mode AbsY = Some ZpY
 short_mode _ = None
 
--- a whole official instruction, in its shortest form: its opcode is official, as many bytes stand behind it as its mode takes,
--- and an absolute address is below $100 only where the operation has no zero-page mode beside
+-- a whole official instruction, in its shortest form: its opcode is official, as many bytes stand behind it as its
+-- mode takes, and an absolute address is below $100 only where the operation has no zero-page mode beside
 pub record IsInstruction (i : Instruction) : Type 0 where
   pub byte : i.opcode < 256
   pub official : is_official i.opcode ≡ true
   pub whole : length (encoding i) ≡ length_of (row_of i.opcode).mode
   pub bytes : All (λ b. b < 256) i.operand
-  pub short : (code : ℕ) → code < 256 → (row_of code).op ≡ (row_of i.opcode).op → short_mode (row_of i.opcode).mode ≡ Some (row_of code).mode → 0 < slice_index i.operand 1
+  pub short : (code : ℕ) → code < 256 → (row_of code).op ≡ (row_of i.opcode).op
+      → short_mode (row_of i.opcode).mode ≡ Some (row_of code).mode → 0 < slice_index i.operand 1
 
 -- the statements of a listing: what stands behind the columns of address and bytes
 abbrev pub statements_of : List ℕ → List ℕ

@@ -1,5 +1,5 @@
--- The listing of bytes: address, bytes, mnemonic and operand, one line an instruction. The layout is our own; mnemonics and
--- operands are spelled as in the MCS6500 Family Programming Manual.
+-- The listing of bytes: address, bytes, mnemonic and operand, one line an instruction. The layout is our own;
+-- mnemonics and operands are spelled as in the MCS6500 Family Programming Manual.
 use Rattle.std.specs.Prelude.{ℕ, zero, suc, ◌+◌, ◌-◌, ◌*◌, ◌/◌, ◌%◌, ◌==◌, ◌&&◌, not, nat_lt, Bool, false, List, [], ◌∷◌, ◌++◌, length, take, codes, slice_index, if◌then◌else◌}
 use Rattle.std.specs.List.{flat_map}
 use Rattle.nj_isa.specs.declared.modes.Mode.{Mode}

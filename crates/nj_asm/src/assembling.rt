@@ -31,8 +31,10 @@ fn emitted(
     origin: u16,
     lines: &[Line],
 ) -> Result<Seq<u8>, AsmRefused>
-    ensures bytes { IfOk result (λ bytes. (first_refused (homes labels.now) false origin 0 lines.now ≡ None) × (bytes ≡ bytes_from (homes labels.now) origin lines.now)) }
-    ensures refused { IfErr result (λ refusal. (refusal ≡ AsmRefused.NoMemory) ⊎ (first_refused (homes labels.now) false origin 0 lines.now ≡ Some refusal)) }
+    ensures bytes { IfOk result (λ bytes. (first_refused (homes labels.now) false origin 0 lines.now ≡ None)
+        × (bytes ≡ bytes_from (homes labels.now) origin lines.now)) }
+    ensures refused { IfErr result (λ refusal. (refusal ≡ AsmRefused.NoMemory)
+        ⊎ (first_refused (homes labels.now) false origin 0 lines.now ≡ Some refusal)) }
 {
     let mut bytes = Seq::new(alloc);
     let mut at = u32::from(origin);
@@ -50,7 +52,8 @@ fn emitted(
 
 #[tactic(auto, unfolding(crate::specs::Assembly::assembly_in))]
 fn assemble_lines(alloc: Global, lines: &[Line]) -> Result<Assembled, AsmRefused>
-    ensures { MatchResult result (λ assembled. assembly_in lines.now ≡ Ok assembled) (λ refusal. (refusal ≡ AsmRefused.NoMemory) ⊎ (assembly_in lines.now ≡ Err refusal)) }
+    ensures { MatchResult result (λ assembled. assembly_in lines.now ≡ Ok assembled)
+        (λ refusal. (refusal ≡ AsmRefused.NoMemory) ⊎ (assembly_in lines.now ≡ Err refusal)) }
 {
     let origin = origin_of(lines);
     let labels = homes_of(alloc, origin, lines)?;
@@ -62,7 +65,8 @@ fn assemble_lines(alloc: Global, lines: &[Line]) -> Result<Assembled, AsmRefused
 #[tactic(auto, unfolding(crate::specs::Assembly::assembly_of))]
 pub fn assemble(alloc: Global, source: &[u8]) -> Result<Assembled, AsmRefused>
     ensures assembled { IfOk result (λ assembled. assembly_of source.now ≡ Ok assembled) }
-    ensures refused { IfErr result (λ refusal. (refusal ≡ AsmRefused.NoMemory) ⊎ (assembly_of source.now ≡ Err refusal)) }
+    ensures refused { IfErr result
+        (λ refusal. (refusal ≡ AsmRefused.NoMemory) ⊎ (assembly_of source.now ≡ Err refusal)) }
 {
     let lines = read_lines(alloc, source)?;
     assemble_lines(alloc, lines.as_slice())

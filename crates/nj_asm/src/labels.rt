@@ -96,7 +96,8 @@ fn note(
     label: &Option<Text>,
     home: Home,
 ) -> Result<(), AllocError>
-    ensures { OnOk result ((name : List ℕ) → homes labels.new name ≡ option_or (homes labels.old name) (if is_labelled name label.now then Some home else None)) }
+    ensures { OnOk result ((name : List ℕ) → homes labels.new name
+        ≡ option_or (homes labels.old name) (if is_labelled name label.now then Some home else None)) }
 {
     let Some(name) = label else {
         return Ok(());

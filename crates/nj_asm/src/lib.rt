@@ -1,7 +1,8 @@
-//! An assembler for the NMOS 6502 and the listing of assembled bytes. The lines of a source are read, then its labels get
-//! their values, then its bytes are made, or its first refused line is told. The assembler knows the 151 official opcodes;
-//! the listing prints each opcode that does not jam, and so the listing of official instructions in their shortest form
-//! assembles again. Read `assembly_of` (specs/Assembly.antt) and `listing_of` (specs/Listing.antt) first.
+//! An assembler for the NMOS 6502 and the listing of assembled bytes. The lines of a source are read, then its labels
+//! get their values, then its bytes are made, or its first refused line is told. The assembler knows the 151 official
+//! opcodes; the listing prints each opcode that does not jam, and so the listing of official instructions in their
+//! shortest form assembles again. Read `assembly_of` (specs/Assembly.antt) and `listing_of` (specs/Listing.antt)
+//! first.
 #![tactic(auto)]
 
 mod assembling;

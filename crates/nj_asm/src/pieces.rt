@@ -18,6 +18,7 @@ fn hex_digit(number: u8) -> u8
     }
 }
 
+/// Adds a byte as two hexadecimal digits, the letters among them as capitals.
 #[tactic(auto, unfolding(crate::specs::Listing::hex2))]
 pub fn push_hex2(text: &mut Vec<u8>, byte: u8) -> Result<(), AllocError>
     ensures { OnOk result (text.new.items ≡ text.old.items ++ hex2 byte) }

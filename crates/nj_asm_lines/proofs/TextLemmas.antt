@@ -13,7 +13,8 @@ use Rattle.nj_asm_lines.specs.Words.{is_name_byte, is_name}
 use Rattle.std.proofs.lemmas.List.Sums.{prefix_len-le-length}
 
 -- the place that a search finds, or the end
-place_or_end : (place end : ℕ) (found : Bool) → ltb place end ≡ found → place ≤ end → unwrap_or (cond found (Some place) None) end ≡ place
+place_or_end : (place end : ℕ) (found : Bool) → ltb place end ≡ found → place ≤ end
+    → unwrap_or (cond found (Some place) None) end ≡ place
 place_or_end place end true found within = refl
 place_or_end place end false found within = let beyond : end ≤ place = ltb-false place end found in omega arith
 
@@ -28,7 +29,8 @@ pub product_fits : (n r : ℕ) → n ≤ 65536 → r ≤ 16 → n * r ≤ 104857
 product_fits n r small few = grind arith
 
 -- a clipped number, one digit on
-clip_both_by : (radix n d : ℕ) → 0 < radix → n ≤ 65536 ⊎ 65536 < n → min 65536 (min 65536 n * radix + d) ≡ min 65536 (n * radix + d)
+clip_both_by : (radix n d : ℕ) → 0 < radix → n ≤ 65536 ⊎ 65536 < n
+    → min 65536 (min 65536 n * radix + d) ≡ min 65536 (n * radix + d)
 clip_both_by radix n d some (inl small) = let same : min 65536 n ≡ n = omega arith in rw same
 clip_both_by radix n d some (inr large) =
     let clipped : min 65536 n ≡ 65536 = omega arith in
@@ -38,7 +40,10 @@ clip_both_by radix n d some (inr large) =
 
 clip_both : (radix n d : ℕ) → 0 < radix → min 65536 (min 65536 n * radix + d) ≡ min 65536 (n * radix + d)
 clip_both radix n d some =
-    elim (leb_tells n 65536) [ inl t ↦ clip_both_by radix n d some (inl t.1) | inr t ↦ clip_both_by radix n d some (inr t.1) ]
+    elim (leb_tells n 65536) [
+      | inl t ↦ clip_both_by radix n d some (inl t.1)
+      | inr t ↦ clip_both_by radix n d some (inr t.1)
+    ]
 
 -- a number may be clipped before its further digits are read
 pub clip_early : (radix n : ℕ) (digits : List ℕ) → 0 < radix →
@@ -57,7 +62,8 @@ pub clipped_step : (radix number i next : ℕ) (text : List ℕ) (goal : ℕ) �
 clipped_step radix number i next text goal some within is before =
     ap (λ m. min 65536 (digits_value_after radix m (drop (i + 1) text))) is
     ∙ clip_early radix (number * radix + digit_value (get_or text i 0)) (drop (i + 1) text) some
-    ∙ ap (λ (ds : List ℕ). min 65536 (digits_value_after radix number ds)) (sym (drop-cons text i 0 within ∙ ap (λ n. get_or text i 0 ∷ drop n text) (sym (add-one i))))
+    ∙ ap (λ (ds : List ℕ). min 65536 (digits_value_after radix number ds))
+    (sym (drop-cons text i 0 within ∙ ap (λ n. get_or text i 0 ∷ drop n text) (sym (add-one i))))
     ∙ before
 
 pub and_left : (a b : Bool) → (a && b) ≡ true → a ≡ true
@@ -80,4 +86,5 @@ IsAscii-from_name_bytes (byte ∷ bytes) h =
 
 pub IsUtf8-from_name : (text : List ℕ) → is_name text ≡ true → IsUtf8 text
 unfolding is_name
-IsUtf8-from_name text h = IsUtf8-from_ascii text (IsAscii-from_name_bytes text (and_right _ (list_all is_name_byte text) h))
+IsUtf8-from_name text h =
+    IsUtf8-from_ascii text (IsAscii-from_name_bytes text (and_right _ (list_all is_name_byte text) h))

@@ -87,7 +87,8 @@ fn high_of(alloc: Global, text: &[u8]) -> Result<Option<Value>, AllocError>
 }
 
 fn plain_of(alloc: Global, text: &[u8]) -> Result<Option<Value>, AllocError>
-    ensures { IfOk result (λ value. value ≡ option_or (literal_of 10 text.now) (option_map Value.Label (name_in text.now))) }
+    ensures { IfOk result
+        (λ value. value ≡ option_or (literal_of 10 text.now) (option_map Value.Label (name_in text.now))) }
 {
     if let Some(literal) = literal_of(10, text) {
         return Ok(Some(literal));

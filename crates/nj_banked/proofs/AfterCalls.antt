@@ -26,13 +26,15 @@ kept-on a b c first second =
       count = second.count ∙ first.count;
     }
 
-written-by : (m : Banks) (bank : ℕ) (b : Bool) → m.bank < bank_count m → bank < bank_count m → Stays m (cond b (with_bank m bank) m)
+written-by : (m : Banks) (bank : ℕ) (b : Bool) → m.bank < bank_count m → bank < bank_count m
+    → Stays m (cond b (with_bank m bank) m)
 written-by m bank true old new = record { kept = choice-kept m bank; bank = new }
 written-by m bank false old new = record { kept = kept-same m; bank = old }
 
 put-by : (m : Banks) (at value : ℕ) (b : Bool) → m.chr_ram ≡ b → m.bank < bank_count m →
     Stays m (cond b (record m { chr = slice_set m.chr at value }) m)
-put-by m at value true ram old = record { kept = put-kept m (slice_set m.chr at value) ram (length-set m.chr at value); bank = old }
+put-by m at value true ram old =
+    record { kept = put-kept m (slice_set m.chr at value) ram (length-set m.chr at value); bank = old }
 put-by m at value false ram old = record { kept = kept-same m; bank = old }
 
 call-stays : (m : Banks) (call : Call) → IsBanks m → IsCall (bank_count m) call → Stays m (after_call call m)
@@ -42,11 +44,13 @@ call-stays m (Writes at value) fits is =
 call-stays m (Puts at value) fits is = put-by m at value m.chr_ram refl fits.bank
 call-stays m (Chooses bank) fits is = record { kept = choice-kept m bank; bank = is }
 
-calls-count : (m n : Banks) (calls : List Call) → bank_count n ≡ bank_count m → AreCalls (bank_count m) calls → AreCalls (bank_count n) calls
+calls-count : (m n : Banks) (calls : List Call) → bank_count n ≡ bank_count m → AreCalls (bank_count m) calls
+    → AreCalls (bank_count n) calls
 calls-count m n calls same are = subst (λ count. AreCalls count calls) (sym same) are
 
 -- so does a list of calls
-pub calls-stay : (m : Banks) (calls : List Call) → IsBanks m → AreCalls (bank_count m) calls → IsKept m (after_calls calls m) × IsBanks (after_calls calls m)
+pub calls-stay : (m : Banks) (calls : List Call) → IsBanks m → AreCalls (bank_count m) calls
+    → IsKept m (after_calls calls m) × IsBanks (after_calls calls m)
 calls-stay m [] fits are = (kept-same m, fits)
 calls-stay m (call ∷ calls) fits are =
     let now = call-stays m call fits are.0 in

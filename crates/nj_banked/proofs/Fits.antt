@@ -1,8 +1,9 @@
 -- What the sizes of a board say of its banks and windows.
-use Rattle.std.proofs.Common.{◌≡◌, ◌==◌, ◌⊎◌, inl, inr, ℕ, ◌+◌, ◌-◌, ◌*◌, ◌/◌, ◌%◌, ◌<◌, ◌≤◌, true, false, List, length, get_or, refl, sym, ap, subst, ◌∙◌, arith, length-take, length-drop}
+use Rattle.std.proofs.Common.{◌≡◌, ◌==◌, ◌⊎◌, inl, inr, ℕ, ◌+◌, ◌-◌, ◌*◌, ◌/◌, ◌%◌, ◌<◌, ◌≤◌, nat_lt, Bool, true, false, List, length, get_or, refl, sym, ap, subst, ◌∙◌, arith, length-take, length-drop}
 use Rattle.std.proofs.lemmas.Bool.{cond-true, cond-false, lt-ltb, le-ltb}
 use Rattle.std.proofs.lemmas.List.{take_all}
-use Rattle.std.specs.Prelude.{slice_range}
+use Rattle.std.proofs.lemmas.Bool.Decides.{nat_tests}
+use Rattle.std.specs.Prelude.{slice_range, slice_index}
 use Rattle.nj_board.specs.Nrom.{IsProgram, program_byte}
 use Rattle.nj_banked.specs.Banks.{Banks, bank_count, IsUxromProgram, IsCnromPattern, IsNrom, IsUxrom, IsCnrom, IsBanks}
 use Rattle.nj_banked.specs.Banked.{windowed_byte, prg_byte, pattern_of}
@@ -31,16 +32,19 @@ pub uxrom-byte : (m : Banks) (at : ℕ) → m.mapper ≡ 2 → prg_byte m at ≡
 unfolding prg_byte
 uxrom-byte m at is = rw is refl
 
-pub low-byte : (prg : List ℕ) (bank at : ℕ) → at < 0xC000 → windowed_byte prg bank at ≡ get_or prg (16384 * bank + (at - 0x8000)) 0
+pub low-byte : (prg : List ℕ) (bank at : ℕ) → at < 0xC000
+    → windowed_byte prg bank at ≡ get_or prg (16384 * bank + (at - 0x8000)) 0
 unfolding windowed_byte
 low-byte prg bank at below = cond-true _ _ _ (lt-ltb at 0xC000 below)
 
-pub high-byte : (prg : List ℕ) (bank at : ℕ) → 0xC000 ≤ at → windowed_byte prg bank at ≡ get_or prg (length prg - 16384 + (at - 0xC000)) 0
+pub high-byte : (prg : List ℕ) (bank at : ℕ) → 0xC000 ≤ at
+    → windowed_byte prg bank at ≡ get_or prg (length prg - 16384 + (at - 0xC000)) 0
 unfolding windowed_byte
 high-byte prg bank at above = cond-false _ _ _ (le-ltb at 0xC000 above)
 
 -- NROM has its first 16 KiB at $8000 and its last at $C000
-fixed-low : (prg : List ℕ) (at : ℕ) → IsProgram prg → 0x8000 ≤ at → at < 0xC000 → (at - 0x8000) % length prg ≡ at - 0x8000
+fixed-low : (prg : List ℕ) (at : ℕ) → IsProgram prg → 0x8000 ≤ at → at < 0xC000
+    → (at - 0x8000) % length prg ≡ at - 0x8000
 fixed-low prg at (inl small) from below = rw small (omega arith)
 fixed-low prg at (inr large) from below = rw large (omega arith)
 
@@ -54,7 +58,8 @@ fixed-size prg (inl small) = (omega arith, omega arith)
 fixed-size prg (inr large) = (omega arith, omega arith)
 
 -- UxROM's program memory is that of its banks, which are at most 16
-pub uxrom-size : (prg : List ℕ) → IsUxromProgram prg → (16384 * (length prg / 16384) ≡ length prg) × (length prg ≤ 262144)
+pub uxrom-size : (prg : List ℕ) → IsUxromProgram prg
+    → (16384 * (length prg / 16384) ≡ length prg) × (length prg ≤ 262144)
 uxrom-size prg (inl e) = (rw e refl, omega arith)
 uxrom-size prg (inr (inl e)) = (rw e refl, omega arith)
 uxrom-size prg (inr (inr (inl e))) = (rw e refl, omega arith)
@@ -90,7 +95,8 @@ pub record IsPlace (m : Banks) (start base at : ℕ) : Type 0 where
   pub byte : get_or m.prg (start + at - base) 0 ≡ prg_byte m at
 
 -- the same of boards that have program memory as NROM has it
-fixed-place : (m : Banks) (n start base at place : ℕ) → m.mapper ≡ n → (n == 2) ≡ false → IsProgram m.prg → start ≤ 262144 →
+fixed-place : (m : Banks) (n start base at place : ℕ) → m.mapper ≡ n → (n == 2) ≡ false → IsProgram m.prg
+    → start ≤ 262144 →
     (at - 0x8000) % length m.prg ≡ place → start + at - base ≡ place → place < length m.prg → IsPlace m start base at
 fixed-place m n start base at place is other sized few first second inside =
     record {
@@ -99,14 +105,17 @@ fixed-place m n start base at place is other sized few first second inside =
       byte = ap (λ k. get_or m.prg k 0) (second ∙ sym first) ∙ sym (fixed-byte m at n is other);
     }
 
-fixed-low-place : (m : Banks) (n at : ℕ) → m.mapper ≡ n → (n == 2) ≡ false → IsProgram m.prg → 0x8000 ≤ at → at < 0xC000 →
+fixed-low-place : (m : Banks) (n at : ℕ) → m.mapper ≡ n → (n == 2) ≡ false → IsProgram m.prg → 0x8000 ≤ at → at < 0xC000
+    →
     IsPlace m (low_of m) 0x8000 at
 fixed-low-place m n at is other sized from below =
     let zero : low_of m ≡ 0 = low-zero m n is other in
-    fixed-place m n (low_of m) 0x8000 at (at - 0x8000) is other sized (omega arith) (fixed-low m.prg at sized from below)
+    fixed-place m n (low_of m) 0x8000 at (at - 0x8000) is other sized (omega arith)
+    (fixed-low m.prg at sized from below)
     (omega arith) (omega (arith, (fixed-size m.prg sized).0))
 
-fixed-high-place : (m : Banks) (n at : ℕ) → m.mapper ≡ n → (n == 2) ≡ false → IsProgram m.prg → 0xC000 ≤ at → at < 0x10000 →
+fixed-high-place : (m : Banks) (n at : ℕ) → m.mapper ≡ n → (n == 2) ≡ false → IsProgram m.prg → 0xC000 ≤ at
+    → at < 0x10000 →
     IsPlace m (length m.prg - 16384) 0xC000 at
 fixed-high-place m n at is other sized from below =
     let size = fixed-size m.prg sized in
@@ -114,7 +123,8 @@ fixed-high-place m n at is other sized from below =
     (fixed-high m.prg at sized from below) (omega arith) (omega arith)
 
 -- and of UxROM
-uxrom-low-place : (m : Banks) (at : ℕ) → IsUxrom m → m.bank < bank_count m → 0x8000 ≤ at → at < 0xC000 → IsPlace m (low_of m) 0x8000 at
+uxrom-low-place : (m : Banks) (at : ℕ) → IsUxrom m → m.bank < bank_count m → 0x8000 ≤ at → at < 0xC000
+    → IsPlace m (low_of m) 0x8000 at
 uxrom-low-place m at h bank from below =
     let start : low_of m ≡ 16384 * m.bank = low-bank m h.mapper in
     let few : m.bank < length m.prg / 16384 = subst (λ n. m.bank < n) (uxrom-count m h.mapper) bank in
@@ -123,17 +133,20 @@ uxrom-low-place m at h bank from below =
       few = omega (arith, size.0, size.1);
       inside = omega (arith, size.0, size.1);
       byte =
-          ap (λ k. get_or m.prg k 0) (omega arith) ∙ (sym (low-byte m.prg m.bank at below) ∙ sym (uxrom-byte m at h.mapper));
+          ap (λ k. get_or m.prg k 0) (omega arith)
+          ∙ (sym (low-byte m.prg m.bank at below) ∙ sym (uxrom-byte m at h.mapper));
     }
 
-uxrom-high-place : (m : Banks) (at : ℕ) → IsUxrom m → 0xC000 ≤ at → at < 0x10000 → IsPlace m (length m.prg - 16384) 0xC000 at
+uxrom-high-place : (m : Banks) (at : ℕ) → IsUxrom m → 0xC000 ≤ at → at < 0x10000
+    → IsPlace m (length m.prg - 16384) 0xC000 at
 uxrom-high-place m at h from below =
     let size = uxrom-size m.prg h.prg in
     record {
       few = omega (arith, size.1);
       inside = omega (arith, uxrom-least m.prg h.prg);
       byte =
-          ap (λ k. get_or m.prg k 0) (omega arith) ∙ (sym (high-byte m.prg m.bank at from) ∙ sym (uxrom-byte m at h.mapper));
+          ap (λ k. get_or m.prg k 0) (omega arith)
+          ∙ (sym (high-byte m.prg m.bank at from) ∙ sym (uxrom-byte m at h.mapper));
     }
 
 -- what a read by a kept number needs and gives
@@ -143,7 +156,8 @@ pub record IsSeen (m : Banks) (kept at : ℕ) : Type 0 where
   pub inside : kept + at - 65536 < length m.prg
   pub byte : get_or m.prg (kept + at - 65536) 0 ≡ prg_byte m at
 
-seen : (m : Banks) (kept start base at : ℕ) → IsPlace m start base at → kept + base ≡ start + 65536 → kept ≤ 294912 → base ≤ at → IsSeen m kept at
+seen : (m : Banks) (kept start base at : ℕ) → IsPlace m start base at → kept + base ≡ start + 65536 → kept ≤ 294912
+    → base ≤ at → IsSeen m kept at
 seen m kept start base at place same few from =
     record {
       few = few;
@@ -153,7 +167,8 @@ seen m kept start base at place same few from =
     }
 
 -- the windows of every board
-pub low-seen : (m : Banks) (low high pattern at : ℕ) → IsWindowed m low high pattern → 0x8000 ≤ at → at < 0xC000 → IsSeen m low at
+pub low-seen : (m : Banks) (low high pattern at : ℕ) → IsWindowed m low high pattern → 0x8000 ≤ at → at < 0xC000
+    → IsSeen m low at
 low-seen m low high pattern at is from below =
     let place = go is.fits.board in
     seen m low (low_of m) 0x8000 at place (omega (arith, is.low_is)) (omega (arith, is.low_is, place.few)) from
@@ -163,11 +178,13 @@ low-seen m low high pattern at is from below =
     go (inr (inl h)) = uxrom-low-place m at h is.fits.bank from below
     go (inr (inr h)) = fixed-low-place m 3 at h.mapper refl h.prg from below
 
-pub high-seen : (m : Banks) (low high pattern at : ℕ) → IsWindowed m low high pattern → 0xC000 ≤ at → at < 0x10000 → IsSeen m high at
+pub high-seen : (m : Banks) (low high pattern at : ℕ) → IsWindowed m low high pattern → 0xC000 ≤ at → at < 0x10000
+    → IsSeen m high at
 high-seen m low high pattern at is from below =
     let place = go is.fits.board in
     let size = least is.fits.board in
-    seen m high (length m.prg - 16384) 0xC000 at place (omega (arith, is.high_is, size)) (omega (arith, is.high_is, place.few)) from
+    seen m high (length m.prg - 16384) 0xC000 at place (omega (arith, is.high_is, size))
+    (omega (arith, is.high_is, place.few)) from
   where
     go : IsNrom m ⊎ (IsUxrom m ⊎ IsCnrom m) → IsPlace m (length m.prg - 16384) 0xC000 at
     go (inl h) = fixed-high-place m 0 at h.mapper refl h.prg from below
@@ -179,8 +196,25 @@ high-seen m low high pattern at is from below =
     least (inr (inl h)) = omega (arith, uxrom-least m.prg h.prg)
     least (inr (inr h)) = (fixed-size m.prg h.prg).0
 
+-- and each by the address
+pub window-seen : (m : Banks) (windows : List ℕ) (pattern at : ℕ)
+    → IsWindowed m (slice_index windows 0) (slice_index windows 1) pattern →
+    0x8000 ≤ at → at < 0x10000 → IsSeen m (slice_index windows (at / 0x4000 - 2)) at
+window-seen m windows pattern at is from below = go (nat_lt at 0xC000) refl
+  where
+    go : (b : Bool) → nat_lt at 0xC000 ≡ b → IsSeen m (slice_index windows (at / 0x4000 - 2)) at
+    go true e =
+        let low : at < 0xC000 = grind (arith, nat_tests, e) in
+        let place : 0 ≡ at / 0x4000 - 2 = omega (arith, low, from) in
+        subst (λ i. IsSeen m (slice_index windows i) at) place (low-seen m _ _ pattern at is from low)
+    go false e =
+        let high : 0xC000 ≤ at = grind (arith, nat_tests, e) in
+        let place : 1 ≡ at / 0x4000 - 2 = omega (arith, high, below) in
+        subst (λ i. IsSeen m (slice_index windows i) at) place (high-seen m _ _ pattern at is high below)
+
 -- a piece of a memory is as long as its places are apart
-length-piece : (memory : List ℕ) (from to size : ℕ) → to ≤ length memory → from + size ≡ to → length (slice_range memory from to) ≡ size
+length-piece : (memory : List ℕ) (from to size : ℕ) → to ≤ length memory → from + size ≡ to
+    → length (slice_range memory from to) ≡ size
 length-piece memory from to size fits ends = grind (arith, length-drop {A = ℕ}, length-take {A = ℕ})
 
 -- the picture's window
@@ -210,7 +244,8 @@ whole-view m n is other size =
       inside = omega arith;
       few = omega arith;
       bytes =
-          ap (λ k. slice_range m.chr k (k + 8192)) zero ∙ (take_all 8192 m.chr (omega arith) ∙ sym (whole-pattern m n is other));
+          ap (λ k. slice_range m.chr k (k + 8192)) zero
+          ∙ (take_all 8192 m.chr (omega arith) ∙ sym (whole-pattern m n is other));
     }
 
 cnrom-view : (m : Banks) → IsCnrom m → m.bank < bank_count m → IsView m (pattern_at m)

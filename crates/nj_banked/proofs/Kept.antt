@@ -1,5 +1,5 @@
 -- What calls leave as it was, and that a board stays one.
-use Rattle.std.proofs.Common.{◌≡◌, ◌==◌, ◌⊎◌, inl, inr, ℕ, ◌+◌, ◌*◌, ◌<◌, Bool, true, false, cond, List, length, refl, sym, ap, subst, ◌∙◌, arith}
+use Rattle.std.proofs.Common.{◌≡◌, ◌==◌, ◌⊎◌, inl, inr, ℕ, ◌+◌, ◌*◌, ◌<◌, Bool, true, false, cond, List, length, slice_index, slice_set, [], ◌∷◌, refl, sym, ap, subst, ◌∙◌, arith}
 use Rattle.std.proofs.lemmas.Bool.{ne_eqb}
 use Rattle.nj_board.specs.Nrom.{IsProgram}
 use Rattle.nj_banked.specs.Banks.{Banks, begun, bank_count, IsNrom, IsUxrom, IsCnrom, IsBanks}
@@ -9,13 +9,15 @@ use Rattle.nj_banked.specs.Calls.{IsKept}
 use Rattle.nj_banked.proofs.Fits.{nrom-count, uxrom-count, cnrom-count, uxrom-least, cnrom-least, low-zero, low-bank, view-zero, view-bank}
 
 -- the number of banks is that of the mapper and the sizes
-pub same-count : (old new : Banks) → new.prg ≡ old.prg → new.mapper ≡ old.mapper → length new.chr ≡ length old.chr → bank_count new ≡ bank_count old
+pub same-count : (old new : Banks) → new.prg ≡ old.prg → new.mapper ≡ old.mapper → length new.chr ≡ length old.chr
+    → bank_count new ≡ bank_count old
 unfolding bank_count
 same-count old new prg mapper size = rw (mapper, prg, size) refl
 
 -- a board of the same memories, mapper and sizes is one of the same kind
 pub fits-kept : (old new : Banks) → IsKept old new → new.bank < bank_count old → IsBanks old → IsBanks new
-fits-kept old new kept bank fits = record { board = go fits.board; bank = subst (λ n. new.bank < n) (sym kept.count) bank }
+fits-kept old new kept bank fits =
+    record { board = go fits.board; bank = subst (λ n. new.bank < n) (sym kept.count) bank }
   where
     program : IsProgram old.prg → IsProgram new.prg
     program h = subst IsProgram (sym kept.prg) h
@@ -25,7 +27,9 @@ fits-kept old new kept bank fits = record { board = go fits.board; bank = subst 
     go (inr (inl h)) =
         inr (inl (record {
           mapper = kept.mapper ∙ h.mapper;
-          prg = subst (λ prg. (length prg ≡ 32768) ⊎ ((length prg ≡ 65536) ⊎ ((length prg ≡ 131072) ⊎ (length prg ≡ 262144)))) (sym kept.prg) h.prg;
+          prg = subst
+              (λ prg. (length prg ≡ 32768) ⊎ ((length prg ≡ 65536) ⊎ ((length prg ≡ 131072) ⊎ (length prg ≡ 262144))))
+              (sym kept.prg) h.prg;
           chr = kept.chr_size ∙ h.chr;
         }))
     go (inr (inr h)) =
@@ -39,10 +43,18 @@ fits-kept old new kept bank fits = record { board = go fits.board; bank = subst 
 -- the choice of a bank keeps all but it
 pub choice-kept : (m : Banks) (bank : ℕ) → IsKept m (with_bank m bank)
 choice-kept m bank =
-    record { prg = refl; mapper = refl; chr_ram = refl; rom = λ _. refl; chr_size = refl; count = same-count m (with_bank m bank) refl refl refl }
+    record {
+      prg = refl;
+      mapper = refl;
+      chr_ram = refl;
+      rom = λ _. refl;
+      chr_size = refl;
+      count = same-count m (with_bank m bank) refl refl refl;
+    }
 
 -- new pattern RAM keeps all but it
-pub put-kept : (m : Banks) (chr : List ℕ) → m.chr_ram ≡ true → length chr ≡ length m.chr → IsKept m (record m { chr = chr })
+pub put-kept : (m : Banks) (chr : List ℕ) → m.chr_ram ≡ true → length chr ≡ length m.chr
+    → IsKept m (record m { chr = chr })
 put-kept m chr ram size =
     record {
       prg = refl;
@@ -54,7 +66,8 @@ put-kept m chr ram size =
     }
 
 -- the windows of a board with other pattern RAM
-pub put-windowed : (m : Banks) (low high pattern : ℕ) (chr : List ℕ) → IsWindowed m low high pattern → m.chr_ram ≡ true → length chr ≡ length m.chr →
+pub put-windowed : (m : Banks) (low high pattern : ℕ) (chr : List ℕ) → IsWindowed m low high pattern → m.chr_ram ≡ true
+    → length chr ≡ length m.chr →
     IsWindowed (record m { chr = chr }) low high pattern
 put-windowed m low high pattern chr is ram size =
     record {
@@ -65,8 +78,10 @@ put-windowed m low high pattern chr is ram size =
     }
 
 -- a bank is chosen, and the windows stand where they are told
-moved : (m : Banks) (low high pattern bank new_low new_pattern : ℕ) → IsWindowed m low high pattern → bank < bank_count m →
-    new_low ≡ 32768 + low_of (with_bank m bank) → new_pattern ≡ pattern_at (with_bank m bank) → IsWindowed (with_bank m bank) new_low high new_pattern
+moved : (m : Banks) (low high pattern bank new_low new_pattern : ℕ) → IsWindowed m low high pattern
+    → bank < bank_count m →
+    new_low ≡ 32768 + low_of (with_bank m bank) → new_pattern ≡ pattern_at (with_bank m bank)
+    → IsWindowed (with_bank m bank) new_low high new_pattern
 moved m low high pattern bank new_low new_pattern is below low_is pattern_is =
     record {
       fits = fits-kept m (with_bank m bank) (choice-kept m bank) below is.fits;
@@ -76,25 +91,33 @@ moved m low high pattern bank new_low new_pattern is below low_is pattern_is =
     }
 
 -- with UxROM the low window moves, with CNROM the picture's, with NROM none
-pub uxrom-moved : (m : Banks) (low high pattern bank : ℕ) → IsWindowed m low high pattern → bank < bank_count m → m.mapper ≡ 2 →
+pub uxrom-moved : (m : Banks) (low high pattern bank : ℕ) → IsWindowed m low high pattern → bank < bank_count m
+    → m.mapper ≡ 2 →
     IsWindowed (with_bank m bank) (32768 + 16384 * bank) high pattern
 uxrom-moved m low high pattern bank is below two =
-    moved m low high pattern bank (32768 + 16384 * bank) pattern is below (ap (◌+◌ 32768) (sym (low-bank (with_bank m bank) two)))
+    moved m low high pattern bank (32768 + 16384 * bank) pattern is below
+    (ap (◌+◌ 32768) (sym (low-bank (with_bank m bank) two)))
     (is.pattern_is ∙ (view-zero m 2 two refl ∙ sym (view-zero (with_bank m bank) 2 two refl)))
 
-pub cnrom-moved : (m : Banks) (low high pattern bank : ℕ) → IsWindowed m low high pattern → bank < bank_count m → m.mapper ≡ 3 →
+pub cnrom-moved : (m : Banks) (low high pattern bank : ℕ) → IsWindowed m low high pattern → bank < bank_count m
+    → m.mapper ≡ 3 →
     IsWindowed (with_bank m bank) low high (8192 * bank)
 cnrom-moved m low high pattern bank is below three =
     moved m low high pattern bank low (8192 * bank) is below
     (is.low_is ∙ ap (◌+◌ 32768) (low-zero m 3 three refl ∙ sym (low-zero (with_bank m bank) 3 three refl)))
     (sym (view-bank (with_bank m bank) three))
 
-pub none-moved : (m : Banks) (low high pattern bank : ℕ) → IsWindowed m low high pattern → bank < bank_count m → (m.mapper ≡ 2 → ⊥) → (m.mapper ≡ 3 → ⊥) →
+pub none-moved : (m : Banks) (low high pattern bank : ℕ) → IsWindowed m low high pattern → bank < bank_count m
+    → (m.mapper ≡ 2 → ⊥) → (m.mapper ≡ 3 → ⊥) →
     IsWindowed (with_bank m bank) low high pattern
 none-moved m low high pattern bank is below two three =
     moved m low high pattern bank low pattern is below
-    (is.low_is ∙ ap (◌+◌ 32768) (low-zero m m.mapper refl (ne_eqb _ 2 two) ∙ sym (low-zero (with_bank m bank) m.mapper refl (ne_eqb _ 2 two))))
-    (is.pattern_is ∙ (view-zero m m.mapper refl (ne_eqb _ 3 three) ∙ sym (view-zero (with_bank m bank) m.mapper refl (ne_eqb _ 3 three))))
+    (is.low_is
+    ∙ ap (◌+◌ 32768) (low-zero m m.mapper refl (ne_eqb _ 2 two)
+    ∙ sym (low-zero (with_bank m bank) m.mapper refl (ne_eqb _ 2 two))))
+    (is.pattern_is
+    ∙ (view-zero m m.mapper refl (ne_eqb _ 3 three)
+    ∙ sym (view-zero (with_bank m bank) m.mapper refl (ne_eqb _ 3 three))))
 
 -- power just on, a cartridge's board shows bank 0
 some-first : (m : Banks) → IsNrom m ⊎ (IsUxrom m ⊎ IsCnrom m) → 0 < bank_count m
@@ -117,3 +140,9 @@ begun-windowed prg chr chr_ram mapper high board high_is =
     none : (b : Bool) → ◌≡◌ {A = ℕ} 0 (cond b 0 0)
     none true = refl
     none false = refl
+
+-- a new place of the first of two windows leaves the second
+pub set-first : (windows : List ℕ) (n : ℕ) → length windows ≡ 2 →
+    (slice_index (slice_set windows 0 n) 0 ≡ n) × (slice_index (slice_set windows 0 n) 1 ≡ slice_index windows 1)
+set-first [] n e = cc
+set-first (low ∷ rest) n e = (refl, refl)

@@ -11,7 +11,8 @@ use Rattle.nj_banked.proofs.Fits.{nrom-count, uxrom-count, cnrom-count, uxrom-si
 use Rattle.nj_banked.proofs.AfterCalls.{calls-stay}
 
 -- a byte of a piece of a memory
-piece-byte : (memory : List ℕ) (from size n : ℕ) → n < size → get_or memory (from + n) 0 ≡ slice_index (slice_range memory from (from + size)) n
+piece-byte : (memory : List ℕ) (from size n : ℕ) → n < size
+    → get_or memory (from + n) 0 ≡ slice_index (slice_range memory from (from + size)) n
 piece-byte memory from size n below =
     sym (get_or-take (from + size - from) (drop from memory) n 0 (omega arith) ∙ get_or-drop from memory n 0)
 
@@ -57,19 +58,23 @@ cnrom-shows m h bank =
       bank = subst (λ n. m.bank < n) (cnrom-count m h.mapper) bank;
     }
 
-pub uxrom-after : (m : Banks) (calls : List Call) → IsBanks m → m.mapper ≡ 2 → AreCalls (bank_count m) calls → ShowsUxrom m.prg (after_calls calls m)
+pub uxrom-after : (m : Banks) (calls : List Call) → IsBanks m → m.mapper ≡ 2 → AreCalls (bank_count m) calls
+    → ShowsUxrom m.prg (after_calls calls m)
 uxrom-after m calls fits two are =
     let stay = calls-stay m calls fits are in
     let now : Banks = after_calls calls m in
-    subst (λ prg. ShowsUxrom prg now) stay.0.prg (uxrom-shows now (is-uxrom now (stay.0.mapper ∙ two) stay.1.board) stay.1.bank)
+    subst (λ prg. ShowsUxrom prg now) stay.0.prg
+    (uxrom-shows now (is-uxrom now (stay.0.mapper ∙ two) stay.1.board) stay.1.bank)
 
-pub cnrom-after : (m : Banks) (calls : List Call) → IsBanks m → m.mapper ≡ 3 → AreCalls (bank_count m) calls → ShowsCnrom m.prg m.chr (after_calls calls m)
+pub cnrom-after : (m : Banks) (calls : List Call) → IsBanks m → m.mapper ≡ 3 → AreCalls (bank_count m) calls
+    → ShowsCnrom m.prg m.chr (after_calls calls m)
 cnrom-after m calls fits three are =
     let stay = calls-stay m calls fits are in
     let now : Banks = after_calls calls m in
     let rom = stay.0.rom (is-cnrom m three fits.board).rom in
     subst (λ prg. ShowsCnrom prg m.chr now) stay.0.prg
-    (subst (λ chr. ShowsCnrom now.prg chr now) rom (cnrom-shows now (is-cnrom now (stay.0.mapper ∙ three) stay.1.board) stay.1.bank))
+    (subst (λ chr. ShowsCnrom now.prg chr now) rom
+    (cnrom-shows now (is-cnrom now (stay.0.mapper ∙ three) stay.1.board) stay.1.bank))
 
 -- the last write from $8000 on chooses the bank
 written-bank : (m : Banks) (at value : ℕ) → 0x8000 ≤ at → (written m at value).bank ≡ chosen_by m at value

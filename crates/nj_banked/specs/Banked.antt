@@ -1,5 +1,5 @@
--- What the boards UxROM and CNROM do: NESdev Wiki, "UxROM", "CNROM" and "Bus conflict". That the written value meets the
--- byte that is read there, on every cartridge, is our own.
+-- What the boards UxROM and CNROM do: NESdev Wiki, "UxROM", "CNROM" and "Bus conflict". That the written value meets
+-- the byte that is read there, on every cartridge, is our own.
 use Rattle.std.specs.Prelude.{ℕ, ◌+◌, ◌-◌, ◌*◌, ◌%◌, ◌==◌, nat_le, nat_lt, if◌then◌else◌, List, length, slice_index, slice_range, slice_set, Option, Some, None, bit_and}
 use Rattle.nj_board.specs.Board.{BoardActs}
 use Rattle.nj_board.specs.Nrom.{program_byte}

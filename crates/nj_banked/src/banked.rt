@@ -32,29 +32,42 @@ pub struct Banked {
     chr_ram: bool,
     mapper: u16,
     bank: u8,
-    // Where in program memory the byte at an address stands is the address and this number less 64 KiB: one number for
-    // the window at $8000, one for that at $C000.
-    low: usize,
-    high: usize,
+    // Where in program memory the byte at an address stands is the address and this number less 64 KiB: the first
+    // number for the window at $8000, the second for that at $C000.
+    windows: [usize; 2],
     // Where in pattern memory the picture's window begins.
     pattern: usize,
 }
 
 impl Model for Banked {
     ghost use Rattle.nj_banked.specs.Banks.{Banks};
+    ghost use Rattle.std.specs.Prelude.{slice_index};
     ghost use Rattle.nj_banked.specs.Windows.{IsWindowed};
 
     ghost Value = { Banks };
 
-    ghost view = { λ b. record { prg = b.prg.items; chr = b.chr.items; chr_ram = b.chr_ram; mapper = b.mapper; bank = b.bank } };
+    ghost view = { λ b. record {
+      prg = b.prg.items;
+      chr = b.chr.items;
+      chr_ram = b.chr_ram;
+      mapper = b.mapper;
+      bank = b.bank;
+    } };
 
-    ghost invariant = { λ b. IsWindowed (record { prg = b.prg.items; chr = b.chr.items; chr_ram = b.chr_ram; mapper = b.mapper; bank = b.bank }) b.low b.high b.pattern };
+    ghost invariant = { λ b. IsWindowed (record {
+      prg = b.prg.items;
+      chr = b.chr.items;
+      chr_ram = b.chr_ram;
+      mapper = b.mapper;
+      bank = b.bank;
+    }) (slice_index b.windows 0) (slice_index b.windows 1) b.pattern };
 }
 
 impl Banked {
     /// The board of a cartridge of UxROM (mapper 2) or CNROM (mapper 3). Bank 0 is chosen.
     pub fn new(prg: Vec<u8>, chr: Vec<u8>, chr_ram: bool, mapper: u16) -> Banked
-        requires { IsUxrom (begun prg.items chr.items chr_ram mapper) ⊎ IsCnrom (begun prg.items chr.items chr_ram mapper) }
+        requires { IsUxrom (begun prg.items chr.items chr_ram mapper)
+            ⊎ IsCnrom (begun prg.items chr.items chr_ram mapper) }
         ensures { result ≡ begun prg.items chr.items chr_ram mapper }
     {
         let high = prg.len();
@@ -64,8 +77,7 @@ impl Banked {
             chr_ram,
             mapper,
             bank: 0,
-            low: LOWEST,
-            high,
+            windows: [LOWEST, high],
             pattern: 0,
         }
     }
@@ -82,8 +94,7 @@ impl Banked {
             chr_ram,
             mapper: 0,
             bank: 0,
-            low: LOWEST,
-            high,
+            windows: [LOWEST, high],
             pattern: 0,
         }
     }
@@ -131,11 +142,8 @@ impl Banked {
         requires { 0x8000 ≤ at }
         ensures { result ≡ prg_byte self.now at }
     {
-        if at < 0xC000 {
-            self.prg[self.low + at as usize - 0x10000]
-        } else {
-            self.prg[self.high + at as usize - 0x10000]
-        }
+        let window = self.windows[at as usize / PRG_BANK - 2];
+        self.prg[window + at as usize - 0x10000]
     }
 
     // Moves the windows to a bank.
@@ -145,7 +153,7 @@ impl Banked {
     {
         self.bank = bank;
         if self.mapper == UXROM {
-            self.low = LOWEST + PRG_BANK * bank as usize;
+            self.windows[0] = LOWEST + PRG_BANK * bank as usize;
         } else if self.mapper == CNROM {
             self.pattern = CHR_BANK * bank as usize;
         }

@@ -1,5 +1,5 @@
-//! The two machines side by side. They keep their pictures differently and are one machine in meaning: after every frame
-//! they have the same image.
+//! The two machines side by side. They keep their pictures differently and are one machine in meaning: after every
+//! frame they have the same image.
 #![tactic(auto)]
 
 ghost use Rattle.std.specs.Prelude.{◌≡◌, None, true, length, IfOk};
@@ -35,7 +35,8 @@ fn is_same_after<L: Ledger>(
     *image == *plain_image
 }
 
-// Plays a movie on both machines, which are in one state: the number of the first frame after which their images differ.
+// Plays a movie on both machines, which are in one state: the number of the first frame after which their images
+// differ.
 fn differs_after<L: Ledger>(
     blank: Blank,
     machine: &mut Machine,

@@ -3,8 +3,8 @@ use nj_asm::assemble;
 use nj_workload::make_workload;
 use std::test::Fail;
 
-// Rendering on, sprite zero waited for in each frame by reading $2002, the scroll set after it, a sprite copy and a read
-// of the pad at each NMI; Y of sprite zero goes up by one a frame, its X follows the pad.
+// Rendering on, sprite zero waited for in each frame by reading $2002, the scroll set after it, a sprite copy and a
+// read of the pad at each NMI; Y of sprite zero goes up by one a frame, its X follows the pad.
 const POLLS: &str = "
 .org $8000
         JMP reset
@@ -94,8 +94,8 @@ button: LDA $4016
         RTI
 ";
 
-// Every register of the picture written and read at any dot, with rendering switched on and off and NMIs let through and
-// held back in mid-frame.
+// Every register of the picture written and read at any dot, with rendering switched on and off and NMIs let through
+// and held back in mid-frame.
 const MEDDLES: &str = "
 .org $8000
         JMP loop

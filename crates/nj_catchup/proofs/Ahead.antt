@@ -59,22 +59,33 @@ pub record Past (k : ℕ) (s e : Screen) : Type 0 where
   pub place : place_of e.position + frame_dots (place_of s.position) (skips-of s) ≡ place_of s.position + k
 
 -- a dot in the next frame goes on, since the next event is before its end
-past-dot : (k : ℕ) (p : List ℕ) (s e : Screen) → IsScreen s → IsScreen e → suc k < to_event s → Past k s e → Past (suc k) s (dot_of p e)
+past-dot : (k : ℕ) (p : List ℕ) (s e : Screen) → IsScreen s → IsScreen e → suc k < to_event s → Past k s e
+    → Past (suc k) s (dot_of p e)
 past-dot k p s e fits there below h =
-    let close : to-event-at (place_of s.position) (skips-of s) + place_of s.position ≤ frame_dots (place_of s.position) (skips-of s) + 82183 =
+    let close : to-event-at (place_of s.position) (skips-of s) + place_of s.position
+    ≤ frame_dots (place_of s.position) (skips-of s) + 82183 =
     event-near (place_of s.position) (skips-of s) (place_of-lt s fits.placed) in
     let early : place_of e.position < 89340 = omega (arith, close, to_event-at s, below, h.place) in
     let next : GoesOn e (dot_of p e) = goes-on p e (not-last e early) in
-    let further : place_of (dot_of p e).position ≡ place_of e.position + 1 = ap place_of next.position ∙ place_of-after e.position there.placed.dot in
+    let further : place_of (dot_of p e).position ≡ place_of e.position + 1 =
+    ap place_of next.position ∙ place_of-after e.position there.placed.dot in
     record { place = omega (arith, further, h.place) }
 
 -- the frame's last dot ends it
-before-last : (k : ℕ) (s e : Screen) → IsScreen s → IsScreen e → Before k s e → is_last_dot e ≡ true → place_of s.position + suc k ≡ frame_dots (place_of s.position) (skips-of s)
+before-last : (k : ℕ) (s e : Screen) → IsScreen s → IsScreen e → Before k s e → is_last_dot e ≡ true
+    → place_of s.position + suc k ≡ frame_dots (place_of s.position) (skips-of s)
 before-last k s e fits there h last =
     let l : IsLastPlace e = last-place e last in
-    let same : skips-of e ≡ skips-of s = ap (λ b. b && is_rendering e.mask) h.odd_frame ∙ ap (λ m. s.odd_frame && is_rendering m) h.mask in
+    let same : skips-of e ≡ skips-of s =
+    ap (λ b. b && is_rendering e.mask) h.odd_frame ∙ ap (λ m. s.odd_frame && is_rendering m) h.mask in
     elim (cases_eq (place_of e.position) 89340) [
-      | inl at ↦ omega (arith, at, h.place, dots-odd (place_of s.position) (skips-of s) (omega (arith, at, h.place)) (sym same ∙ l.skips at))
+      | inl at ↦
+          omega (
+            arith,
+            at,
+            h.place,
+            dots-odd (place_of s.position) (skips-of s) (omega (arith, at, h.place)) (sym same ∙ l.skips at),
+          )
       | inr apart ↦ (elim (dots-cases (place_of s.position) (skips-of s)) [
         | inl whole ↦ omega (arith, apart, l.late, h.place, h.below, whole)
         | inr odd ↦ omega (arith, apart, l.late, h.place, h.below, odd.0)
@@ -82,18 +93,24 @@ before-last k s e fits there h last =
     ]
 
 -- another does not
-before-more : (k : ℕ) (s e : Screen) → IsScreen e → Before k s e → is_last_dot e ≡ false → place_of s.position + suc k < frame_dots (place_of s.position) (skips-of s)
+before-more : (k : ℕ) (s e : Screen) → IsScreen e → Before k s e → is_last_dot e ≡ false
+    → place_of s.position + suc k < frame_dots (place_of s.position) (skips-of s)
 before-more k s e there h goes_on =
-    let same : skips-of e ≡ skips-of s = ap (λ b. b && is_rendering e.mask) h.odd_frame ∙ ap (λ m. s.odd_frame && is_rendering m) h.mask in
+    let same : skips-of e ≡ skips-of s =
+    ap (λ b. b && is_rendering e.mask) h.odd_frame ∙ ap (λ m. s.odd_frame && is_rendering m) h.mask in
     elim (cases_lt (place_of s.position + suc k) (frame_dots (place_of s.position) (skips-of s))) [
       | inl below ↦ below
       | inr from ↦ (elim (dots-cases (place_of s.position) (skips-of s)) [
-        | inl whole ↦ absurd (true≢false (sym (is-last e there.placed (omega (arith, whole, from, h.place, h.below))) ∙ goes_on))
-        | inr odd ↦ absurd (true≢false (sym (is-last-odd e there.placed (omega (arith, odd.0, from, h.place, h.below)) (same ∙ odd.1)) ∙ goes_on))
+        | inl whole ↦
+            absurd (true≢false (sym (is-last e there.placed (omega (arith, whole, from, h.place, h.below))) ∙ goes_on))
+        | inr odd ↦
+            absurd (true≢false
+            (sym (is-last-odd e there.placed (omega (arith, odd.0, from, h.place, h.below)) (same ∙ odd.1)) ∙ goes_on))
       ])
     ]
 
-before-dot : (k : ℕ) (p : List ℕ) (s e : Screen) → IsScreen s → IsScreen e → Before k s e → Before (suc k) s (dot_of p e) ⊎ Past (suc k) s (dot_of p e)
+before-dot : (k : ℕ) (p : List ℕ) (s e : Screen) → IsScreen s → IsScreen e → Before k s e
+    → Before (suc k) s (dot_of p e) ⊎ Past (suc k) s (dot_of p e)
 before-dot k p s e fits there h = elim (cases_Bool (is_last_dot e)) [
   | inl last ↦ (
       let next : Restarts e (dot_of p e) = restarts p e last in
@@ -101,7 +118,8 @@ before-dot k p s e fits there h = elim (cases_Bool (is_last_dot e)) [
       inr (record { place = omega (arith, at, before-last k s e fits there h last) }))
   | inr goes_on ↦ (
       let next : GoesOn e (dot_of p e) = goes-on p e goes_on in
-      let further : place_of (dot_of p e).position ≡ place_of e.position + 1 = ap place_of next.position ∙ place_of-after e.position there.placed.dot in
+      let further : place_of (dot_of p e).position ≡ place_of e.position + 1 =
+      ap place_of next.position ∙ place_of-after e.position there.placed.dot in
       inl (record {
         place = omega (arith, further, h.place);
         below = before-more k s e there h goes_on;
@@ -110,10 +128,12 @@ before-dot k p s e fits there h = elim (cases_Bool (is_last_dot e)) [
       }))
 ]
 
-pub ahead : (k : ℕ) (p : List ℕ) (s : Screen) → IsScreen s → k < to_event s → Before k s (after_dots k p s) ⊎ Past k s (after_dots k p s)
+pub ahead : (k : ℕ) (p : List ℕ) (s : Screen) → IsScreen s → k < to_event s
+    → Before k s (after_dots k p s) ⊎ Past k s (after_dots k p s)
 unfolding after_dots
 ahead zero p s fits below =
-    let within : place_of s.position < frame_dots (place_of s.position) (skips-of s) = dots-above (place_of s.position) (skips-of s) (place_of-lt s fits.placed) in
+    let within : place_of s.position < frame_dots (place_of s.position) (skips-of s) =
+    dots-above (place_of s.position) (skips-of s) (place_of-lt s fits.placed) in
     inl (record { place = omega arith; below = omega (arith, within); odd_frame = refl; mask = refl })
 ahead (suc k) p s fits below =
     let there : IsScreen (after_dots k p s) = after_dots-fits k p s fits in
@@ -131,7 +151,8 @@ ahead-past : (k n m : ℕ) (skip : Bool) → m + frame_dots n skip ≡ n + k →
 unfolding place_ahead
 ahead-past k n m skip at = grind (arith, nat_tests, at)
 
-pub place-after : (k : ℕ) (p : List ℕ) (s : Screen) → IsScreen s → k < to_event s → place_ahead k (place_of s.position) (skips-of s) ≡ place_of (after_dots k p s).position
+pub place-after : (k : ℕ) (p : List ℕ) (s : Screen) → IsScreen s → k < to_event s
+    → place_ahead k (place_of s.position) (skips-of s) ≡ place_of (after_dots k p s).position
 place-after k p s fits below = elim (ahead k p s fits below) [
   | inl before ↦ ahead-in k (place_of s.position) _ (skips-of s) before.place before.below
   | inr past ↦ ahead-past k (place_of s.position) _ (skips-of s) past.place
@@ -144,7 +165,12 @@ position-at n q within at =
     let d : n % 341 ≡ q.dot = omega (arith, within, at) in
     (λ i. record { line = l i; dot = d i })
 
-pub position-after : (k : ℕ) (p : List ℕ) (s : Screen) → IsScreen s → k < to_event s → record { line = place_ahead k (place_of s.position) (skips-of s) / 341; dot = place_ahead k (place_of s.position) (skips-of s) % 341 } ≡ (after_dots k p s).position
+pub position-after : (k : ℕ) (p : List ℕ) (s : Screen) → IsScreen s → k < to_event s
+    → record {
+      line = place_ahead k (place_of s.position) (skips-of s) / 341;
+      dot = place_ahead k (place_of s.position) (skips-of s) % 341;
+    } ≡ (after_dots k p s).position
 position-after k p s fits below =
     let there : IsScreen (after_dots k p s) = after_dots-fits k p s fits in
-    position-at (place_ahead k (place_of s.position) (skips-of s)) (after_dots k p s).position there.placed.dot (place-after k p s fits below)
+    position-at (place_ahead k (place_of s.position) (skips-of s)) (after_dots k p s).position there.placed.dot
+    (place-after k p s fits below)

@@ -56,9 +56,14 @@ calm-dot p s apart =
     let a : is_next 241 1 (raised s) ≡ false = raised-next 241 1 s ∙ not-next 241 1 s (λ at. apart (inl at)) in
     let b : is_next 261 1 (raised s) ≡ false = raised-next 261 1 s ∙ not-next 261 1 s (λ at. apart (inr at)) in
     let still : flagged (raised s) ≡ raised s = flagged-apart (raised s) a b in
-    let begun : Calm s (flagged (raised s)) = record { same = still ∙ (let r : Calm s (raised s) = calm-raised s in r.same) ∙ ap (λ m. with_calm s m) (sym still) } in
+    let begun : Calm s (flagged (raised s)) =
+    record {
+      same = still ∙ (let r : Calm s (raised s) = calm-raised s in r.same)
+          ∙ ap (λ m. with_calm s m) (sym still);
+    } in
     calm-trans s (flagged (raised s)) _ begun
-    (calm-trans (flagged (raised s)) (drawn p (flagged (raised s))) _ (calm-drawn _ _ (stays-drawn p (flagged (raised s))))
+    (calm-trans (flagged (raised s)) (drawn p (flagged (raised s))) _
+    (calm-drawn _ _ (stays-drawn p (flagged (raised s))))
     (calm-moved (drawn p (flagged (raised s))) _ (moves-moved _)))
 
 pub calm-after : (k : ℕ) (p : List ℕ) (s : Screen) → IsScreen s → k < to_event s → Calm s (after_dots k p s)
@@ -68,11 +73,13 @@ calm-after (suc k) p s fits below =
     let e : Screen = after_dots k p s in
     let here : Calm s e = calm-after k p s fits (omega (arith, below)) in
     let left : to_event e + k ≡ to_event s = to_event-after k p s fits (omega (arith, below)) in
-    let apart : IsEvent e → ⊥ = λ at. (let one : to_event e ≡ 1 = event-one e at in absurd (omega (arith, one, left, below))) in
+    let apart : IsEvent e → ⊥ =
+    λ at. (let one : to_event e ≡ 1 = event-one e at in absurd (omega (arith, one, left, below))) in
     calm-trans s e _ here (calm-dot p e apart)
 
 -- so the NMI line and the mark stand
-pub nmi_line-after : (k : ℕ) (p : List ℕ) (s : Screen) → IsScreen s → k < to_event s → nmi_line_of (after_dots k p s) ≡ nmi_line_of s
+pub nmi_line-after : (k : ℕ) (p : List ℕ) (s : Screen) → IsScreen s → k < to_event s
+    → nmi_line_of (after_dots k p s) ≡ nmi_line_of s
 unfolding nmi_line_of
 nmi_line-after k p s fits below =
     let h : Calm s (after_dots k p s) = calm-after k p s fits below in ap (λ e. nmi_line_of e) h.same

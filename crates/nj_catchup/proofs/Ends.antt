@@ -25,8 +25,24 @@ record Apart (d : ℕ) : Type 0 where
 apart : (d : ℕ) → IsEnd d → Apart d
 unfolding IsEnd
 apart d h = elim h [
-  | inl late ↦ record { tile = grind (arith, nat_tests, late); latch = grind (arith, nat_tests, late); fetch = grind (arith, nat_tests, late); ahead = grind (arith, nat_tests, late); one = grind (arith, nat_tests, late) }
-  | inr first ↦ record { tile = grind (arith, nat_tests, first); latch = grind (arith, nat_tests, first); fetch = grind (arith, nat_tests, first); ahead = grind (arith, nat_tests, first); one = grind (arith, nat_tests, first) }
+  | inl late ↦
+      record {
+        tile = grind (arith, nat_tests, late);
+        latch = grind (arith, nat_tests, late);
+        fetch = grind (arith, nat_tests, late);
+        ahead = grind (arith, nat_tests, late);
+        one =
+            grind (arith, nat_tests, late);
+      }
+  | inr first ↦
+      record {
+        tile = grind (arith, nat_tests, first);
+        latch = grind (arith, nat_tests, first);
+        fetch = grind (arith, nat_tests, first);
+        ahead = grind (arith, nat_tests, first);
+        one =
+            grind (arith, nat_tests, first);
+      }
 ]
 
 shown-end : (p : List ℕ) (s : Screen) → Apart s.position.dot → shown p s ≡ s
@@ -39,7 +55,9 @@ hidden-end s h = if-false _ _ _ h.latch
 
 drawn-end : (p : List ℕ) (s : Screen) → Apart s.position.dot → drawn p s ≡ s
 unfolding drawn
-drawn-end p s h = either (is_drawn_line s.position.line) _ s s (either (is_rendering s.mask) (shown p s) (hidden s) s (shown-end p s h) (hidden-end s h)) refl
+drawn-end p s h =
+    either (is_drawn_line s.position.line) _ s s
+    (either (is_rendering s.mask) (shown p s) (hidden s) s (shown-end p s h) (hidden-end s h)) refl
 
 and-false : (a b : Bool) → b ≡ false → (a && b) ≡ false
 and-false true b h = h
@@ -57,7 +75,8 @@ moved-end : (s : Screen) → s.position.line < 261 → moved s ≡ at_next s
 unfolding moved advanced is_last_dot is_next
 moved-end s line = if-false (is_last_dot s) _ _ (grind (arith, nat_tests, line))
 
-end-dot : (p : List ℕ) (s : Screen) → s.near ≡ false → s.position.line < 261 → IsEnd s.position.dot → dot_of p s ≡ at_next s
+end-dot : (p : List ℕ) (s : Screen) → s.near ≡ false → s.position.line < 261 → IsEnd s.position.dot
+    → dot_of p s ≡ at_next s
 unfolding dot_of
 end-dot p s far line end =
     let h : Apart s.position.dot = apart s.position.dot end in
@@ -74,7 +93,8 @@ unfolding after_position
 next-last q last = if-true (q.dot == 340) _ _ (eq-eqb _ _ last)
 
 -- up to the line's last dot
-to-last : (n : ℕ) (p : List ℕ) (s : Screen) → s.near ≡ false → s.position.line < 261 → 337 ≤ s.position.dot → s.position.dot + n ≤ 340 → after_dots n p s ≡ at_dot s (s.position.dot + n)
+to-last : (n : ℕ) (p : List ℕ) (s : Screen) → s.near ≡ false → s.position.line < 261 → 337 ≤ s.position.dot
+    → s.position.dot + n ≤ 340 → after_dots n p s ≡ at_dot s (s.position.dot + n)
 unfolding after_dots IsEnd
 to-last zero p s far line from last = let e : s.position.dot ≡ s.position.dot + zero = omega arith in ap (at_dot s) e
 to-last (suc n) p s far line from last =
@@ -86,7 +106,8 @@ to-last (suc n) p s far line from last =
     ∙ ap (at_dot s) on
 
 -- and two dots more
-pub line-ends : (k n : ℕ) (p : List ℕ) (s : Screen) → s.near ≡ false → s.position.line < 260 → 337 ≤ s.position.dot → s.position.dot + n ≡ 340 → k ≡ suc (suc n)
+pub line-ends : (k n : ℕ) (p : List ℕ) (s : Screen) → s.near ≡ false → s.position.line < 260 → 337 ≤ s.position.dot
+    → s.position.dot + n ≡ 340 → k ≡ suc (suc n)
     → record s { position = record { line = s.position.line + 1; dot = 1 } } ≡ after_dots k p s
 unfolding after_dots IsEnd
 line-ends k n p s far line from last count =
@@ -94,5 +115,7 @@ line-ends k n p s far line from last count =
     let f : Screen = record s { position = record { line = s.position.line + 1; dot = 0 } } in
     sym (ap (λ i. after_dots i p s) count
     ∙ ap (λ x. dot_of p (dot_of p x)) (to-last n p s far (omega (arith, line)) from (omega (arith, last)))
-    ∙ ap (dot_of p) (end-dot p e far (omega (arith, line)) (inl (omega (arith, from))) ∙ ap (λ q. record e { position = q }) (next-last e.position last))
-    ∙ end-dot p f far (omega (arith, line)) (inr refl) ∙ ap (λ q. record f { position = q }) (next-inner f.position (λ at. absurd (omega (arith, at)))))
+    ∙ ap (dot_of p) (end-dot p e far (omega (arith, line)) (inl (omega (arith, from)))
+    ∙ ap (λ q. record e { position = q }) (next-last e.position last))
+    ∙ end-dot p f far (omega (arith, line)) (inr refl)
+    ∙ ap (λ q. record f { position = q }) (next-inner f.position (λ at. absurd (omega (arith, at)))))

@@ -34,11 +34,13 @@ steady-less fallen d n p s fits less h =
       hit =
           same-flag s.sprite_zero_hit e.sprite_zero_hit (after_dots n p s).sprite_zero_hit
           (λ up. hit-after d p s fits (omega (arith, h.apart, less)) up)
-          (λ up. ap (λ x. x.sprite_zero_hit) (sym rest) ∙ hit-after (n - d) p e there (omega (arith, left, h.apart, less)) up) h.hit;
+          (λ up. ap (λ x. x.sprite_zero_hit) (sym rest)
+          ∙ hit-after (n - d) p e there (omega (arith, left, h.apart, less)) up) h.hit;
       overflow =
           same-flag s.sprite_overflow e.sprite_overflow (after_dots n p s).sprite_overflow
           (λ up. overflow-up fallen d p s fits (omega (arith, h.apart, less)) up)
-          (λ up. ap (λ x. x.sprite_overflow) (sym rest) ∙ overflow-up fallen (n - d) p e there (omega (arith, left, h.apart, less)) up) h.overflow;
+          (λ up. ap (λ x. x.sprite_overflow) (sym rest)
+          ∙ overflow-up fallen (n - d) p e there (omega (arith, left, h.apart, less)) up) h.overflow;
     }
 
 -- what was read stays read
@@ -56,10 +58,15 @@ read-after d p s fits steady h =
 read-again : (s : Screen) → is_next 241 1 s ≡ false → IsRead s → after_status s ≡ s
 read-again s apart h =
     status-taken s apart
-    ∙ (λ i. record s { latch = sym h.latch i; vertical_blank = sym h.vertical_blank i; scroll = (let c = s.scroll in record c { w = sym h.w i }) })
+    ∙ (λ i. record s {
+      latch = sym h.latch i;
+      vertical_blank = sym h.vertical_blank i;
+      scroll = (let c = s.scroll in record c { w = sym h.w i });
+    })
 
 -- the status is fixed
-pub fixed : IsFallen → (pending dots : ℕ) (p : List ℕ) (s : Screen) → IsScreen s → IsRead s → (0 < dots → IsSteady dots p s) →
+pub fixed : IsFallen → (pending dots : ℕ) (p : List ℕ) (s : Screen) → IsScreen s → IsRead s
+    → (0 < dots → IsSteady dots p s) →
     IsFixed s.latch (dots - pending) p (after_dots pending p s)
 fixed fallen pending dots p s fits was steady = record { byte = byte; same = same }
   where
@@ -74,11 +81,16 @@ fixed fallen pending dots p s fits was steady = record { byte = byte; same = sam
         ap (read_byte 2) (at d below) ∙ byte-two 2 (after_dots (d + pending) p s) refl
         ∙ status_byte-after (d + pending) p s fits (here d below) ∙ sym was.latch
 
-    same : (d : ℕ) → d < dots - pending → after_read 2 p (after_dots d p (after_dots pending p s)) ≡ after_dots d p (after_dots pending p s)
+    same : (d : ℕ) → d < dots - pending
+        → after_read 2 p (after_dots d p (after_dots pending p s)) ≡ after_dots d p (after_dots pending p s)
     same d below =
         let e : Screen = after_dots (d + pending) p s in
         let steady_here : IsSteady (d + pending) p s = here d below in
-        let left : to_event e + (d + pending) ≡ to_event s = to_event-after (d + pending) p s fits (omega (arith, steady_here.apart)) in
-        let apart : is_next 241 1 e ≡ false = not-next 241 1 e (λ next. (let one : to_event e ≡ 1 = event-one e (inl next) in absurd (omega (arith, one, left, steady_here.apart)))) in
+        let left : to_event e + (d + pending) ≡ to_event s =
+        to_event-after (d + pending) p s fits (omega (arith, steady_here.apart)) in
+        let apart : is_next 241 1 e ≡ false =
+        not-next 241 1 e
+        (λ next. (let one : to_event e ≡ 1 =
+        event-one e (inl next) in absurd (omega (arith, one, left, steady_here.apart)))) in
         ap (after_read 2 p) (at d below) ∙ read-two 2 p e refl
         ∙ read-again e apart (read-after (d + pending) p s fits steady_here was) ∙ sym (at d below)

@@ -27,8 +27,10 @@ raised-far s far =
 fetched-idle : (s : Screen) → s.position.line < 240 → s.oam_address ≡ 0 → sprites_fetched s ≡ s
 unfolding sprites_fetched vertical_copied
 fetched-idle s line clear =
-    let visible : (s.position.line == 261 && nat_le 280 s.position.dot && nat_le s.position.dot 304) ≡ false = grind (arith, nat_tests, line) in
-    ap (λ (c : Scroll). record s { oam_address = 0; scroll = c }) (if-false (s.position.line == 261 && nat_le 280 s.position.dot && nat_le s.position.dot 304) _ _ visible)
+    let visible : (s.position.line == 261 && nat_le 280 s.position.dot && nat_le s.position.dot 304) ≡ false =
+    grind (arith, nat_tests, line) in
+    ap (λ (c : Scroll). record s { oam_address = 0; scroll = c })
+    (if-false (s.position.line == 261 && nat_le 280 s.position.dot && nat_le s.position.dot 304) _ _ visible)
     ∙ ap (λ n. record s { oam_address = n }) (sym clear)
 
 -- a choice whose ways are one
@@ -65,7 +67,8 @@ cleared-parts s h = (grind (arith, nat_tests, h), grind (arith, nat_tests, h))
 shown-idle : (p : List ℕ) (s : Screen) → Away (is_cleared s) s.position.dot → shown p s ≡ s
 unfolding shown
 shown-idle p s h =
-    if-false _ _ _ h.tile ∙ if-false _ _ _ h.latch ∙ elim (cases_Bool (nat_le 258 s.position.dot && nat_le s.position.dot 320)) [
+    if-false _ _ _ h.tile ∙ if-false _ _ _ h.latch
+    ∙ elim (cases_Bool (nat_le 258 s.position.dot && nat_le s.position.dot 320)) [
       | inl fetches ↦ if-true _ _ _ fetches ∙ (let c = cleared-parts s (h.fetch fetches) in fetched-idle s c.0 c.1)
       | inr does_not ↦ if-false _ _ _ does_not ∙ if-false _ _ _ h.ahead
     ]
@@ -90,11 +93,13 @@ parts shows renders cleared d idle = record {
   hidden_ = λ a b. grind (arith, nat_tests, idle, a, b);
 }
 
-drawn-idle : (p : List ℕ) (s : Screen) → Parts (is_drawn_line s.position.line) (is_rendering s.mask) (is_cleared s) s.position.dot → drawn p s ≡ s
+drawn-idle : (p : List ℕ) (s : Screen)
+    → Parts (is_drawn_line s.position.line) (is_rendering s.mask) (is_cleared s) s.position.dot → drawn p s ≡ s
 unfolding drawn
 drawn-idle p s h = elim (cases_Bool (is_drawn_line s.position.line)) [
   | inl draws ↦ if-true _ _ _ draws ∙ elim (cases_Bool (is_rendering s.mask)) [
-    | inl renders ↦ if-true _ _ _ renders ∙ shown-idle p s (away (is_cleared s) s.position.dot h.last (h.shown_ draws renders))
+    | inl renders ↦
+        if-true _ _ _ renders ∙ shown-idle p s (away (is_cleared s) s.position.dot h.last (h.shown_ draws renders))
     | inr hides ↦ if-false _ _ _ hides ∙ hidden-idle s (h.hidden_ draws hides)
   ]
   | inr blank ↦ if-false _ _ _ blank
@@ -105,13 +110,16 @@ pub moved-along : (s : Screen) → s.position.dot ≤ 338 → moved s ≡ at_dot
 unfolding moved advanced is_last_dot is_next after_position
 moved-along s last =
     if-false (is_last_dot s) _ _ (grind (arith, nat_tests, last))
-    ∙ ap (λ (q : Position). record s { position = q }) (if-false (s.position.dot == 340) _ _ (grind (arith, nat_tests, last)))
+    ∙ ap (λ (q : Position). record s { position = q })
+    (if-false (s.position.dot == 340) _ _ (grind (arith, nat_tests, last)))
 
 not-one : (l : ℕ) (s : Screen) → 2 ≤ s.position.dot → is_next l 1 s ≡ false
 unfolding is_next
 not-one l s from = grind (arith, nat_tests, from)
 
-idle-step : (p : List ℕ) (s : Screen) → s.near ≡ false → Parts (is_drawn_line s.position.line) (is_rendering s.mask) (is_cleared s) s.position.dot → dot_of p s ≡ at_dot s (s.position.dot + 1)
+idle-step : (p : List ℕ) (s : Screen) → s.near ≡ false
+    → Parts (is_drawn_line s.position.line) (is_rendering s.mask) (is_cleared s) s.position.dot
+    → dot_of p s ≡ at_dot s (s.position.dot + 1)
 unfolding dot_of
 idle-step p s far h =
     ap (λ e. moved (drawn p (flagged e))) (raised-far s far)
@@ -120,18 +128,24 @@ idle-step p s far h =
     ∙ moved-along s h.last
 
 -- an idle dot
-pub idle-dot : (p : List ℕ) (s : Screen) (d : ℕ) → s.near ≡ false → is_idle (is_drawn_line s.position.line) (is_rendering s.mask) (is_cleared s) d ≡ true → dot_of p (at_dot s d) ≡ at_dot s (d + 1)
+pub idle-dot : (p : List ℕ) (s : Screen) (d : ℕ) → s.near ≡ false
+    → is_idle (is_drawn_line s.position.line) (is_rendering s.mask) (is_cleared s) d ≡ true
+    → dot_of p (at_dot s d) ≡ at_dot s (d + 1)
 unfolding is_cleared
-idle-dot p s d far idle = idle-step p (at_dot s d) far (parts (is_drawn_line s.position.line) (is_rendering s.mask) (is_cleared s) d idle)
+idle-dot p s d far idle =
+    idle-step p (at_dot s d) far (parts (is_drawn_line s.position.line) (is_rendering s.mask) (is_cleared s) d idle)
 
 -- idle dots
 pub idle-dots : (n : ℕ) (p : List ℕ) (s : Screen) → s.near ≡ false
-    → ((d : ℕ) → s.position.dot ≤ d → d < s.position.dot + n → is_idle (is_drawn_line s.position.line) (is_rendering s.mask) (is_cleared s) d ≡ true)
+    → ((d : ℕ) → s.position.dot ≤ d → d < s.position.dot + n
+    → is_idle (is_drawn_line s.position.line) (is_rendering s.mask) (is_cleared s) d ≡ true)
     → after_dots n p s ≡ at_dot s (s.position.dot + n)
 unfolding after_dots
 idle-dots zero p s far idle = let e : s.position.dot ≡ s.position.dot + zero = omega arith in ap (at_dot s) e
 idle-dots (suc n) p s far idle =
-    let before : after_dots n p s ≡ at_dot s (s.position.dot + n) = idle-dots n p s far (λ d from below. idle d from (omega (arith, below))) in
-    let one : dot_of p (at_dot s (s.position.dot + n)) ≡ at_dot s (s.position.dot + n + 1) = idle-dot p s (s.position.dot + n) far (idle (s.position.dot + n) (omega arith) (omega arith)) in
+    let before : after_dots n p s ≡ at_dot s (s.position.dot + n) =
+    idle-dots n p s far (λ d from below. idle d from (omega (arith, below))) in
+    let one : dot_of p (at_dot s (s.position.dot + n)) ≡ at_dot s (s.position.dot + n + 1) =
+    idle-dot p s (s.position.dot + n) far (idle (s.position.dot + n) (omega arith) (omega arith)) in
     let e : s.position.dot + n + 1 ≡ s.position.dot + suc n = omega arith in
     ap (dot_of p) before ∙ one ∙ ap (at_dot s) e

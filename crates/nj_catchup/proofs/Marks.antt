@@ -8,7 +8,8 @@ use Rattle.nj_catchup.proofs.Sums.{dots-none}
 use Rattle.nj_catchup.proofs.Calm.{ended-after, unmarked-same}
 
 -- it commutes with dots, since none are pending where it is set
-pub unmarked-after : (k : ℕ) (p : List ℕ) (s e : Screen) → IsScreen s → k < to_event s → (s.ended ≡ true → k ≡ 0) → e ≡ record s { ended = false } → after_dots k p e ≡ record (after_dots k p s) { ended = false }
+pub unmarked-after : (k : ℕ) (p : List ℕ) (s e : Screen) → IsScreen s → k < to_event s → (s.ended ≡ true → k ≡ 0)
+    → e ≡ record s { ended = false } → after_dots k p e ≡ record (after_dots k p s) { ended = false }
 unmarked-after k p s e fits below none taken = elim (cases_Bool s.ended) [
   | inl marked ↦ (
       let zero_pending : k ≡ 0 = none marked in

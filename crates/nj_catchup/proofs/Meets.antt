@@ -19,26 +19,33 @@ abbrev pub with_hit : Screen → Option SpriteRow → Bool → Bool → Screen
 with_hit s row near hit = record s { sprite_row = row; near = near; sprite_zero_hit = hit }
 
 -- the end of a tile does not look at them
-pub hit-if : (b : Bool) (x y u v : Screen) (row : Option SpriteRow) (near hit : Bool) → u ≡ with_hit x row near hit → v ≡ with_hit y row near hit → (if b then u else v) ≡ with_hit (if b then x else y) row near hit
+pub hit-if : (b : Bool) (x y u v : Screen) (row : Option SpriteRow) (near hit : Bool) → u ≡ with_hit x row near hit
+    → v ≡ with_hit y row near hit → (if b then u else v) ≡ with_hit (if b then x else y) row near hit
 hit-if true x y u v row near hit h k = h
 hit-if false x y u v row near hit h k = k
 
-hit-line_ended : (p : List ℕ) (s : Screen) (row : Option SpriteRow) (near hit : Bool) → line_ended p (with_hit s row near hit) ≡ with_hit (line_ended p s) row near hit
+hit-line_ended : (p : List ℕ) (s : Screen) (row : Option SpriteRow) (near hit : Bool)
+    → line_ended p (with_hit s row near hit) ≡ with_hit (line_ended p s) row near hit
 unfolding line_ended tile_fetched fetched_row
 hit-line_ended p s row near hit = refl
 
-hit-tile_fetched : (p : List ℕ) (s : Screen) (row : Option SpriteRow) (near hit : Bool) → tile_fetched p (with_hit s row near hit) ≡ with_hit (tile_fetched p s) row near hit
+hit-tile_fetched : (p : List ℕ) (s : Screen) (row : Option SpriteRow) (near hit : Bool)
+    → tile_fetched p (with_hit s row near hit) ≡ with_hit (tile_fetched p s) row near hit
 unfolding tile_fetched fetched_row
 hit-tile_fetched p s row near hit = refl
 
-hit-tile_ended : (p : List ℕ) (s : Screen) (row : Option SpriteRow) (near hit : Bool) → tile_ended p (with_hit s row near hit) ≡ with_hit (tile_ended p s) row near hit
+hit-tile_ended : (p : List ℕ) (s : Screen) (row : Option SpriteRow) (near hit : Bool)
+    → tile_ended p (with_hit s row near hit) ≡ with_hit (tile_ended p s) row near hit
 unfolding tile_ended
 hit-tile_ended p s row near hit =
     let t : Screen = with_hit s row near hit in
-    hit-if (s.position.dot == 256) (line_ended p s) (if s.position.dot % 8 == 0 then tile_fetched p s else s) (line_ended p t) _ row near hit (hit-line_ended p s row near hit)
-    (hit-if (s.position.dot % 8 == 0) (tile_fetched p s) s (tile_fetched p t) t row near hit (hit-tile_fetched p s row near hit) refl)
+    hit-if (s.position.dot == 256) (line_ended p s) (if s.position.dot % 8 == 0 then tile_fetched p s else s)
+    (line_ended p t) _ row near hit (hit-line_ended p s row near hit)
+    (hit-if (s.position.dot % 8 == 0) (tile_fetched p s) s (tile_fetched p t) t row near hit
+    (hit-tile_fetched p s row near hit) refl)
 
-hit-raised : (s : Screen) (row : Option SpriteRow) (near hit : Bool) → raised (with_hit s row near hit) ≡ with_hit s row false (hit || near)
+hit-raised : (s : Screen) (row : Option SpriteRow) (near hit : Bool)
+    → raised (with_hit s row near hit) ≡ with_hit s row false (hit || near)
 unfolding raised
 hit-raised s row near hit = refl
 
@@ -46,25 +53,32 @@ hit-raised s row near hit = refl
 unfoldable pub hit-of : Screen → Option SpriteRow → Bool
 hit-of s row = is_hit_pixel (record s { sprite_row = row })
 
-hit-pixel : (s : Screen) (row : Option SpriteRow) (hit : Bool) → pixel (with_hit s row false hit) ≡ with_hit (record s { shift = s.shift * 2 % 65536 }) row (hit-of s row) hit
+hit-pixel : (s : Screen) (row : Option SpriteRow) (hit : Bool)
+    → pixel (with_hit s row false hit) ≡ with_hit (record s { shift = s.shift * 2 % 65536 }) row (hit-of s row) hit
 unfolding pixel is_hit_pixel hit-of
 hit-pixel s row hit = refl
 
-hit-drawn : (p : List ℕ) (s : Screen) (row : Option SpriteRow) (hit : Bool) → IsQuiet 1 s → drawn p (with_hit s row false hit) ≡ with_hit (tile_ended p (record s { shift = s.shift * 2 % 65536 })) row (hit-of s row) hit
+hit-drawn : (p : List ℕ) (s : Screen) (row : Option SpriteRow) (hit : Bool) → IsQuiet 1 s
+    → drawn p (with_hit s row false hit)
+    ≡ with_hit (tile_ended p (record s { shift = s.shift * 2 % 65536 })) row (hit-of s row) hit
 unfolding drawn shown
 hit-drawn p s row hit h =
     if-true _ _ _ (drawn-line s.position.line h.line) ∙ if-true _ _ _ h.renders
     ∙ if-true _ _ _ (pixel-dot s.position.dot h.from (omega (arith, h.last)))
-    ∙ ap (tile_ended p) (hit-pixel s row hit) ∙ hit-tile_ended p (record s { shift = s.shift * 2 % 65536 }) row (hit-of s row) hit
+    ∙ ap (tile_ended p) (hit-pixel s row hit)
+    ∙ hit-tile_ended p (record s { shift = s.shift * 2 % 65536 }) row (hit-of s row) hit
 
 -- a dot
-hit-moved : (p : List ℕ) (s : Screen) (row : Option SpriteRow) (near hit : Bool) → s.position.dot ≤ 256 → moved (with_hit (tile_ended p s) row near hit) ≡ with_hit (at_dot (tile_ended p s) (s.position.dot + 1)) row near hit
+hit-moved : (p : List ℕ) (s : Screen) (row : Option SpriteRow) (near hit : Bool) → s.position.dot ≤ 256
+    → moved (with_hit (tile_ended p s) row near hit)
+    ≡ with_hit (at_dot (tile_ended p s) (s.position.dot + 1)) row near hit
 hit-moved p s row near hit last =
     let at : (tile_ended p s).position.dot ≡ s.position.dot = tile_ended-dot p s in
     moved-along (with_hit (tile_ended p s) row near hit) (omega (arith, at, last))
     ∙ ap (λ d. with_hit (at_dot (tile_ended p s) (d + 1)) row near hit) at
 
-hit-next : (p : List ℕ) (s : Screen) (row : Option SpriteRow) (near hit : Bool) → IsQuiet 1 s → dot_of p (with_hit s row near hit) ≡ with_hit (dot_of p s) row (hit-of s row) (hit || near)
+hit-next : (p : List ℕ) (s : Screen) (row : Option SpriteRow) (near hit : Bool) → IsQuiet 1 s
+    → dot_of p (with_hit s row near hit) ≡ with_hit (dot_of p s) row (hit-of s row) (hit || near)
 unfolding dot_of
 hit-next p s row near hit h =
     let t : Screen = with_hit s row false (hit || near) in
@@ -91,13 +105,16 @@ quiet-next m p s h =
       last = omega (arith, h.last);
       renders = ap is_rendering mask ∙ h.renders;
       far = n.near ∙ h.far;
-      misses = λ d from below. ap (λ k. may_hit k e.sprite_row d) mask ∙ ap (λ k. may_hit s.mask k d) r.row ∙ h.misses d (omega (arith, from)) (omega (arith, below));
+      misses = λ d from below. ap (λ k. may_hit k e.sprite_row d) mask ∙ ap (λ k. may_hit s.mask k d) r.row
+          ∙ h.misses d (omega (arith, from)) (omega (arith, below));
     })
 
 pub quiet-after : (n m : ℕ) (p : List ℕ) (s : Screen) → IsQuiet (n + m) s → IsQuiet m (after_dots n p s)
 unfolding after_dots
 quiet-after zero m p s h = fewer-quiet (zero + m) m s (omega arith) h
-quiet-after (suc n) m p s h = quiet-next m p (after_dots n p s) (quiet-after n (suc m) p s (fewer-quiet (suc n + m) (n + suc m) s (omega arith) h))
+quiet-after (suc n) m p s h =
+    quiet-next m p (after_dots n p s)
+    (quiet-after n (suc m) p s (fewer-quiet (suc n + m) (n + suc m) s (omega arith) h))
 
 -- a hit among the first n dots, and one that has raised the flag
 unfoldable pub near-after : ℕ → List ℕ → Screen → Option SpriteRow → Bool
@@ -116,7 +133,9 @@ or-none : (a : Bool) → a ≡ (a || false)
 or-none true = refl
 or-none false = refl
 
-pub hits-after : (n : ℕ) (p : List ℕ) (s : Screen) (row : Option SpriteRow) (hit : Bool) → IsQuiet n s → after_dots n p (with_hit s row false hit) ≡ with_hit (after_dots n p s) row (near-after n p s row) (hit || any-after n p s row)
+pub hits-after : (n : ℕ) (p : List ℕ) (s : Screen) (row : Option SpriteRow) (hit : Bool) → IsQuiet n s
+    → after_dots n p (with_hit s row false hit)
+    ≡ with_hit (after_dots n p s) row (near-after n p s row) (hit || any-after n p s row)
 unfolding after_dots near-after any-after
 hits-after zero p s row hit h = ap (with_hit s row false) (or-none hit)
 hits-after (suc n) p s row hit h =
@@ -131,16 +150,20 @@ or-true true b h = refl
 or-true false b h = h
 
 -- whether there is one
-pub any-none : (n : ℕ) (p : List ℕ) (s : Screen) (row : Option SpriteRow) → ((i : ℕ) → i < n → hit-of (after_dots i p s) row ≡ false) → any-after (suc n) p s row ≡ false
+pub any-none : (n : ℕ) (p : List ℕ) (s : Screen) (row : Option SpriteRow)
+    → ((i : ℕ) → i < n → hit-of (after_dots i p s) row ≡ false) → any-after (suc n) p s row ≡ false
 unfolding any-after near-after
 any-none zero p s row none = refl
 any-none (suc n) p s row none =
-    ap (λ b. b || hit-of (after_dots n p s) row) (any-none n p s row (λ i within. none i (omega (arith, within)))) ∙ none n (omega arith)
+    ap (λ b. b || hit-of (after_dots n p s) row) (any-none n p s row (λ i within. none i (omega (arith, within))))
+    ∙ none n (omega arith)
 
-pub any-some : (n i : ℕ) (p : List ℕ) (s : Screen) (row : Option SpriteRow) → i < n → hit-of (after_dots i p s) row ≡ true → any-after (suc n) p s row ≡ true
+pub any-some : (n i : ℕ) (p : List ℕ) (s : Screen) (row : Option SpriteRow) → i < n
+    → hit-of (after_dots i p s) row ≡ true → any-after (suc n) p s row ≡ true
 unfolding any-after near-after
 any-some zero i p s row within here = absurd (omega (arith, within))
 any-some (suc n) i p s row within here = elim (cases_eq i n) [
   | inl last ↦ or-true (any-after (suc n) p s row) _ (ap (λ k. hit-of (after_dots k p s) row) (sym last) ∙ here)
-  | inr before ↦ ap (λ b. b || hit-of (after_dots n p s) row) (any-some n i p s row (omega (arith, within, before)) here)
+  | inr before ↦
+      ap (λ b. b || hit-of (after_dots n p s) row) (any-some n i p s row (omega (arith, within, before)) here)
 ]

@@ -182,23 +182,28 @@ raised-dot : (s : Screen) → (raised s).position.dot ≡ s.position.dot
 unfolding raised
 raised-dot s = refl
 
-far-dot : (p : List ℕ) (s : Screen) → (IsEvent s → ⊥) → (1 ≤ s.position.dot → is_hit_pixel s ≡ false) → (dot_of p s).near ≡ false
+far-dot : (p : List ℕ) (s : Screen) → (IsEvent s → ⊥) → (1 ≤ s.position.dot → is_hit_pixel s ≡ false)
+    → (dot_of p s).near ≡ false
 far-dot p s apart miss =
     let moves : Moves (drawn p (raised s)) (moved (drawn p (raised s))) = moves-moved (drawn p (raised s)) in
-    let here : Far (drawn p (raised s)) = far-drawn p (raised s) (λ from. raised-hit s ∙ miss (subst (λ d. 1 ≤ d) (raised-dot s) from)) (raised-near s) in
+    let here : Far (drawn p (raised s)) =
+    far-drawn p (raised s) (λ from. raised-hit s ∙ miss (subst (λ d. 1 ≤ d) (raised-dot s) from)) (raised-near s) in
     ap (λ e. e.near) (dot-apart p s apart ∙ moves.same) ∙ here.far
 
-pub row-dot : (p : List ℕ) (s : Screen) → (IsEvent s → ⊥) → (s.position.dot ≡ 257 → ⊥) → (dot_of p s).sprite_row ≡ s.sprite_row
+pub row-dot : (p : List ℕ) (s : Screen) → (IsEvent s → ⊥) → (s.position.dot ≡ 257 → ⊥)
+    → (dot_of p s).sprite_row ≡ s.sprite_row
 row-dot p s apart aside =
     let moves : Moves (drawn p (raised s)) (moved (drawn p (raised s))) = moves-moved (drawn p (raised s)) in
-    let here : SameRow (raised s) (drawn p (raised s)) = row-drawn p (raised s) (ap (λ d. d == 257) (raised-dot s) ∙ ne_eqb _ _ aside) in
+    let here : SameRow (raised s) (drawn p (raised s)) =
+    row-drawn p (raised s) (ap (λ d. d == 257) (raised-dot s) ∙ ne_eqb _ _ aside) in
     ap (λ e. e.sprite_row) (dot-apart p s apart ∙ moves.same) ∙ here.row ∙ raised-row s
 
 -- dots before an event
 pub no-event : (k : ℕ) (p : List ℕ) (s : Screen) → IsScreen s → suc k < to_event s → IsEvent (after_dots k p s) → ⊥
 no-event k p s fits below at =
     let left : to_event (after_dots k p s) + k ≡ to_event s = to_event-after k p s fits (omega (arith, below)) in
-    let one : to_event (after_dots k p s) ≡ 1 = event-one (after_dots k p s) at in absurd (omega (arith, one, left, below))
+    let one : to_event (after_dots k p s) ≡ 1 =
+    event-one (after_dots k p s) at in absurd (omega (arith, one, left, below))
 
 -- none of which is a hit
 record Missed (k : ℕ) (p : List ℕ) (s : Screen) : Type 0 where
@@ -209,19 +214,23 @@ or-far : (b n : Bool) → n ≡ false → (b || n) ≡ b
 or-far true n far = refl
 or-far false n far = far
 
-missed : (k : ℕ) (p : List ℕ) (s : Screen) → IsScreen s → k < to_event s → s.near ≡ false → ((n : ℕ) → n < k → 1 ≤ (after_dots n p s).position.dot → is_hit_pixel (after_dots n p s) ≡ false) → Missed k p s
+missed : (k : ℕ) (p : List ℕ) (s : Screen) → IsScreen s → k < to_event s → s.near ≡ false
+    → ((n : ℕ) → n < k → 1 ≤ (after_dots n p s).position.dot → is_hit_pixel (after_dots n p s) ≡ false) → Missed k p s
 unfolding after_dots
 missed zero p s fits below far miss = record { far = far; hit = refl }
 missed (suc k) p s fits below far miss =
     let e : Screen = after_dots k p s in
-    let before : Missed k p s = missed k p s fits (omega (arith, below)) far (λ n within. miss n (omega (arith, within))) in
+    let before : Missed k p s =
+    missed k p s fits (omega (arith, below)) far (λ n within. miss n (omega (arith, within))) in
     let apart : IsEvent e → ⊥ = no-event k p s fits below in
     record {
       far = far-dot p e apart (miss k (omega arith));
       hit = hit-dot p e apart ∙ or-far e.sprite_zero_hit e.near before.far ∙ before.hit;
     }
 
-pub hit-missed : (k : ℕ) (p : List ℕ) (s : Screen) → IsScreen s → k < to_event s → s.near ≡ false → ((n : ℕ) → n < k → 1 ≤ (after_dots n p s).position.dot → is_hit_pixel (after_dots n p s) ≡ false) → (after_dots k p s).sprite_zero_hit ≡ s.sprite_zero_hit
+pub hit-missed : (k : ℕ) (p : List ℕ) (s : Screen) → IsScreen s → k < to_event s → s.near ≡ false
+    → ((n : ℕ) → n < k → 1 ≤ (after_dots n p s).position.dot → is_hit_pixel (after_dots n p s) ≡ false)
+    → (after_dots k p s).sprite_zero_hit ≡ s.sprite_zero_hit
 hit-missed k p s fits below far miss = let h : Missed k p s = missed k p s fits below far miss in h.hit
 
 -- a dot is of the same line or the next
@@ -244,7 +253,8 @@ along-back from n d e late h back = elim h [
   | inr next ↦ inr (omega (arith, next.0), omega (arith, back))
 ]
 
-along-dot : (p : List ℕ) (s : Screen) (from n : ℕ) → s.position.dot < 341 → IsAlong from n s.position.dot → IsAlong from (suc n) (dot_of p s).position.dot
+along-dot : (p : List ℕ) (s : Screen) (from n : ℕ) → s.position.dot < 341 → IsAlong from n s.position.dot
+    → IsAlong from (suc n) (dot_of p s).position.dot
 along-dot p s from n within h = elim (cases_Bool (is_last_dot s)) [
   | inl last ↦ (
       let l : IsLastPlace s = last-place s last in
@@ -253,7 +263,9 @@ along-dot p s from n within h = elim (cases_Bool (is_last_dot s)) [
   | inr goes_on ↦ (
       let next : GoesOn s (dot_of p s) = goes-on p s goes_on in
       elim (next-dot s.position) [
-        | inl end ↦ along-back from n s.position.dot _ (omega (arith, end.0)) h (ap (λ (q : Position). q.dot) next.position ∙ end.1)
+        | inl end ↦
+            along-back from n s.position.dot _ (omega (arith, end.0)) h (ap (λ (q : Position). q.dot) next.position
+            ∙ end.1)
         | inr on ↦ along-on from n s.position.dot _ within h (ap (λ (q : Position). q.dot) next.position ∙ on)
       ])
 ]
@@ -267,7 +279,8 @@ along (suc n) p s fits =
     along-dot p e s.position.dot n there.placed.dot (along n p s fits)
 
 -- the latched row stays as long as no dot latches one
-row-after : (k : ℕ) (p : List ℕ) (s : Screen) → IsScreen s → k < to_event s → ((n : ℕ) → n < k → (after_dots n p s).position.dot ≢ 257) → (after_dots k p s).sprite_row ≡ s.sprite_row
+row-after : (k : ℕ) (p : List ℕ) (s : Screen) → IsScreen s → k < to_event s
+    → ((n : ℕ) → n < k → (after_dots n p s).position.dot ≢ 257) → (after_dots k p s).sprite_row ≡ s.sprite_row
 unfolding after_dots
 row-after zero p s fits below aside = refl
 row-after (suc k) p s fits below aside =
@@ -275,20 +288,24 @@ row-after (suc k) p s fits below aside =
     ∙ row-after k p s fits (omega (arith, below)) (λ n within. aside n (omega (arith, within)))
 
 -- no hit: a layer is hidden, the lines are below the visible ones, or row and latch are aside
-pub layers-miss : (n : ℕ) (p : List ℕ) (s : Screen) → IsScreen s → n < to_event s → shows_both_layers s.mask ≡ false → is_hit_pixel (after_dots n p s) ≡ false
+pub layers-miss : (n : ℕ) (p : List ℕ) (s : Screen) → IsScreen s → n < to_event s → shows_both_layers s.mask ≡ false
+    → is_hit_pixel (after_dots n p s) ≡ false
 unfolding may_hit
 layers-miss n p s fits below hides =
     let e : Screen = after_dots n p s in
     let h : Calm s e = calm-after n p s fits below in
-    misses-hit e (ap (λ x. shows_both_layers x.mask && shows_at e.sprite_row (e.position.dot - 1)) h.same ∙ ap (λ b. b && shows_at e.sprite_row (e.position.dot - 1)) hides)
+    misses-hit e (ap (λ x. shows_both_layers x.mask && shows_at e.sprite_row (e.position.dot - 1)) h.same
+    ∙ ap (λ b. b && shows_at e.sprite_row (e.position.dot - 1)) hides)
 
 line-misses : (s : Screen) → 240 ≤ s.position.line → is_hit_pixel s ≡ false
 unfolding is_hit_pixel
 line-misses s from =
     let past : nat_lt s.position.line 240 ≡ false = grind (arith, nat_tests, from) in
-    ap (λ a. a && nat_le s.position.dot 255 && shows_both_layers s.mask && background_bit s.shift s.scroll.x && shows_at s.sprite_row (s.position.dot - 1) && is_shown_column s.mask (s.position.dot - 1)) past
+    ap (λ a. a && nat_le s.position.dot 255 && shows_both_layers s.mask && background_bit s.shift s.scroll.x
+    && shows_at s.sprite_row (s.position.dot - 1) && is_shown_column s.mask (s.position.dot - 1)) past
 
-pub below-miss : (n k : ℕ) (p : List ℕ) (s : Screen) → IsScreen s → n < k → k < to_event s → 240 ≤ s.position.line → place_of s.position + k ≤ 89341 → is_hit_pixel (after_dots n p s) ≡ false
+pub below-miss : (n k : ℕ) (p : List ℕ) (s : Screen) → IsScreen s → n < k → k < to_event s → 240 ≤ s.position.line
+    → place_of s.position + k ≤ 89341 → is_hit_pixel (after_dots n p s) ≡ false
 below-miss n k p s fits within below from frame =
     let there : IsScreen (after_dots n p s) = after_dots-fits n p s fits in
     elim (ahead n p s fits (omega (arith, below, within))) [
@@ -304,20 +321,26 @@ dot-misses : (s : Screen) → 256 ≤ s.position.dot → is_hit_pixel s ≡ fals
 unfolding is_hit_pixel
 dot-misses s from =
     let late : nat_le s.position.dot 255 ≡ false = grind (arith, nat_tests, from) in
-    let past : (nat_lt s.position.line 240 && nat_le s.position.dot 255) ≡ false = and-false (nat_lt s.position.line 240) _ late in
-    ap (λ a. a && shows_both_layers s.mask && background_bit s.shift s.scroll.x && shows_at s.sprite_row (s.position.dot - 1) && is_shown_column s.mask (s.position.dot - 1)) past
+    let past : (nat_lt s.position.line 240 && nat_le s.position.dot 255) ≡ false =
+    and-false (nat_lt s.position.line 240) _ late in
+    ap (λ a. a && shows_both_layers s.mask && background_bit s.shift s.scroll.x
+    && shows_at s.sprite_row (s.position.dot - 1) && is_shown_column s.mask (s.position.dot - 1)) past
 
 pub shown-misses : (s : Screen) → shows_at s.sprite_row (s.position.dot - 1) ≡ false → is_hit_pixel s ≡ false
 unfolding may_hit
 shown-misses s miss = misses-hit s (and-false (shows_both_layers s.mask) _ miss)
 
-pub row-miss : (n k : ℕ) (p : List ℕ) (s : Screen) → IsScreen s → n < k → k < to_event s → ((m d : ℕ) → m < k → IsAlong s.position.dot m d → IsAside s.sprite_row d) → 1 ≤ (after_dots n p s).position.dot → is_hit_pixel (after_dots n p s) ≡ false
+pub row-miss : (n k : ℕ) (p : List ℕ) (s : Screen) → IsScreen s → n < k → k < to_event s
+    → ((m d : ℕ) → m < k → IsAlong s.position.dot m d → IsAside s.sprite_row d) → 1 ≤ (after_dots n p s).position.dot
+    → is_hit_pixel (after_dots n p s) ≡ false
 row-miss n k p s fits within below aside from =
     let e : Screen = after_dots n p s in
     let h : IsAside s.sprite_row e.position.dot = aside n e.position.dot within (along n p s fits) in
     let same : e.sprite_row ≡ s.sprite_row = row-after n p s fits (omega (arith, below, within))
-    (λ m before. (let there : IsAside s.sprite_row (after_dots m p s).position.dot = aside m _ (omega (arith, before, within)) (along m p s fits) in there.latch)) in
+    (λ m before. (let there : IsAside s.sprite_row (after_dots m p s).position.dot =
+    aside m _ (omega (arith, before, within)) (along m p s fits) in there.latch)) in
     elim (cases_lt e.position.dot 256) [
-      | inl pixel_dot ↦ shown-misses e (ap (λ r. shows_at r (e.position.dot - 1)) same ∙ h.miss from (omega (arith, pixel_dot)))
+      | inl pixel_dot ↦
+          shown-misses e (ap (λ r. shows_at r (e.position.dot - 1)) same ∙ h.miss from (omega (arith, pixel_dot)))
       | inr past ↦ dot-misses e past
     ]

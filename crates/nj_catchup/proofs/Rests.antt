@@ -54,7 +54,8 @@ goes-on s n h =
     ]
 
 -- the position moves on
-position-on : (n : ℕ) → after_position (record { line = n / 341; dot = n % 341 }) ≡ record { line = (n + 1) / 341; dot = (n + 1) % 341 }
+position-on : (n : ℕ)
+    → after_position (record { line = n / 341; dot = n % 341 }) ≡ record { line = (n + 1) / 341; dot = (n + 1) % 341 }
 position-on n = elim (cases_eq (n % 341) 340) [
   | inl last ↦ (
       let l : n / 341 + 1 ≡ (n + 1) / 341 = omega (arith, last) in
@@ -71,17 +72,20 @@ unfolding moved advanced
 moved-blank s n h = if-false _ _ _ (goes-on s n h) ∙ ap (λ (q : Position). record s { position = q }) (position-on n)
 
 -- one dot
-blank-dot : (p : List ℕ) (s : Screen) (n : ℕ) → s.near ≡ false → IsBlank s n → dot_of p (at_place s n) ≡ at_place s (n + 1)
+blank-dot : (p : List ℕ) (s : Screen) (n : ℕ) → s.near ≡ false → IsBlank s n
+    → dot_of p (at_place s n) ≡ at_place s (n + 1)
 unfolding dot_of
 blank-dot p s n far h =
     let e : Screen = at_place s n in
     ap (λ x. moved (drawn p (flagged x))) (raised-far e far)
     ∙ ap (λ x. moved (drawn p x))
-    (flagged-apart e (not-next 241 1 e (λ next. h.between.begins (omega (arith, next.line, next.dot)))) (not-next 261 1 e (λ next. h.between.ends (omega (arith, next.line, next.dot)))))
+    (flagged-apart e (not-next 241 1 e (λ next. h.between.begins (omega (arith, next.line, next.dot))))
+    (not-next 261 1 e (λ next. h.between.ends (omega (arith, next.line, next.dot)))))
     ∙ ap moved (drawn-blank p s n h) ∙ moved-blank s n h
 
 -- many
-blank-dots : (k : ℕ) (p : List ℕ) (s : Screen) (m : ℕ) → s.near ≡ false → ((n : ℕ) → m ≤ n → n < m + k → IsBlank s n) → after_dots k p (at_place s m) ≡ at_place s (m + k)
+blank-dots : (k : ℕ) (p : List ℕ) (s : Screen) (m : ℕ) → s.near ≡ false → ((n : ℕ) → m ≤ n → n < m + k → IsBlank s n)
+    → after_dots k p (at_place s m) ≡ at_place s (m + k)
 unfolding after_dots
 blank-dots zero p s m far h = let e : m ≡ m + zero = omega arith in ap (at_place s) e
 blank-dots (suc k) p s m far h =
@@ -89,7 +93,8 @@ blank-dots (suc k) p s m far h =
     ap (dot_of p) (blank-dots k p s m far (λ n from below. h n from (omega (arith, below))))
     ∙ blank-dot p s (m + k) far (h (m + k) (omega arith) (omega arith)) ∙ ap (at_place s) on
 
-pub blank-run : (dots place ahead : ℕ) (p : List ℕ) (s : Screen) → IsPlaced s.position → s.near ≡ false → place ≡ place_of s.position → ahead ≡ place + dots
+pub blank-run : (dots place ahead : ℕ) (p : List ℕ) (s : Screen) → IsPlaced s.position → s.near ≡ false
+    → place ≡ place_of s.position → ahead ≡ place + dots
     → ((n : ℕ) → place ≤ n → n < place + dots → IsBlank s n) → at_place s ahead ≡ after_dots dots p s
 blank-run dots place ahead p s placed far at on h =
     ap (at_place s) on ∙ sym (blank-dots dots p s place far h)

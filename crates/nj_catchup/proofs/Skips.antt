@@ -54,14 +54,17 @@ rows-horizontal t v = record { high = omega arith; low = omega arith }
 
 with-rows : (t a b : ℕ) → SameRows a b → with_horizontal t a ≡ with_horizontal t b
 unfolding with_horizontal
-with-rows t a b h = ap (λ n. n * 2048 + t / 1024 % 2 * 1024 + a / 32 % 32 * 32 + t % 32) h.high ∙ ap (λ n. b / 2048 * 2048 + t / 1024 % 2 * 1024 + n * 32 + t % 32) h.low
+with-rows t a b h =
+    ap (λ n. n * 2048 + t / 1024 % 2 * 1024 + a / 32 % 32 * 32 + t % 32) h.high
+    ∙ ap (λ n. b / 2048 * 2048 + t / 1024 % 2 * 1024 + n * 32 + t % 32) h.low
 
 -- the step of Y
 row-fine : (v : ℕ) → (v / 4096 % 8 ≡ 7 → ⊥) → next_row v ≡ v + 4096
 unfolding next_row
 row-fine v inner = if-false _ _ _ (ne_eqb _ _ inner)
 
-row-last : (v : ℕ) → v / 4096 % 8 ≡ 7 → v / 32 % 32 ≡ 29 → next_row v ≡ (1 - v / 2048 % 2) * 2048 + v / 1024 % 2 * 1024 + v % 32
+row-last : (v : ℕ) → v / 4096 % 8 ≡ 7 → v / 32 % 32 ≡ 29
+    → next_row v ≡ (1 - v / 2048 % 2) * 2048 + v / 1024 % 2 * 1024 + v % 32
 unfolding next_row next_tile_row
 row-last v fine at = if-true _ _ _ (eq-eqb _ _ fine) ∙ if-true _ _ _ (eq-eqb _ _ at)
 
@@ -129,7 +132,9 @@ record Kin (s e : Screen) : Type 0 where
 
 kin-trans : (a b c : Screen) → Kin a b → Kin b c → Kin a c
 kin-trans a b c h k = record {
-  same = k.same ∙ ap (λ (m : Screen). with_line m c.position c.scroll.v c.shift c.oam_address c.sprite_row c.sprite_overflow) h.same;
+  same = k.same
+      ∙ ap (λ (m : Screen). with_line m c.position c.scroll.v c.shift c.oam_address c.sprite_row c.sprite_overflow)
+      h.same;
   rows = rows-trans a.scroll.v b.scroll.v c.scroll.v h.rows k.rows;
 }
 
@@ -161,7 +166,8 @@ kin-prepared p s =
     let a : Screen = latched p s in
     let b : Screen = prefetched p a in
     let c : Screen = prefetched p b in
-    kin-trans s c _ (kin-trans s b c (kin-trans s a b (kin-latched p s) (kin-prefetched p a)) (kin-prefetched p b)) (kin-placed c (let q = c.position in record q { dot = 337 }))
+    kin-trans s c _ (kin-trans s b c (kin-trans s a b (kin-latched p s) (kin-prefetched p a)) (kin-prefetched p b))
+    (kin-placed c (let q = c.position in record q { dot = 337 }))
 
 -- dot 257, the idle dots behind it, and the two dots that fetch a tile
 latch-dot : (p : List ℕ) (s : Screen) → IsLineEnd s → dot_of p s ≡ at_dot (latched p s) 258
@@ -187,13 +193,19 @@ idle-is : (d : ℕ) → 258 ≤ d → d ≤ 335 → (d ≡ 328 → ⊥) → is_i
 unfolding is_idle is_idle_shown
 idle-is d from last apart = grind (arith, nat_tests, from, last, apart)
 
-idle-behind : (n : ℕ) (p : List ℕ) (s : Screen) → IsBehind s → 258 ≤ s.position.dot → s.position.dot + n ≤ 336 → (s.position.dot + n ≤ 328) ⊎ (328 < s.position.dot)
+idle-behind : (n : ℕ) (p : List ℕ) (s : Screen) → IsBehind s → 258 ≤ s.position.dot → s.position.dot + n ≤ 336
+    → (s.position.dot + n ≤ 328) ⊎ (328 < s.position.dot)
     → after_dots n p s ≡ at_dot s (s.position.dot + n)
 idle-behind n p s h from last aside =
     idle-dots n p s h.far
     (λ d after before. ap (λ b. is_idle b (is_rendering s.mask) (is_cleared s) d) (drawn-line s.position.line h.line)
     ∙ ap (λ b. is_idle true b (is_cleared s) d) h.renders ∙ ap (λ b. is_idle true true b d) (cleared-is s h)
-    ∙ idle-is d (omega (arith, from, after)) (omega (arith, before, last)) (λ at. (elim aside [ inl a ↦ absurd (omega (arith, at, a, before)) | inr b ↦ absurd (omega (arith, at, b, after)) ])))
+    ∙ idle-is d (omega (arith, from, after)) (omega (arith, before, last))
+    (λ at. (elim aside [
+      | inl a ↦ absurd (omega (arith, at, a, before))
+      | inr b ↦
+          absurd (omega (arith, at, b, after))
+    ])))
 
 record Fetches (d : ℕ) : Type 0 where
   tile : (nat_le 1 d && nat_le d 256) ≡ false
@@ -203,8 +215,20 @@ record Fetches (d : ℕ) : Type 0 where
 
 fetches : (d : ℕ) → (d ≡ 328) ⊎ (d ≡ 336) → Fetches d
 fetches d at = elim at [
-  | inl a ↦ record { tile = grind (arith, nat_tests, a); latch = grind (arith, nat_tests, a); fetch = grind (arith, nat_tests, a); ahead = grind (arith, nat_tests, a) }
-  | inr b ↦ record { tile = grind (arith, nat_tests, b); latch = grind (arith, nat_tests, b); fetch = grind (arith, nat_tests, b); ahead = grind (arith, nat_tests, b) }
+  | inl a ↦
+      record {
+        tile = grind (arith, nat_tests, a);
+        latch = grind (arith, nat_tests, a);
+        fetch = grind (arith, nat_tests, a);
+        ahead = grind (arith, nat_tests, a);
+      }
+  | inr b ↦
+      record {
+        tile = grind (arith, nat_tests, b);
+        latch = grind (arith, nat_tests, b);
+        fetch = grind (arith, nat_tests, b);
+        ahead = grind (arith, nat_tests, b);
+      }
 ]
 
 fetch-shown : (p : List ℕ) (s : Screen) → (s.position.dot ≡ 328) ⊎ (s.position.dot ≡ 336) → shown p s ≡ prefetched p s
@@ -213,7 +237,8 @@ fetch-shown p s at =
     let h : Fetches s.position.dot = fetches s.position.dot at in
     if-false _ _ _ h.tile ∙ if-false _ _ _ h.latch ∙ if-false _ _ _ h.fetch ∙ if-true _ _ _ h.ahead
 
-fetch-dot : (p : List ℕ) (s : Screen) → IsBehind s → (s.position.dot ≡ 328) ⊎ (s.position.dot ≡ 336) → dot_of p s ≡ at_dot (prefetched p s) (s.position.dot + 1)
+fetch-dot : (p : List ℕ) (s : Screen) → IsBehind s → (s.position.dot ≡ 328) ⊎ (s.position.dot ≡ 336)
+    → dot_of p s ≡ at_dot (prefetched p s) (s.position.dot + 1)
 unfolding dot_of drawn prefetched
 fetch-dot p s h at =
     let last : s.position.dot ≤ 338 = elim at [ inl a ↦ omega (arith, a) | inr b ↦ omega (arith, b) ] in
@@ -249,9 +274,13 @@ line-end p s h =
     let d : Screen = at_dot c 336 in
     let one : after_dots 1 p s ≡ a = dots-one p s ∙ latch-dot p s h in
     let two : after_dots 70 p a ≡ b = idle-behind 70 p a ha (lit≤ tt) (lit≤ tt) (inl (lit≤ tt)) in
-    let three : after_dots 1 p b ≡ c = dots-one p b ∙ fetch-dot p b (behind-at a 328 ha) (inl refl) ∙ ap (λ (e : Screen). at_dot e 329) (fetch-apart p a 328) in
+    let three : after_dots 1 p b ≡ c =
+    dots-one p b ∙ fetch-dot p b (behind-at a 328 ha) (inl refl)
+    ∙ ap (λ (e : Screen). at_dot e 329) (fetch-apart p a 328) in
     let four : after_dots 7 p c ≡ d = idle-behind 7 p c hc (lit≤ tt) (lit≤ tt) (inr (lit≤ tt)) in
-    let five : after_dots 1 p d ≡ at_dot (prefetched p c) 337 = dots-one p d ∙ fetch-dot p d (behind-at c 336 hc) (inr refl) ∙ ap (λ (e : Screen). at_dot e 337) (fetch-apart p c 336) in
+    let five : after_dots 1 p d ≡ at_dot (prefetched p c) 337 =
+    dots-one p d ∙ fetch-dot p d (behind-at c 336 hc) (inr refl)
+    ∙ ap (λ (e : Screen). at_dot e 337) (fetch-apart p c 336) in
     let last : at_dot (prefetched p c) 337 ≡ at_dot (prefetched p (prefetched p (latched p s))) 337 =
     ap (λ (e : Screen). at_dot e 337) (fetch-apart p (prefetched p a) 329)
     ∙ ap (λ (e : Screen). at_dot (prefetched p e) 337) (fetch-apart p (latched p s) 258)
@@ -281,7 +310,8 @@ prepared-row : (p : List ℕ) (s : Screen) → (line_prepared p s).sprite_row �
 unfolding line_prepared prefetched latched
 prepared-row p s = refl
 
-prepared-overflow : (p : List ℕ) (s : Screen) → (line_prepared p s).sprite_overflow ≡ (s.sprite_overflow || overflows s.oam s.control s.position.line)
+prepared-overflow : (p : List ℕ) (s : Screen)
+    → (line_prepared p s).sprite_overflow ≡ (s.sprite_overflow || overflows s.oam s.control s.position.line)
 unfolding line_prepared prefetched latched
 prepared-overflow p s = refl
 
@@ -307,7 +337,8 @@ quiet-next p s n h plain =
       misses = λ d from below. and-none (shows_both_layers e.mask) e.sprite_row (d - 1) (no-row p s n plain);
     }
 
-next-line : (p : List ℕ) (s : Screen) (n : ℕ) → IsLineEnd s → IsPlain (suc n) s → after_dots 341 p s ≡ line_finished (tiles_run 32 p (next_line p s))
+next-line : (p : List ℕ) (s : Screen) (n : ℕ) → IsLineEnd s → IsPlain (suc n) s
+    → after_dots 341 p s ≡ line_finished (tiles_run 32 p (next_line p s))
 unfolding next_line
 next-line p s n h plain =
     let e : Screen = line_prepared p s in
@@ -317,21 +348,26 @@ next-line p s n h plain =
     let quiet : IsQuiet 256 (next_line p s) = quiet-next p s n h plain in
     sym (dots-sum 341 256 85 p s refl) ∙ ap (after_dots 256 p)
     (sym (dots-sum 85 5 80 p s refl) ∙ ap (after_dots 5 p) (line-end p s h)
-    ∙ sym (line-ends 5 3 p e (prepared-near p s ∙ h.far) (omega (arith, line, h.line)) (omega (arith, dot)) (omega (arith, dot)) refl)
+    ∙ sym (line-ends 5 3 p e (prepared-near p s
+    ∙ h.far) (omega (arith, line, h.line)) (omega (arith, dot)) (omega (arith, dot)) refl)
     ∙ ap (λ l. record e { position = record { line = l + 1; dot = 1 } }) line)
     ∙ line-tiles 31 p (next_line p s) refl quiet refl
 
 -- what it leaves
 record IsNextLine (s e : Screen) : Type 0 where
-  same : e ≡ with_line s (record { line = s.position.line + 1; dot = 257 }) e.scroll.v e.shift e.oam_address e.sprite_row s.sprite_overflow
+  same : e ≡ with_line s (record { line = s.position.line + 1; dot = 257 }) e.scroll.v e.shift e.oam_address
+      e.sprite_row s.sprite_overflow
   rows : SameRows (next_row s.scroll.v) e.scroll.v
 
-tiles-at : (n : ℕ) (p : List ℕ) (s : Screen) → (tiles_run n p s).position ≡ record { line = s.position.line; dot = s.position.dot + 8 * n }
+tiles-at : (n : ℕ) (p : List ℕ) (s : Screen)
+    → (tiles_run n p s).position ≡ record { line = s.position.line; dot = s.position.dot + 8 * n }
 unfolding tiles_run tile_run prefetched
-tiles-at zero p s = let e : s.position.dot ≡ s.position.dot + 8 * zero = omega arith in (λ i. record { line = s.position.line; dot = e i })
+tiles-at zero p s = let e : s.position.dot ≡ s.position.dot + 8 * zero =
+    omega arith in (λ i. record { line = s.position.line; dot = e i })
 tiles-at (suc n) p s =
     let e : s.position.dot + 8 * n + 8 ≡ s.position.dot + 8 * suc n = omega arith in
-    ap (λ (q : Position). record { line = q.line; dot = q.dot + 8 }) (tiles-at n p s) ∙ (λ i. record { line = s.position.line; dot = e i })
+    ap (λ (q : Position). record { line = q.line; dot = q.dot + 8 }) (tiles-at n p s)
+    ∙ (λ i. record { line = s.position.line; dot = e i })
 
 tiles-overflow : (n : ℕ) (p : List ℕ) (s : Screen) → (tiles_run n p s).sprite_overflow ≡ s.sprite_overflow
 unfolding tiles_run tile_run prefetched
@@ -344,39 +380,59 @@ line-leaves p s n h plain =
     let e : Screen = line_prepared p s in
     let f : Screen = next_line p s in
     let w : Screen = tiles_run 32 p f in
-    let kin : Kin s w = kin-trans s f w (kin-trans s e f (kin-prepared p s) (kin-placed e (record { line = s.position.line + 1; dot = 1 }))) (kin-tiles 32 p f) in
+    let kin : Kin s w =
+    kin-trans s f w
+    (kin-trans s e f (kin-prepared p s) (kin-placed e (record { line = s.position.line + 1; dot = 1 })))
+    (kin-tiles 32 p f) in
     let at : w.position ≡ record { line = s.position.line + 1; dot = 257 } = tiles-at 32 p f in
-    let over : w.sprite_overflow ≡ s.sprite_overflow = tiles-overflow 32 p f ∙ prepared-overflow p s ∙ plain.overflow s.position.line (omega arith) (omega arith) in
-    let is : after_dots 341 p s ≡ record w { scroll = row_stepped w.scroll } = next-line p s n h plain ∙ finished-last w (ap (λ (q : Position). q.dot) at) in
+    let over : w.sprite_overflow ≡ s.sprite_overflow =
+    tiles-overflow 32 p f ∙ prepared-overflow p s ∙ plain.overflow s.position.line (omega arith) (omega arith) in
+    let is : after_dots 341 p s ≡ record w { scroll = row_stepped w.scroll } =
+    next-line p s n h plain ∙ finished-last w (ap (λ (q : Position). q.dot) at) in
     let left : IsNextLine s (record w { scroll = row_stepped w.scroll }) = record {
       same = ap (λ (x : Screen). record x { scroll = row_stepped x.scroll }) kin.same
           ∙ ap (λ q. with_line s q (next_row w.scroll.v) w.shift w.oam_address w.sprite_row w.sprite_overflow) at
-          ∙ ap (with_line s (record { line = s.position.line + 1; dot = 257 }) (next_row w.scroll.v) w.shift w.oam_address w.sprite_row) over;
+          ∙ ap (with_line s (record { line = s.position.line + 1; dot = 257 }) (next_row w.scroll.v) w.shift
+          w.oam_address w.sprite_row) over;
       rows = rows-row s.scroll.v w.scroll.v kin.rows;
     } in
     subst (IsNextLine s) (sym is) left
 
--- the end of a line does not look at what a line before it left in the shift register, the latches and the horizontal bits
-twice-apart : (p : List ℕ) (s : Screen) (z d : ℕ) → at_dot (prefetched p (prefetched p (record s { shift = z }))) d ≡ at_dot (prefetched p (prefetched p s)) d
+-- the end of a line does not look at what a line before it left in the shift register, the latches and the horizontal
+-- bits
+twice-apart : (p : List ℕ) (s : Screen) (z d : ℕ)
+    → at_dot (prefetched p (prefetched p (record s { shift = z }))) d ≡ at_dot (prefetched p (prefetched p s)) d
 unfolding prefetched fetched_row
 twice-apart p s z d =
-    let e : (z % 256 * 256 + fetched_row p s) % 256 * 256 ≡ (s.shift % 256 * 256 + fetched_row p s) % 256 * 256 = omega arith in
-    ap (λ n. at_dot (record s { shift = n + fetched_row p (record s { scroll = (let c = s.scroll in record c { v = next_column c.v }) }); scroll = (let c = s.scroll in record c { v = next_column (next_column c.v) }) }) d) e
+    let e : (z % 256 * 256 + fetched_row p s) % 256 * 256 ≡ (s.shift % 256 * 256 + fetched_row p s) % 256 * 256 =
+    omega arith in
+    ap (λ n. at_dot
+    (record s {
+      shift =
+          n + fetched_row p (record s { scroll = (let c = s.scroll in record c { v = next_column c.v }) });
+      scroll =
+          (let c = s.scroll in record c { v = next_column (next_column c.v) });
+    }) d) e
 
-latched-apart : (p : List ℕ) (s : Screen) (v z address : ℕ) (row : Option SpriteRow) → SameRows s.scroll.v v → latched p (with_line s s.position v z address row s.sprite_overflow) ≡ record (latched p s) { shift = z }
+latched-apart : (p : List ℕ) (s : Screen) (v z address : ℕ) (row : Option SpriteRow) → SameRows s.scroll.v v
+    → latched p (with_line s s.position v z address row s.sprite_overflow) ≡ record (latched p s) { shift = z }
 unfolding latched
 latched-apart p s v z address row h =
-    ap (λ n. record (latched p s) { shift = z; scroll = (let c = s.scroll in record c { v = n }) }) (sym (with-rows s.scroll.t s.scroll.v v h))
+    ap (λ n. record (latched p s) { shift = z; scroll = (let c = s.scroll in record c { v = n }) })
+    (sym (with-rows s.scroll.t s.scroll.v v h))
 
-prepared-apart : (p : List ℕ) (s : Screen) (v z address : ℕ) (row : Option SpriteRow) → SameRows s.scroll.v v → line_prepared p (with_line s s.position v z address row s.sprite_overflow) ≡ line_prepared p s
+prepared-apart : (p : List ℕ) (s : Screen) (v z address : ℕ) (row : Option SpriteRow) → SameRows s.scroll.v v
+    → line_prepared p (with_line s s.position v z address row s.sprite_overflow) ≡ line_prepared p s
 unfolding line_prepared
 prepared-apart p s v z address row h =
-    ap (λ e. at_dot (prefetched p (prefetched p e)) 337) (latched-apart p s v z address row h) ∙ twice-apart p (latched p s) z 337
+    ap (λ e. at_dot (prefetched p (prefetched p e)) 337) (latched-apart p s v z address row h)
+    ∙ twice-apart p (latched p s) z 337
 
 -- lines and then the end of one
 end-next : (s e : Screen) (n : ℕ) → IsLineEnd s → IsPlain (suc n) s → IsNextLine s e → IsLineEnd e
 end-next s e n h plain next = record {
-  line = (let l : e.position.line ≡ s.position.line + 1 = ap (λ (x : Screen). x.position.line) next.same in omega (arith, l, plain.within));
+  line = (let l : e.position.line ≡ s.position.line + 1 =
+      ap (λ (x : Screen). x.position.line) next.same in omega (arith, l, plain.within));
   dot = ap (λ (x : Screen). x.position.dot) next.same;
   renders = ap (λ (x : Screen). is_rendering x.mask) next.same ∙ h.renders;
   far = ap (λ (x : Screen). x.near) next.same ∙ h.far;
@@ -384,7 +440,8 @@ end-next s e n h plain next = record {
 
 none-on : (s : Screen) → s ≡ lines_on 0 s
 unfolding lines_on repeated
-none-on s = let e : s.position.line ≡ s.position.line + 0 = omega arith in (λ i. record s { position = (let q = s.position in record q { line = e i }) })
+none-on s = let e : s.position.line ≡ s.position.line + 0 =
+    omega arith in (λ i. record s { position = (let q = s.position in record q { line = e i }) })
 
 plain-next : (s e : Screen) (n : ℕ) → IsPlain (suc n) s → IsNextLine s e → IsPlain n e
 plain-next s e n plain next =
@@ -394,10 +451,12 @@ plain-next s e n plain next =
       row = λ l from below. ap (λ (x : Screen). is_in_range (slice_index x.oam 0) l (has_bit x.control 5)) next.same
           ∙ plain.row l (omega (arith, from, line)) (omega (arith, below, line));
       overflow = λ l from below. ap (λ (x : Screen). x.sprite_overflow || overflows x.oam x.control l) next.same
-          ∙ plain.overflow l (omega (arith, from, line)) (omega (arith, below, line)) ∙ sym (ap (λ (x : Screen). x.sprite_overflow) next.same);
+          ∙ plain.overflow l (omega (arith, from, line)) (omega (arith, below, line))
+          ∙ sym (ap (λ (x : Screen). x.sprite_overflow) next.same);
     }
 
-lines-next : (n : ℕ) (p : List ℕ) (s e : Screen) → IsLineEnd s → IsNextLine s e → line_prepared p (lines_on n e) ≡ line_prepared p (lines_on (suc n) s)
+lines-next : (n : ℕ) (p : List ℕ) (s e : Screen) → IsLineEnd s → IsNextLine s e
+    → line_prepared p (lines_on n e) ≡ line_prepared p (lines_on (suc n) s)
 unfolding lines_on
 lines-next n p s e h next =
     let f : Screen = lines_on (suc n) s in
@@ -405,11 +464,17 @@ lines-next n p s e h next =
     let on : s.position.line + 1 + n ≡ s.position.line + suc n = omega arith in
     let rows : SameRows (repeated (suc n) next_row s.scroll.v) v =
     subst (λ w. SameRows w v) (repeated-on n s.scroll.v) (rows-repeated n (next_row s.scroll.v) e.scroll.v next.rows) in
-    ap (λ (x : Screen). line_prepared p (record x { position = (let q = x.position in record q { line = q.line + n }); scroll = (let c = x.scroll in record c { v = v }) })) next.same
-    ∙ (λ i. line_prepared p (with_line s (record { line = on i; dot = sym h.dot i }) v e.shift e.oam_address e.sprite_row s.sprite_overflow))
+    ap (λ (x : Screen). line_prepared p
+    (record x {
+      position = (let q = x.position in record q { line = q.line + n });
+      scroll = (let c = x.scroll in record c { v = v });
+    })) next.same
+    ∙ (λ i. line_prepared p
+    (with_line s (record { line = on i; dot = sym h.dot i }) v e.shift e.oam_address e.sprite_row s.sprite_overflow))
     ∙ prepared-apart p f v e.shift e.oam_address e.sprite_row rows
 
-pub lines-run : (n : ℕ) (p : List ℕ) (s : Screen) → IsLineEnd s → IsPlain n s → after_dots (n * 341 + 80) p s ≡ line_prepared p (lines_on n s)
+pub lines-run : (n : ℕ) (p : List ℕ) (s : Screen) → IsLineEnd s → IsPlain n s
+    → after_dots (n * 341 + 80) p s ≡ line_prepared p (lines_on n s)
 lines-run zero p s h plain =
     let none : zero * 341 + 80 ≡ 80 = omega arith in
     ap (λ k. after_dots k p s) none ∙ line-end p s h ∙ ap (line_prepared p) (none-on s)
@@ -423,7 +488,13 @@ lines-run (suc n) p s h plain =
 pub fits-on : (n : ℕ) (s e : Screen) → e ≡ lines_on n s → IsScreen s → s.position.line + n < 240 → IsScreen e
 unfolding lines_on
 fits-on n s e is fits within =
-    let there : IsScreen (lines_on n s) = record { placed = record { line = omega (arith, within); dot = fits.placed.dot }; fine_x = fits.fine_x; oam = fits.oam; vram = fits.vram } in
+    let there : IsScreen (lines_on n s) =
+    record {
+      placed = record { line = omega (arith, within); dot = fits.placed.dot };
+      fine_x = fits.fine_x;
+      oam = fits.oam;
+      vram = fits.vram;
+    } in
     subst IsScreen (sym is) there
 
 pub end-on : (n : ℕ) (s e : Screen) → e ≡ lines_on n s → IsLineEnd s → s.position.line + n < 240 → IsLineEnd e
@@ -440,7 +511,8 @@ pub rows-more : (n v : ℕ) → next_row (repeated n next_row v) ≡ repeated (n
 unfolding repeated
 rows-more n v = let e : suc n ≡ n + 1 = omega arith in ap (λ k. repeated k next_row v) e
 
-pub prepared-is : (p : List ℕ) (s a b c : Screen) → IsLineEnd s → a ≡ dot_of p s → b ≡ prefetched p a → c ≡ prefetched p b → at_dot c 337 ≡ line_prepared p s
+pub prepared-is : (p : List ℕ) (s a b c : Screen) → IsLineEnd s → a ≡ dot_of p s → b ≡ prefetched p a
+    → c ≡ prefetched p b → at_dot c 337 ≡ line_prepared p s
 unfolding line_prepared prefetched fetched_row
 prepared-is p s a b c h ha hb hc =
     ap (λ (e : Screen). at_dot e 337) (hc ∙ ap (prefetched p) (hb ∙ ap (prefetched p) (ha ∙ latch-dot p s h)))
@@ -449,11 +521,13 @@ or-false : (b : Bool) → (b || false) ≡ b
 or-false true = refl
 or-false false = refl
 
-few-over : (oam : List ℕ) (control line : ℕ) → in_range_of oam line (has_bit control 5) < 9 → overflows oam control line ≡ false
+few-over : (oam : List ℕ) (control line : ℕ) → in_range_of oam line (has_bit control 5) < 9
+    → overflows oam control line ≡ false
 unfolding overflows
 few-over oam control line few =
     let many : nat_le 9 (in_range_of oam line (has_bit control 5)) ≡ false = grind (arith, nat_tests, few) in
     and-false (nat_lt line 240) _ many
 
-pub few-keep : (flag : Bool) (oam : List ℕ) (control line : ℕ) → in_range_of oam line (has_bit control 5) < 9 → (flag || overflows oam control line) ≡ flag
+pub few-keep : (flag : Bool) (oam : List ℕ) (control line : ℕ) → in_range_of oam line (has_bit control 5) < 9
+    → (flag || overflows oam control line) ≡ flag
 few-keep flag oam control line few = ap (λ b. flag || b) (few-over oam control line few) ∙ or-false flag

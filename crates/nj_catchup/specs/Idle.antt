@@ -7,7 +7,8 @@ use Rattle.nj_dots.specs.declared.screen.Screen.{Screen}
 -- next line
 unfoldable pub is_idle_shown : Bool → ℕ → Bool
 is_idle_shown cleared dot =
-    (nat_le 258 dot && nat_le dot 320 && cleared) || ((nat_le 321 dot && nat_le dot 327) || ((nat_le 329 dot && nat_le dot 335) || nat_le 337 dot))
+    (nat_le 258 dot && nat_le dot 320 && cleared)
+    || ((nat_le 321 dot && nat_le dot 327) || ((nat_le 329 dot && nat_le dot 335) || nat_le 337 dot))
 
 -- with rendering off: all but dot 257, which empties the sprite row
 unfoldable pub is_idle_hidden : ℕ → Bool
@@ -17,7 +18,8 @@ is_idle_hidden dot = not (dot == 257)
 -- last two, at which lines and frames end, are left out
 unfoldable pub is_idle : Bool → Bool → Bool → ℕ → Bool
 is_idle drawn rendering cleared dot =
-    nat_le 2 dot && nat_le dot 338 && (if drawn then (if rendering then is_idle_shown cleared dot else is_idle_hidden dot) else nat_le 2 dot)
+    nat_le 2 dot && nat_le dot 338
+    && (if drawn then (if rendering then is_idle_shown cleared dot else is_idle_hidden dot) else nat_le 2 dot)
 
 -- the line is visible and the OAM address clear
 unfoldable pub is_cleared : Screen → Bool

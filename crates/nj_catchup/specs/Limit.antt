@@ -5,7 +5,8 @@ use Rattle.nj_dots.specs.Screen.{nmi_line_of}
 use Rattle.nj_dots.specs.Dots.{to_event}
 use Rattle.nj_catchup.specs.declared.lull.Lull.{Lull}
 
--- how many dots may be pending: all before the next that changes the vertical blank flag, and none once an end is marked
+-- how many dots may be pending: all before the next that changes the vertical blank flag, and none once an end is
+-- marked
 unfoldable pub limit_of : Screen → ℕ
 limit_of s = if s.ended then 0 else to_event s - 1
 

@@ -23,8 +23,8 @@ pub record IsBetween (place : ℕ) : Type 0 where
   pub ends : place ≢ 89002
   pub last : place < 89341
 
--- such a dot does nothing but move the position on: rendering is off and no row of sprite zero is latched, or it is below
--- the visible lines and before the pre-render line (NESdev Wiki, "PPU rendering")
+-- such a dot does nothing but move the position on: rendering is off and no row of sprite zero is latched, or it is
+-- below the visible lines and before the pre-render line (NESdev Wiki, "PPU rendering")
 pub record IsBlank (s : Screen) (place : ℕ) : Type 0 where
   pub between : IsBetween place
   pub still : ((is_rendering s.mask ≡ false) × (s.sprite_row ≡ None)) ⊎ ((81840 ≤ place) × (place < 89001))

@@ -1,5 +1,5 @@
--- Visible lines of which nothing is left but Y, and what a line leaves of which more is left (NESdev Wiki, "PPU rendering",
--- "PPU scrolling"; the words are this project's own).
+-- Visible lines of which nothing is left but Y, and what a line leaves of which more is left (NESdev Wiki, "PPU
+-- rendering", "PPU scrolling"; the words are this project's own).
 use Rattle.std.specs.Prelude.{◌≡◌, ◌<◌, ◌≤◌, ℕ, ◌+◌, true, false, ◌||◌, List, slice_index}
 use Rattle.nj_sprite0.specs.Sprite.{has_bit, is_in_range}
 use Rattle.nj_dots.specs.declared.screen.Screen.{Screen}
@@ -16,12 +16,14 @@ pub record IsLineEnd (s : Screen) : Type 0 where
   pub renders : is_rendering s.mask ≡ true
   pub far : s.near ≡ false
 
--- so many lines from this one on, all visible and with a visible one behind them: sprite zero has none of them, and none of
--- them raises the overflow flag
+-- so many lines from this one on, all visible and with a visible one behind them: sprite zero has none of them, and
+-- none of them raises the overflow flag
 pub record IsPlain (n : ℕ) (s : Screen) : Type 0 where
   pub within : s.position.line + n < 240
-  pub row : (l : ℕ) → s.position.line ≤ l → l < s.position.line + n → is_in_range (slice_index s.oam 0) l (has_bit s.control 5) ≡ false
-  pub overflow : (l : ℕ) → s.position.line ≤ l → l < s.position.line + n → (s.sprite_overflow || overflows s.oam s.control l) ≡ s.sprite_overflow
+  pub row : (l : ℕ) → s.position.line ≤ l → l < s.position.line + n
+      → is_in_range (slice_index s.oam 0) l (has_bit s.control 5) ≡ false
+  pub overflow : (l : ℕ) → s.position.line ≤ l → l < s.position.line + n
+      → (s.sprite_overflow || overflows s.oam s.control l) ≡ s.sprite_overflow
 
 -- so many lines on, by Y alone
 unfoldable pub lines_on : ℕ → Screen → Screen

@@ -1,4 +1,5 @@
--- Reads of $2002 that pending dots do not change (NESdev Wiki, "PPU registers", "NMI"; the words are this project's own).
+-- Reads of $2002 that pending dots do not change (NESdev Wiki, "PPU registers", "NMI"; the words are this project's
+-- own).
 use Rattle.std.specs.Prelude.{◌≡◌, ◌≢◌, ◌<◌, ◌≤◌, ℕ, ◌+◌, ◌-◌, ◌*◌, false, List, slice_index, Option, None, ◌⊎◌}
 use Rattle.nj_sprite0.specs.declared.row.SpriteRow.{SpriteRow}
 use Rattle.nj_sprite0.specs.Sprite.{has_bit, height_of, shows_at}
@@ -22,9 +23,10 @@ pub record IsAside (row : Option SpriteRow) (dot : ℕ) : Type 0 where
   pub latch : dot ≢ 257
   pub miss : 1 ≤ dot → dot ≤ 255 → shows_at row (dot - 1) ≡ false
 
--- no row of sprite zero is latched, and the dots latch none: they end in this frame, at dot 257 of the first of its lines or
--- before, or begin below the last
+-- no row of sprite zero is latched, and the dots latch none: they end in this frame, at dot 257 of the first of its
+-- lines or before, or begin below the last
 pub record IsAway (dots : ℕ) (s : Screen) : Type 0 where
   pub row : s.sprite_row ≡ None
   pub frame : place_of s.position + dots ≤ 89341
-  pub lines : (place_of s.position + dots ≤ slice_index s.oam 0 * 341 + 257) ⊎ (slice_index s.oam 0 + height_of (has_bit s.control 5) ≤ s.position.line)
+  pub lines : (place_of s.position + dots ≤ slice_index s.oam 0 * 341 + 257)
+      ⊎ (slice_index s.oam 0 + height_of (has_bit s.control 5) ≤ s.position.line)

@@ -24,7 +24,7 @@ fn weighed(flag: bool, weight: u8) -> u8
     if flag { weight } else { 0 }
 }
 
-// A read of $2002 changes nothing now but what it does to the flag's hold.
+/// A read of $2002 changes nothing now but what it does to the flag's hold.
 #[tactic(auto, unfolding(nj_dots::specs::Registers::status_byte))]
 pub fn was_read(screen: &Screen) -> bool
     ensures { result ≡ true → IsRead screen.now }
@@ -37,8 +37,8 @@ pub fn was_read(screen: &Screen) -> bool
     screen.latch == hit + overflow + screen.latch % 32
 }
 
-// Some of the next dots, all of which leave what a read of $2002 answers: those before the next event, those up to the
-// first line of sprite zero, or those up to the next that latches a row of it or may be a hit.
+/// Some of the next dots, all of which leave what a read of $2002 answers: those before the next event, those up to the
+/// first line of sprite zero, or those up to the next that latches a row of it or may be a hit.
 pub fn steady_dots(screen: &Screen) -> u32
     requires fits { IsScreen screen.now }
     ensures { (p : List ℕ) → 0 < result → IsSteady result p screen.now }

@@ -6,13 +6,15 @@
 //! blank flag (an event), so the NMI line is known without running them. Dots before an event are *calm*: they leave
 //! all registers and memories but the position, v, the shift register, the OAM address, the row of sprite zero and the
 //! two flags of sprites. A read of $2002 leaves them pending where it is *steady*: none of them raises such a flag.
-//! When they are run, *idle* dots move the position alone, so a run of them is one step; *quiet* dots are those of
-//! visible pixels none of which can be a hit, so of many tiles the last two alone are fetched; a whole line with a row
-//! of sprite zero is one step with one search for the first hit; each other dot is run by itself. Each step is one
-//! equation with the definition of single dots.
+//! When they are run, *idle* dots of a line move the position alone, so a run of them is one step, and *blank* ones do
+//! so over many lines; *quiet* dots are those of visible pixels none of which can be a hit, so of many tiles the last
+//! two alone are fetched; of *plain* lines, which have no row of sprite zero and no ninth sprite, nothing is left but
+//! Y, so many of them are one step; a whole line with a row of sprite zero is one step with one search for the first
+//! hit; each other dot is run by itself. Each step is one equation with the definition of single dots.
 //!
-//! Read first `IsLull` (specs/Limit.antt: what is kept beside the pending dots), then `IsSteady` (specs/Steady.antt),
-//! `is_idle` (specs/Idle.antt) and `IsQuiet` (specs/Tiles.antt).
+//! Read first `IsLull` (specs/Limit.antt: what is kept beside the pending dots), then `IsSteady` and `IsAway`
+//! (specs/Steady.antt), `is_idle` (specs/Idle.antt), `IsBlank` (specs/Place.antt), `IsQuiet` (specs/Tiles.antt) and
+//! `IsPlain` (specs/Skip.antt).
 #![tactic(auto)]
 
 mod advance;
@@ -113,7 +115,8 @@ impl CatchUp {
     fn run_all(&mut self, dots: u32, pattern: &[u8])
         requires { length pattern.now ≡ 8192 }
         ensures pending { pending_of self.new.lull ≡ 0 }
-        ensures screen { self.new.screen ≡ after_dots dots pattern.now (after_dots (pending_of self.old.lull) pattern.now self.old.screen) }
+        ensures screen { self.new.screen
+            ≡ after_dots dots pattern.now (after_dots (pending_of self.old.lull) pattern.now self.old.screen) }
     {
         self.catch_up(pattern);
         advance(&mut self.screen, dots, pattern);
@@ -146,14 +149,21 @@ impl Picture for CatchUp {
         CatchUp::new(vertical)
     }
 
-    #[inline(always)]
     fn run(&mut self, dots: u32, pattern: &[u8]) {
+        if self.defer(dots) {
+            self.run_all(dots, pattern);
+        }
+    }
+
+    #[inline(always)]
+    fn defer(&mut self, dots: u32) -> bool {
         let past = self.lull.spare < dots;
         self.lull.spare = self.lull.spare.wrapping_sub(dots);
         if past {
             self.lull.give_back(dots);
-            self.run_all(dots, pattern);
+            return true;
         }
+        false
     }
 
     fn read(&mut self, reg: u8, pattern: &[u8]) -> u8 {
@@ -181,6 +191,10 @@ impl Picture for CatchUp {
     }
 
     #[inline(always)]
+    fn has_ended(&self) -> bool {
+        self.screen.ended
+    }
+
     fn take_end(&mut self) -> bool {
         let ended = self.screen.ended;
         if ended {

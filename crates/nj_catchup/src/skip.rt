@@ -14,8 +14,9 @@ use nj_dots::{DOTS_OF_LINE, Screen, Scroll};
 // The dots from dot 257 of a line to dot 336.
 const DOTS_OF_END: u32 = 80;
 
-/// Runs the dots from dot 257 of a visible line with rendering on up to dot 336 of it, or of a line below, as one: of the
-/// lines between nothing is left but Y. Tells how many, 0 where the next dot is another or not all of them are to be run.
+/// Runs the dots from dot 257 of a visible line with rendering on up to dot 336 of it, or of a line below, as one: of
+/// the lines between nothing is left but Y. Tells how many, 0 where the next dot is another or not all of them are to
+/// be run.
 pub fn run_lines(screen: &mut Screen, left: u32, pattern: &[u8]) -> u32
     requires fits { IsScreen screen.old }
     requires pattern { length pattern.now ≡ 8192 }
@@ -63,7 +64,8 @@ fn plain_lines(screen: &Screen, most: u32) -> u16
 // No line raises the overflow flag: it is up, or there are few sprites.
 fn keeps_overflow(screen: &Screen) -> bool
     ensures { (line : ℕ) → result ≡ true → line < 240
-        → (screen.now.sprite_overflow || overflows screen.now.oam screen.now.control line) ≡ screen.now.sprite_overflow }
+        → (screen.now.sprite_overflow || overflows screen.now.oam screen.now.control line)
+        ≡ screen.now.sprite_overflow }
 {
     screen.sprite_overflow || has_few_sprites(&screen.oam)
 }

@@ -92,8 +92,8 @@ fn stays_below(position: Position, dots: u32) -> bool
     position.line >= 240 && position.place() + dots < DOTS_OF_FRAME
 }
 
-// No row of sprite zero is latched, and none of the next dots latches one: in this frame, they end at dot 257 of its first
-// line or begin below its last.
+// No row of sprite zero is latched, and none of the next dots latches one: in this frame, they end at dot 257 of its
+// first line or begin below its last.
 fn stays_away(screen: &Screen, dots: u32) -> bool
     requires fits { IsScreen screen.now }
     requires few { dots ≤ 89342 }
@@ -117,7 +117,7 @@ pub fn dots_to_sprite(screen: &Screen) -> u32
     first.saturating_sub(screen.position.place())
 }
 
-// How many dots there are at least up to one that latches a row of sprite zero or is a pixel of the latched one.
+/// How many dots there are at least up to one that latches a row of sprite zero or is a pixel of the latched one.
 pub fn dots_to_hit(screen: &Screen) -> u32
     requires { screen.now.position.dot < 341 }
     ensures { (n d : ℕ) → n < result → IsAlong screen.now.position.dot n d → IsAside screen.now.sprite_row d }

@@ -82,8 +82,8 @@ fn the_first_hit_is_on_the_line_below(rt: HostRuntime) {
     assert!(rt; has_hit(&mut picture, &pattern));
 }
 
-// A sprite at X 100 hits at pixel 100 of line 1: its flag rises at dot 102. Reads of $2002 that come every 21 dots see it
-// at the first read from there on, and so does one read after the line was run as one.
+// A sprite at X 100 hits at pixel 100 of line 1: its flag rises at dot 102. Reads of $2002 that come every 21 dots see
+// it at the first read from there on, and so does one read after the line was run as one.
 #[test]
 fn a_hit_inside_a_line_is_seen(rt: HostRuntime) {
     let pattern = [0xFFu8; 8192];

@@ -15,7 +15,8 @@ use Rattle.nj_claims.proofs.Walking.{placed_fits, fits_placed}
 use Rattle.nj_claims.proofs.Powers.{from_bits, to_bits}
 
 -- words of such a number whose slots fit are a table
-pub is_table_if : (W : List ℕ) (n : ℕ) → n ≡ length W / 2 → 2 ≤ length W → is_power_of_two (length W) ≡ true → ((i : ℕ) → i < n → FitsSlot n W i) → IsTable W
+pub is_table_if : (W : List ℕ) (n : ℕ) → n ≡ length W / 2 → 2 ≤ length W → is_power_of_two (length W) ≡ true
+    → ((i : ℕ) → i < n → FitsSlot n W i) → IsTable W
 is_table_if W n half two bits fits = record {
   size = size (from_bits (length W) bits);
   placed = subst (λ (m : ℕ). IsPlaced m W) half (fits_placed n W fits);
@@ -28,7 +29,8 @@ is_table_if W n half two bits fits = record {
 
 -- words of another number are none
 pub is_long : (W : List ℕ) → IsTable W → 2 ≤ length W
-is_long W t = let k : ℕ = t.size.0 in let e : length W ≡ 2 ^ (k + 1) = t.size.1 in let p : 2 ^ suc k ≡ 2 ^ k + 2 ^ k = two-pow-succ k in
+is_long W t = let k : ℕ = t.size.0 in let e : length W ≡ 2 ^ (k + 1) = t.size.1 in
+    let p : 2 ^ suc k ≡ 2 ^ k + 2 ^ k = two-pow-succ k in
     let q : 2 ^ (k + 1) ≡ 2 ^ suc k = ap (λ (i : ℕ). 2 ^ i) (add-one k) in let r : 0 < 2 ^ k = pow_pos k in omega arith
 
 pub is_power : (W : List ℕ) → IsTable W → is_power_of_two (length W) ≡ true
@@ -45,7 +47,11 @@ pub record AreEmpty (n done : ℕ) (W : List ℕ) : Type 0 where
   pub bare : (i : ℕ) → i < n → owner_at W i ≡ no_owner
 
 pub no_owners : (n : ℕ) → AreEmpty n 0 (replicate (2 * n) no_owner)
-no_owners n = record { wide = length-replicate (2 * n) no_owner; empty = λ i l. absurd (omega arith); bare = λ i l. get_or-replicate (2 * n) (2 * i + 1) no_owner 0 (omega arith) }
+no_owners n = record {
+  wide = length-replicate (2 * n) no_owner;
+  empty = λ i l. absurd (omega arith);
+  bare = λ i l. get_or-replicate (2 * n) (2 * i + 1) no_owner 0 (omega arith);
+}
 
 pub one_emptied : (n i : ℕ) (W : List ℕ) → i < n → AreEmpty n i W → AreEmpty n (i + 1) (set W (2 * i) 0)
 one_emptied n i W l a = record {
@@ -63,7 +69,8 @@ empty_is_table n exponent W e a = let wide : length W ≡ 2 * n = a.wide in reco
     let p : 2 ^ suc exponent ≡ 2 ^ exponent + 2 ^ exponent = two-pow-succ exponent in
         let q : 2 ^ (exponent + 1) ≡ 2 ^ suc exponent = ap (λ (i : ℕ). 2 ^ i) (add-one exponent) in omega arith,
   );
-  placed = subst (λ (m : ℕ). IsPlaced m W) (let h : n ≡ length W / 2 = omega arith in h) (fits_placed n W (λ i l. inl (a.empty i l, a.bare i l)));
+  placed = subst (λ (m : ℕ). IsPlaced m W) (let h : n ≡ length W / 2 = omega arith in
+      h) (fits_placed n W (λ i l. inl (a.empty i l, a.bare i l)));
 }
 
 pub empty_count : (n : ℕ) (W : List ℕ) → AreEmpty n n W → slot_count W ≡ n
@@ -80,5 +87,6 @@ tells_no W n = (λ t. absurd (let e : false ≡ true = t in cc), λ t. absurd (n
 
 -- 1 shifted by an exponent up to 25 loses no bit
 pub shifted : (exponent : ℕ) → exponent ≤ 25 → (1 * 2 ^ exponent) % 18446744073709551616 ≡ 2 ^ exponent
-shifted exponent le = let low : 2 ^ exponent ≤ 2 ^ 25 = pow-le-pow_right (let two : 0 < 2 = omega arith in two) le in let e : 1 * 2 ^ exponent ≡ 2 ^ exponent = omega arith in
+shifted exponent le = let low : 2 ^ exponent ≤ 2 ^ 25 = pow-le-pow_right (let two : 0 < 2 = omega arith in two) le in
+    let e : 1 * 2 ^ exponent ≡ 2 ^ exponent = omega arith in
     ap (λ (n : ℕ). n % 18446744073709551616) e ∙ mod-eq_of_lt (omega arith)

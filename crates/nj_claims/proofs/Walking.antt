@@ -11,7 +11,8 @@ use Rattle.nj_claims.proofs.Slots.{slot-inside, one_distance, each_slot}
 use Rattle.nj_claims.proofs.Mapping.{standing, absent_in}
 
 -- one slot more is passed
-pub passed_one : (n : ℕ) (W : List ℕ) (key depth : ℕ) → ArePassed n W key depth → key_at W (slot_from n key depth) ≢ 0 → key_at W (slot_from n key depth) ≢ key → ArePassed n W key (depth + 1)
+pub passed_one : (n : ℕ) (W : List ℕ) (key depth : ℕ) → ArePassed n W key depth → key_at W (slot_from n key depth) ≢ 0
+    → key_at W (slot_from n key depth) ≢ key → ArePassed n W key (depth + 1)
 passed_one n W key depth h taken other = λ d l. dite (ℕ_discrete d depth)
     (λ e. subst (λ (x : ℕ). HoldsOther W key (slot_from n key x)) (sym e) record { taken = taken; other = other })
     (λ ne. h d (omega arith))
@@ -35,8 +36,10 @@ nowhere_first n W key i real a b = let d : ℕ = a.distance in let e : ℕ = b.d
     (λ ne. (b.before d (omega arith)).taken empty)) a.ends) (cases_lt e d)
 
 -- a key in its place stands in the first slot of its walk
-pub placed_first : (n : ℕ) (W : List ℕ) (key i : ℕ) → IsPlaced n W → key ≢ 0 → i < n → key_at W i ≡ key → IsFirst n W key i
-placed_first n W key i placed real inside held = let at = each_slot n key i inside in let d : ℕ = at.0 in let near : d < n = at.1 in
+pub placed_first : (n : ℕ) (W : List ℕ) (key i : ℕ) → IsPlaced n W → key ≢ 0 → i < n → key_at W i ≡ key
+    → IsFirst n W key i
+placed_first n W key i placed real inside held =
+    let at = each_slot n key i inside in let d : ℕ = at.0 in let near : d < n = at.1 in
     let there : key_at W (slot_from n key d) ≡ key = ap (key_at W) at.2 ∙ held in record {
       distance = d;
       near = near;
@@ -44,7 +47,9 @@ placed_first n W key i placed real inside held = let at = each_slot n key i insi
       holds = held;
       before = λ e l. record {
         taken = placed.chained key d e real near l there;
-        other = λ same. let eq : slot_from n key e ≡ slot_from n key d = placed.once (slot_from n key e) (slot_from n key d) (slot-inside n key e (omega arith)) (slot-inside n key d (omega arith)) (λ z. real (sym same ∙ z)) (same ∙ sym there) in
+        other = λ same. let eq : slot_from n key e ≡ slot_from n key d =
+            placed.once (slot_from n key e) (slot_from n key d) (slot-inside n key e (omega arith))
+            (slot-inside n key d (omega arith)) (λ z. real (sym same ∙ z)) (same ∙ sym there) in
             let one : e ≡ d = one_distance n key e d (omega arith) (omega arith) near eq in absurd (omega arith);
       };
     }
@@ -58,18 +63,26 @@ placed_fits n W placed i inside = dite (ℕ_discrete (key_at W i) 0)
 -- where each slot fits, the keys are in their places
 pub fits_placed : (n : ℕ) (W : List ℕ) → ((i : ℕ) → i < n → FitsSlot n W i) → IsPlaced n W
 fits_placed n W fits = record {
-  once = λ i j li lj taken same. one_first n W (key_at W i) i j (first i li taken) (subst (λ (k : ℕ). IsFirst n W k j) (sym same) (first j lj (λ z. taken (same ∙ z))));
+  once = λ i j li lj taken same. one_first n W (key_at W i) i j (first i li taken)
+      (subst (λ (k : ℕ). IsFirst n W k j) (sym same) (first j lj (λ z. taken (same ∙ z))));
   chained = λ key far near real lf lc held. let i : ℕ = slot_from n key far in
-      let a : IsFirst n W key i = subst (λ (k : ℕ). IsFirst n W k i) held (first i (slot-inside n key far (omega arith)) (λ z. real (sym held ∙ z))) in
-      let same : a.distance ≡ far = one_distance n key a.distance far (omega arith) a.near lf a.here in (a.before near (omega arith)).taken;
-  bare = λ i li empty. ⊎_elim (λ (a : (key_at W i ≡ 0) × (owner_at W i ≡ no_owner)). a.1) (λ (a : (key_at W i ≢ 0) × IsFirst n W (key_at W i) i). absurd (a.0 empty)) (fits i li);
+      let a : IsFirst n W key i = subst (λ (k : ℕ). IsFirst n W k i) held
+      (first i (slot-inside n key far (omega arith)) (λ z. real (sym held ∙ z))) in
+      let same : a.distance ≡ far = one_distance n key a.distance far (omega arith) a.near lf a.here in
+      (a.before near (omega arith)).taken;
+  bare = λ i li empty. ⊎_elim (λ (a : (key_at W i ≡ 0) × (owner_at W i ≡ no_owner)).
+      a.1) (λ (a : (key_at W i ≢ 0) × IsFirst n W (key_at W i) i). absurd (a.0 empty)) (fits i li);
 } where
   first : (i : ℕ) → i < n → key_at W i ≢ 0 → IsFirst n W (key_at W i) i
-  first i li taken = ⊎_elim (λ (a : (key_at W i ≡ 0) × (owner_at W i ≡ no_owner)). absurd (taken a.0)) (λ (a : (key_at W i ≢ 0) × IsFirst n W (key_at W i) i). a.1) (fits i li)
+  first i li taken = ⊎_elim (λ (a : (key_at W i ≡ 0) × (owner_at W i ≡ no_owner)). absurd (taken a.0))
+      (λ (a : (key_at W i ≢ 0) × IsFirst n W (key_at W i) i). a.1) (fits i li)
 
 -- the owner that a walk finds
-pub found_owner : (n : ℕ) (W : List ℕ) (key slot : ℕ) → length W ≡ 2 * n → IsPlaced n W → key ≢ 0 → slot < n → IsFirst n W key slot → owner_in W key ≡ Some (owner_at W slot)
+pub found_owner : (n : ℕ) (W : List ℕ) (key slot : ℕ) → length W ≡ 2 * n → IsPlaced n W → key ≢ 0 → slot < n
+    → IsFirst n W key slot → owner_in W key ≡ Some (owner_at W slot)
 found_owner n W key slot wide placed real inside a = standing n W key slot wide placed real inside a.holds
 
-pub found_none : (n : ℕ) (W : List ℕ) (key : ℕ) → length W ≡ 2 * n → IsPlaced n W → key ≢ 0 → IsNowhere n W key → owner_in W key ≡ None
-found_none n W key wide placed real a = absent_in n W key wide (λ i l e. nowhere_first n W key i real a (placed_first n W key i placed real l e))
+pub found_none : (n : ℕ) (W : List ℕ) (key : ℕ) → length W ≡ 2 * n → IsPlaced n W → key ≢ 0 → IsNowhere n W key
+    → owner_in W key ≡ None
+found_none n W key wide placed real a =
+    absent_in n W key wide (λ i l e. nowhere_first n W key i real a (placed_first n W key i placed real l e))

@@ -30,7 +30,8 @@ IsFind slots words key None = IsNowhere slots words key
 -- a slot is empty and has no owner, or its key stands in its place there
 abbrev pub FitsSlot : ℕ → List ℕ → ℕ → Type 0
 FitsSlot slots words slot =
-    ((key_at words slot ≡ 0) × (owner_at words slot ≡ no_owner)) ⊎ ((key_at words slot ≢ 0) × IsFirst slots words (key_at words slot) slot)
+    ((key_at words slot ≡ 0) × (owner_at words slot ≡ no_owner))
+    ⊎ ((key_at words slot ≢ 0) × IsFirst slots words (key_at words slot) slot)
 
 -- the key stands in no slot
 abbrev pub IsAbsent : ℕ → List ℕ → ℕ → Type 0

@@ -91,20 +91,22 @@ pub record Stays (before after : List ℕ) (slot : ℕ) : Type 0 where
 abbrev pub living_count : View → ℕ
 living_count view = if view.living then 1 else 0
 
--- What holds between any two steps: the keys are in their places; those of the opening table stay, with owners that only
--- fall; each further key was claimed or found; each owner is none, or comes from the opening table or a claim; what each
--- view knows is true; a joined pass knows nothing; and the passes are one more than those that are out.
+-- What holds between any two steps: the keys are in their places; those of the opening table stay, with owners that
+-- only fall; each further key was claimed or found; each owner is none, or comes from the opening table or a claim;
+-- what each view knows is true; a joined pass knows nothing; and the passes are one more than those that are out.
 pub record Holds (opening : Opening) (s : State ℕ View) : Type 0 where
   pub some_slot : 0 < opening.slots
   pub wide : length s.words ≡ 2 * opening.slots
   pub small : (slot : ℕ) → slot < opening.slots → owner_at opening.words.items slot ≤ no_owner
   pub placed : IsPlaced opening.slots s.words
-  pub stays : (slot : ℕ) → slot < opening.slots → key_at opening.words.items slot ≢ 0 → Stays opening.words.items s.words slot
+  pub stays : (slot : ℕ) → slot < opening.slots → key_at opening.words.items slot ≢ 0
+      → Stays opening.words.items s.words slot
   pub known : (slot : ℕ) → slot < opening.slots → key_at s.words slot ≢ 0
       → (key_at opening.words.items slot ≡ key_at s.words slot) ⊎ Somewhere s.views (Brings (key_at s.words slot))
   pub owned : (slot : ℕ) → slot < opening.slots
       → (owner_at s.words slot ≡ no_owner) ⊎ Stems opening s.views (key_at s.words slot) (owner_at s.words slot)
   pub fits : (seat : ℕ) (view : View) → get_elem? s.views seat ≡ some view → Fits opening.slots s.words view
-  pub told : (seat : ℕ) (view : View) → get_elem? s.views seat ≡ some view → All (λ claim. Stems opening s.views claim.0 claim.1) view.seen
+  pub told : (seat : ℕ) (view : View) → get_elem? s.views seat ≡ some view
+      → All (λ claim. Stems opening s.views claim.0 claim.1) view.seen
   pub spent : (seat : ℕ) (view : View) → get_elem? s.views seat ≡ some view → view.living ≡ false → view ≡ spent_view
   pub counted : (view : View) → get_elem? s.views 0 ≡ some view → sum_by living_count s.views ≡ 1 + view.out

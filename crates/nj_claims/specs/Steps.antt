@@ -19,7 +19,8 @@ with_flight flight view = record view { flight = flight }
 -- a view that has passed so many slots: after the last slot the flight ends, and the key is among the refused ones
 abbrev pub passed : ℕ → ℕ → ℕ → View → View
 passed slots key depth view =
-    if depth == slots then record view { full = view.full ++ key ∷ []; flight = Idle } else with_flight (looking key depth) view
+    if depth == slots then record view { full = view.full ++ key ∷ []; flight = Idle }
+    else with_flight (looking key depth) view
 
 -- a view after a slot that holds its key or another
 abbrev pub probed : ℕ → ℕ → ℕ → Bool → View → View
@@ -32,7 +33,8 @@ after_look slots key depth held view = if held == 0 then view else probed slots 
 
 -- a view after a try to put the key into the next slot: where it was empty it has the key now
 abbrev pub after_put : ℕ → ℕ → ℕ → ℕ → View → View
-after_put slots key depth held view = if held == 0 then probed slots key depth true view else probed slots key depth (held == key) view
+after_put slots key depth held view =
+    if held == 0 then probed slots key depth true view else probed slots key depth (held == key) view
 
 -- a view after the owner was lowered to the number
 abbrev pub after_own : ℕ → ℕ → ℕ → View → View

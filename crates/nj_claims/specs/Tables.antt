@@ -62,4 +62,5 @@ lowered (Some owner) number = Some (min owner number)
 -- a key's owner after claims of (key, number): the least of what it was and of the numbers claimed for the key
 abbrev pub owner_after : ℕ → Option ℕ → List (ℕ × ℕ) → Option ℕ
 owner_after key owner [] = owner
-owner_after key owner (claim ∷ claims) = owner_after key (if claim.0 == key then lowered owner claim.1 else owner) claims
+owner_after key owner (claim ∷ claims) =
+    owner_after key (if claim.0 == key then lowered owner claim.1 else owner) claims

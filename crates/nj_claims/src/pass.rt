@@ -15,7 +15,14 @@ impl Model for Pass {
 
     ghost Value = { PassView };
 
-    ghost view = { λ p. record { table = p.seat.table_id; is_root = p.seat.id == 0; out = p.seat.me.0.out; claims = p.seat.me.0.claims; seen = p.seat.me.0.seen; full = p.seat.me.0.full } };
+    ghost view = { λ p. record {
+      table = p.seat.table_id;
+      is_root = p.seat.id == 0;
+      out = p.seat.me.0.out;
+      claims = p.seat.me.0.claims;
+      seen = p.seat.me.0.seen;
+      full = p.seat.me.0.full;
+    } };
 
     ghost invariant = { λ p. (p.seat.me.0.living ≡ true) × (p.seat.me.0.flight ≡ Idle) × (p.seat.me.1 ≡ []) };
 }

@@ -31,7 +31,8 @@ pub fn insert(words: &mut [u64], key: u64, owner: u64)
     ensures table { IsTable words.new }
     ensures entries { IsPermutation ((key, owner) ∷ entries_in words.old) (entries_in words.new) }
     ensures count { length (entries_in words.new) ≡ length (entries_in words.old) + 1 }
-    ensures owners { (other : _) → owner_in words.new other ≡ (if key == other then Some owner else owner_in words.old other) }
+    ensures owners { (other : _)
+        → owner_in words.new other ≡ (if key == other then Some owner else owner_in words.old other) }
 {
     let slots = words.len() / 2;
     let slot = free_slot(words, slots, key);

@@ -124,7 +124,8 @@ pub(crate) fn lower(board: &Board, seat: &mut Seat<u64, View>, slot: usize, numb
     requires living { seat.old.me.0.living ≡ true }
     requires found { seat.old.me.0.flight ≡ Found (found_key seat.old.me.0.flight) slot }
     ensures same { (seat.new.table_id ≡ seat.old.table_id) × (seat.new.id ≡ seat.old.id) }
-    ensures tells { Owns (found_key seat.old.me.0.flight) number (first_owner board.now.key.words.items (found_key seat.old.me.0.flight)) seat.old.me result seat.new.me }
+    ensures tells { Owns (found_key seat.old.me.0.flight) number
+        (first_owner board.now.key.words.items (found_key seat.old.me.0.flight)) seat.old.me result seat.new.me }
 {
     own::<Brand>(board, seat, slot, number)
 }

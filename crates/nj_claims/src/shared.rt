@@ -20,5 +20,7 @@ impl Model for ClaimTable {
 
     ghost view = { λ t. record { id = t.table.shared.table_id; opening = t.opening.words.items } };
 
-    ghost invariant = { λ t. (t.table.shared.key ≡ t.opening) × (t.table.shared.table_id.words ≡ length t.opening.words.items) × (t.table.shared.table_id.slots ≡ 0) × (t.opening.slots ≡ slot_count t.opening.words.items) × IsTable t.opening.words.items };
+    ghost invariant = { λ t. (t.table.shared.key ≡ t.opening) × (t.table.shared.table_id.words ≡ length t.opening.words.items)
+        × (t.table.shared.table_id.slots ≡ 0) × (t.opening.slots ≡ slot_count t.opening.words.items)
+        × IsTable t.opening.words.items };
 }

@@ -76,7 +76,8 @@ impl ClaimTable {
         requires joined { pass.out ≡ 0 }
         ensures table { IsTable result.items }
         ensures size { length result.items ≡ length self.opening }
-        ensures owners { (key : _) → owner_in result.items key ≡ owner_after key (owner_in self.opening key) pass.claims }
+        ensures owners { (key : _)
+            → owner_in result.items key ≡ owner_after key (owner_in self.opening key) pass.claims }
         ensures seen { All (λ entry. WasOwner self.opening result.items pass.claims entry.0 entry.1) pass.seen }
         ensures full { All (HadNoRoom result.items) pass.full }
     {

@@ -12,11 +12,15 @@ held_long hold (pad ∷ word) =
     ∙ ap₂ (λ n m. n + m) (length-replicate hold pad) (held_long hold word)
     ∙ (let e : hold + hold * length word ≡ hold * length (pad ∷ word) = grind arith in e)
 
-pub movie_long : (plan : Plan) (word : Word) → length (movie_of plan word) ≡ length plan.start + plan.script.hold * length word
+pub movie_long : (plan : Plan) (word : Word)
+    → length (movie_of plan word) ≡ length plan.start + plan.script.hold * length word
 unfolding movie_of
 movie_long plan word =
-    length-append plan.start (held_pads plan.script.hold word) ∙ ap (λ n. length plan.start + n) (held_long plan.script.hold word)
+    length-append plan.start (held_pads plan.script.hold word)
+    ∙ ap (λ n. length plan.start + n) (held_long plan.script.hold word)
 
 -- words of one length have movies of one length
-pub movies_long : (plan : Plan) (word other : Word) → length word ≡ length other → length (movie_of plan word) ≡ length (movie_of plan other)
-movies_long plan word other e = movie_long plan word ∙ ap (λ n. length plan.start + plan.script.hold * n) e ∙ sym (movie_long plan other)
+pub movies_long : (plan : Plan) (word other : Word) → length word ≡ length other
+    → length (movie_of plan word) ≡ length (movie_of plan other)
+movies_long plan word other e = movie_long plan word ∙ ap (λ n. length plan.start + plan.script.hold * n) e
+    ∙ sym (movie_long plan other)

@@ -52,17 +52,20 @@ is_fewer pad b = not (holds pad b) || nat_lt (length (buttons_of (without b pad)
 fewer_below : agree_below (λ pad. list_all (is_fewer pad) buttons_in_turn) (λ _. true) 256 ≡ true
 fewer_below = refl
 
-pub fewer : (pad : ℕ) (b : Button) → pad < 256 → holds pad b ≡ true → length (buttons_of (without b pad)) < length (buttons_of pad)
+pub fewer : (pad : ℕ) (b : Button) → pad < 256 → holds pad b ≡ true
+    → length (buttons_of (without b pad)) < length (buttons_of pad)
 fewer pad b below held =
     let test : nat_lt (length (buttons_of (without b pad))) (length (buttons_of pad)) ≡ true =
-    implied (holds pad b) _ (each_button (is_fewer pad) (agree_below_at (λ pad. list_all (is_fewer pad) buttons_in_turn) (λ _. true) 256 pad fewer_below below) b) held in
+    implied (holds pad b) _ (each_button (is_fewer pad)
+    (agree_below_at (λ pad. list_all (is_fewer pad) buttons_in_turn) (λ _. true) 256 pad fewer_below below) b) held in
     grind (arith, nat_tests)
 
 -- a button that it holds without another it held before
 abbrev is_among : ℕ → Button → Button → Bool
 is_among pad b c = not (holds (without b pad) c) || holds pad c
 
-among_below : agree_below (λ pad. list_all (λ b. list_all (is_among pad b) buttons_in_turn) buttons_in_turn) (λ _. true) 256 ≡ true
+among_below : agree_below (λ pad. list_all (λ b. list_all (is_among pad b) buttons_in_turn) buttons_in_turn)
+    (λ _. true) 256 ≡ true
 among_below = refl
 
 pub among : (pad : ℕ) (b c : Button) → pad < 256 → holds (without b pad) c ≡ true → holds pad c ≡ true
@@ -70,7 +73,8 @@ among pad b c below held =
     implied (holds (without b pad) c) (holds pad c)
     (each_button (is_among pad b)
     (each_button (λ b. list_all (is_among pad b) buttons_in_turn)
-    (agree_below_at (λ pad. list_all (λ b. list_all (is_among pad b) buttons_in_turn) buttons_in_turn) (λ _. true) 256 pad among_below below) b) c) held
+    (agree_below_at (λ pad. list_all (λ b. list_all (is_among pad b) buttons_in_turn) buttons_in_turn)
+    (λ _. true) 256 pad among_below below) b) c) held
 
 -- the buttons are as many as the bits that are set
 counted_below : agree_below (λ pad. length (buttons_of pad) == count_ones pad) (λ _. true) 256 ≡ true
@@ -79,7 +83,8 @@ counted_below = refl
 
 pub counted : (pad : ℕ) → pad < 256 → length (buttons_of pad) ≡ count_ones pad
 counted pad below =
-    let test : (length (buttons_of pad) == count_ones pad) ≡ true = agree_below_at (λ pad. length (buttons_of pad) == count_ones pad) (λ _. true) 256 pad counted_below below in
+    let test : (length (buttons_of pad) == count_ones pad) ≡ true =
+    agree_below_at (λ pad. length (buttons_of pad) == count_ones pad) (λ _. true) 256 pad counted_below below in
     grind (arith, nat_tests)
 
 -- a pad that is not 0 has a button
@@ -88,7 +93,8 @@ some_below = refl
 
 pub some_button : (pad : ℕ) → pad < 256 → 0 < pad → 0 < length (buttons_of pad)
 some_button pad below some =
-    let test : (pad == 0 || nat_lt 0 (length (buttons_of pad))) ≡ true = agree_below_at (λ pad. pad == 0 || nat_lt 0 (length (buttons_of pad))) (λ _. true) 256 pad some_below below in
+    let test : (pad == 0 || nat_lt 0 (length (buttons_of pad))) ≡ true =
+    agree_below_at (λ pad. pad == 0 || nat_lt 0 (length (buttons_of pad))) (λ _. true) 256 pad some_below below in
     grind (arith, nat_tests)
 
 -- a pad has at most eight
@@ -97,7 +103,8 @@ few_below = refl
 
 pub few_buttons : (pad : ℕ) → pad < 256 → length (buttons_of pad) ≤ 8
 few_buttons pad below =
-    let test : nat_lt (length (buttons_of pad)) 9 ≡ true = agree_below_at (λ pad. nat_lt (length (buttons_of pad)) 9) (λ _. true) 256 pad few_below below in
+    let test : nat_lt (length (buttons_of pad)) 9 ≡ true =
+    agree_below_at (λ pad. nat_lt (length (buttons_of pad)) 9) (λ _. true) 256 pad few_below below in
     grind (arith, nat_tests)
 
 -- ---- what holds of every number

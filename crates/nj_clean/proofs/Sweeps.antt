@@ -10,7 +10,8 @@ use Rattle.nj_clean.proofs.Pads.{Member}
 
 -- ---- what a try keeps, sweeps keep
 
-tried_keeps : (plan : Plan) (P : Word → Type 0) (word : Word) (p : Press) → P word → (wins plan (released word p) ≡ true → P (released word p)) → P (tried plan word p)
+tried_keeps : (plan : Plan) (P : Word → Type 0) (word : Word) (p : Press) → P word
+    → (wins plan (released word p) ≡ true → P (released word p)) → P (tried plan word p)
 tried_keeps plan P word p h kept = by_test (wins plan (released word p)) kept
   where
     by_test : (t : Bool) → (t ≡ true → P (released word p)) → P (if t then released word p else word)
@@ -20,7 +21,8 @@ tried_keeps plan P word p h kept = by_test (wins plan (released word p)) kept
 Keeps : Plan → (Word → Type 0) → Type 0
 Keeps plan P = (word : Word) (p : Press) → P word → P (tried plan word p)
 
-folded : (plan : Plan) (P : Word → Type 0) → Keeps plan P → (ps : List Press) (word : Word) → P word → P (fold (tried plan) word ps)
+folded : (plan : Plan) (P : Word → Type 0) → Keeps plan P → (ps : List Press) (word : Word) → P word
+    → P (fold (tried plan) word ps)
 unfolding Keeps
 folded plan P keeps [] word h = h
 folded plan P keeps (p ∷ ps) word h = folded plan P keeps ps (tried plan word p) (keeps word p h)
@@ -55,7 +57,8 @@ IsPartOf given word = AreBytes word × ((q : Press) → is_pressed word q ≡ tr
 keeps_part : (plan : Plan) (given : Word) → Keeps plan (IsPartOf given)
 unfolding Keeps
 keeps_part plan given word p h =
-    tried_keeps plan (IsPartOf given) word p h (λ _. (released_bytes word p h.0, λ q e. h.1 q (released_among word p q h.0 e)))
+    tried_keeps plan (IsPartOf given) word p h
+    (λ _. (released_bytes word p h.0, λ q e. h.1 q (released_among word p q h.0 e)))
 
 pub tries_long : (plan : Plan) (ps : List Press) (word : Word) → length (fold (tried plan) word ps) ≡ length word
 tries_long plan ps word = folded plan (λ w. length w ≡ length word) (keeps_long plan (length word)) ps word refl
@@ -68,7 +71,8 @@ swept_bytes plan word h = swept_keeps plan AreBytes (keeps_bytes plan) word h
 
 pub cleaned_long : (plan : Plan) (word : Word) → length (cleaned plan word) ≡ length word
 unfolding cleaned
-cleaned_long plan word = sweeps_keep plan (λ w. length w ≡ length word) (keeps_long plan (length word)) (length (presses word)) word refl
+cleaned_long plan word =
+    sweeps_keep plan (λ w. length w ≡ length word) (keeps_long plan (length word)) (length (presses word)) word refl
 
 pub cleaned_bytes : (plan : Plan) (word : Word) → AreBytes word → AreBytes (cleaned plan word)
 unfolding cleaned
@@ -78,7 +82,8 @@ pub cleaned_wins : (plan : Plan) (word : Word) → wins plan word ≡ true → w
 unfolding cleaned
 cleaned_wins plan word h = sweeps_keep plan (λ w. wins plan w ≡ true) (keeps_wins plan) (length (presses word)) word h
 
-pub cleaned_among : (plan : Plan) (word : Word) (p : Press) → AreBytes word → is_pressed (cleaned plan word) p ≡ true → is_pressed word p ≡ true
+pub cleaned_among : (plan : Plan) (word : Word) (p : Press) → AreBytes word → is_pressed (cleaned plan word) p ≡ true
+    → is_pressed word p ≡ true
 unfolding cleaned
 cleaned_among plan word p bytes e =
     (sweeps_keep plan (IsPartOf word) (keeps_part plan word) (length (presses word)) word (bytes, λ q h. h)).1 p e
@@ -110,46 +115,56 @@ swept_fewer : (plan : Plan) (word : Word) → AreBytes word → Fewer word (swep
 unfolding swept
 swept_fewer plan word bytes = folded_fewer plan (presses word) word bytes
 
-pub swept_or : (plan : Plan) (word : Word) → AreBytes word → (swept plan word ≡ word) ⊎ (length (presses (swept plan word)) < length (presses word))
+pub swept_or : (plan : Plan) (word : Word) → AreBytes word
+    → (swept plan word ≡ word) ⊎ (length (presses (swept plan word)) < length (presses word))
 unfolding Fewer
 swept_or plan word bytes = counted (swept_fewer plan word bytes)
   where
-    counted : (swept plan word ≡ word) ⊎ (buttons_in (swept plan word) < buttons_in word) → (swept plan word ≡ word) ⊎ (length (presses (swept plan word)) < length (presses word))
+    counted : (swept plan word ≡ word) ⊎ (buttons_in (swept plan word) < buttons_in word)
+        → (swept plan word ≡ word) ⊎ (length (presses (swept plan word)) < length (presses word))
     counted (inl e) = inl e
     counted (inr h) = inr (omega (arith, h, presses_count 0 (swept plan word), presses_count 0 word))
 
 -- ---- where a sweep releases nothing, each press is needed
 
 -- the first press of such a sweep is not released
-first_stays : (plan : Plan) (p : Press) (ps : List Press) (word : Word) → AreBytes word → fold (tried plan) word (p ∷ ps) ≡ word → tried plan word p ≡ word
+first_stays : (plan : Plan) (p : Press) (ps : List Press) (word : Word) → AreBytes word
+    → fold (tried plan) word (p ∷ ps) ≡ word → tried plan word p ≡ word
 unfolding Fewer Keeps
 first_stays plan p ps word bytes same =
     by_cases (tried_fewer plan word p bytes) (folded_fewer plan ps (tried plan word p) (keeps_bytes plan word p bytes))
   where
     by_cases : (tried plan word p ≡ word) ⊎ (buttons_in (tried plan word p) < buttons_in word)
-        → (fold (tried plan) word (p ∷ ps) ≡ tried plan word p) ⊎ (buttons_in (fold (tried plan) word (p ∷ ps)) < buttons_in (tried plan word p))
+        → (fold (tried plan) word (p ∷ ps) ≡ tried plan word p)
+        ⊎ (buttons_in (fold (tried plan) word (p ∷ ps)) < buttons_in (tried plan word p))
         → tried plan word p ≡ word
     by_cases (inl e) _ = e
     by_cases (inr h) (inl f) = sym f ∙ same
     by_cases (inr h) (inr k) = absurd (omega (arith, h, k, ap buttons_in same))
 
-each_stays : (plan : Plan) (ps : List Press) (word : Word) (p : Press) → AreBytes word → fold (tried plan) word ps ≡ word → Member p ps → tried plan word p ≡ word
+each_stays : (plan : Plan) (ps : List Press) (word : Word) (p : Press) → AreBytes word
+    → fold (tried plan) word ps ≡ word → Member p ps → tried plan word p ≡ word
 each_stays plan [] word p bytes same m = absurd m
-each_stays plan (q ∷ ps) word p bytes same (inl e) = ap (tried plan word) (sym e) ∙ first_stays plan q ps word bytes same
+each_stays plan (q ∷ ps) word p bytes same (inl e) =
+    ap (tried plan word) (sym e) ∙ first_stays plan q ps word bytes same
 each_stays plan (q ∷ ps) word p bytes same (inr m) =
-    each_stays plan ps word p bytes (ap (λ w. fold (tried plan) w ps) (sym (first_stays plan q ps word bytes same)) ∙ same) m
+    each_stays plan ps word p bytes
+    (ap (λ w. fold (tried plan) w ps) (sym (first_stays plan q ps word bytes same)) ∙ same) m
 
 -- a press that stays is needed
-stays_needed : (plan : Plan) (word : Word) (p : Press) → AreBytes word → is_pressed word p ≡ true → tried plan word p ≡ word → wins plan (released word p) ≡ false
+stays_needed : (plan : Plan) (word : Word) (p : Press) → AreBytes word → is_pressed word p ≡ true
+    → tried plan word p ≡ word → wins plan (released word p) ≡ false
 stays_needed plan word p bytes held stays = by_test (wins plan (released word p)) stays
   where
     by_test : (t : Bool) → (if t then released word p else word) ≡ word → t ≡ false
     by_test true e = absurd (omega (arith, pressed_fewer word p bytes held, ap buttons_in e))
     by_test false e = refl
 
-pub needed : (plan : Plan) (word : Word) (p : Press) → AreBytes word → swept plan word ≡ word → is_pressed word p ≡ true → wins plan (released word p) ≡ false
+pub needed : (plan : Plan) (word : Word) (p : Press) → AreBytes word → swept plan word ≡ word → is_pressed word p ≡ true
+    → wins plan (released word p) ≡ false
 unfolding swept
-needed plan word p bytes same held = stays_needed plan word p bytes held (each_stays plan (presses word) word p bytes same (pressed_is_member word p held))
+needed plan word p bytes same held = stays_needed plan word p bytes held
+    (each_stays plan (presses word) word p bytes same (pressed_is_member word p held))
 
 -- ---- sweeps end
 
@@ -160,24 +175,29 @@ sweeps_same plan (suc n) word e = ap (sweeps n plan) e ∙ sweeps_same plan n wo
 sweeps-add : (plan : Plan) (n k : ℕ) (word : Word) → sweeps (n + k) plan word ≡ sweeps k plan (sweeps n plan word)
 sweeps-add plan zero k word = ap (λ m. sweeps m plan word) (let e : 0 + k ≡ k = omega arith in e)
 sweeps-add plan (suc n) k word =
-    ap (λ m. sweeps m plan word) (let e : suc n + k ≡ suc (n + k) = omega arith in e) ∙ sweeps-add plan n k (swept plan word)
+    ap (λ m. sweeps m plan word) (let e : suc n + k ≡ suc (n + k) = omega arith in e)
+    ∙ sweeps-add plan n k (swept plan word)
 
 -- a word of which a sweep releases nothing stays so
-stays_swept : (plan : Plan) (n : ℕ) (word : Word) → swept plan word ≡ word → swept plan (sweeps n plan word) ≡ sweeps n plan word
+stays_swept : (plan : Plan) (n : ℕ) (word : Word) → swept plan word ≡ word
+    → swept plan (sweeps n plan word) ≡ sweeps n plan word
 stays_swept plan n word e = ap (swept plan) (sweeps_same plan n word e) ∙ e ∙ sym (sweeps_same plan n word e)
 
 -- so many sweeps as there are presses are enough
-enough : (plan : Plan) (n : ℕ) (word : Word) → AreBytes word → length (presses word) ≤ n → swept plan (sweeps n plan word) ≡ sweeps n plan word
+enough : (plan : Plan) (n : ℕ) (word : Word) → AreBytes word → length (presses word) ≤ n
+    → swept plan (sweeps n plan word) ≡ sweeps n plan word
 enough plan zero word bytes few = by_cases (swept_or plan word bytes)
   where
-    by_cases : (swept plan word ≡ word) ⊎ (length (presses (swept plan word)) < length (presses word)) → swept plan word ≡ word
+    by_cases : (swept plan word ≡ word) ⊎ (length (presses (swept plan word)) < length (presses word))
+        → swept plan word ≡ word
     by_cases (inl e) = e
     by_cases (inr h) = absurd (omega (arith, few, h))
 enough plan (suc n) word bytes few =
     by_cases (swept_or plan word bytes) (λ h. enough plan n (swept plan word) (swept_bytes plan word bytes) h)
   where
     by_cases : (swept plan word ≡ word) ⊎ (length (presses (swept plan word)) < length (presses word))
-        → (length (presses (swept plan word)) ≤ n → swept plan (sweeps n plan (swept plan word)) ≡ sweeps n plan (swept plan word))
+        → (length (presses (swept plan word)) ≤ n
+        → swept plan (sweeps n plan (swept plan word)) ≡ sweeps n plan (swept plan word))
         → swept plan (sweeps (suc n) plan word) ≡ sweeps (suc n) plan word
     by_cases (inl e) rest = stays_swept plan (suc n) word e
     by_cases (inr h) rest = rest (omega (arith, few, h))
@@ -187,20 +207,24 @@ unfolding cleaned
 cleaned_ends plan word bytes = enough plan (length (presses word)) word bytes (omega arith)
 
 -- two numbers of sweeps behind which nothing is released leave the same word
-same_end : (plan : Plan) (n m : ℕ) (word : Word) → n ≤ m → swept plan (sweeps n plan word) ≡ sweeps n plan word → sweeps m plan word ≡ sweeps n plan word
+same_end : (plan : Plan) (n m : ℕ) (word : Word) → n ≤ m → swept plan (sweeps n plan word) ≡ sweeps n plan word
+    → sweeps m plan word ≡ sweeps n plan word
 same_end plan n m word h e =
     ap (λ k. sweeps k plan word) (let whole : m ≡ n + (m - n) = omega (arith, h) in whole)
     ∙ sweeps-add plan n (m - n) word
     ∙ sweeps_same plan (m - n) (sweeps n plan word) e
 
-pub only_end : (plan : Plan) (word : Word) (n : ℕ) → AreBytes word → swept plan (sweeps n plan word) ≡ sweeps n plan word → cleaned plan word ≡ sweeps n plan word
+pub only_end : (plan : Plan) (word : Word) (n : ℕ) → AreBytes word
+    → swept plan (sweeps n plan word) ≡ sweeps n plan word → cleaned plan word ≡ sweeps n plan word
 unfolding cleaned
 only_end plan word n bytes e = by_test (nat_le n (length (presses word))) refl
   where
-    by_test : (t : Bool) → nat_le n (length (presses word)) ≡ t → sweeps (length (presses word)) plan word ≡ sweeps n plan word
+    by_test : (t : Bool) → nat_le n (length (presses word)) ≡ t
+        → sweeps (length (presses word)) plan word ≡ sweeps n plan word
     by_test true h = same_end plan n (length (presses word)) word (grind (arith, nat_tests)) e
     by_test false h =
-        sym (same_end plan (length (presses word)) n word (grind (arith, nat_tests)) (enough plan (length (presses word)) word bytes (omega arith)))
+        sym (same_end plan (length (presses word)) n word (grind (arith, nat_tests))
+        (enough plan (length (presses word)) word bytes (omega arith)))
 
 -- a word and the word that a sweep leaves of it are cleaned to the same
 pub cleaned_swept : (plan : Plan) (word : Word) → AreBytes word → cleaned plan (swept plan word) ≡ cleaned plan word
@@ -216,16 +240,19 @@ cleaned_is_same plan word bytes e = only_end plan word 0 bytes e
 -- ---- a loop over sweeps
 
 -- a sweep that leaves as many presses is the last
-pub last_sweep : (plan : Plan) (given word new : Word) (left before : ℕ) → AreBytes word → new ≡ swept plan word → left ≡ length (presses new) →
+pub last_sweep : (plan : Plan) (given word new : Word) (left before : ℕ) → AreBytes word → new ≡ swept plan word →
+    left ≡ length (presses new) →
     before ≡ length (presses word) → left ≡ before → cleaned plan word ≡ cleaned plan given → new ≡ cleaned plan given
 last_sweep plan given word new left before bytes is counted had same whole = by_cases (swept_or plan word bytes)
   where
-    by_cases : (swept plan word ≡ word) ⊎ (length (presses (swept plan word)) < length (presses word)) → new ≡ cleaned plan given
+    by_cases : (swept plan word ≡ word) ⊎ (length (presses (swept plan word)) < length (presses word))
+        → new ≡ cleaned plan given
     by_cases (inl e) = is ∙ e ∙ sym (cleaned_is_same plan word bytes e) ∙ whole
     by_cases (inr h) = absurd (omega (arith, h, counted, had, same, ap (λ w. length (presses w)) is))
 
 -- each other sweep leaves fewer
-pub fewer_left : (plan : Plan) (word new : Word) (left before : ℕ) → AreBytes word → new ≡ swept plan word → left ≡ length (presses new) →
+pub fewer_left : (plan : Plan) (word new : Word) (left before : ℕ) → AreBytes word → new ≡ swept plan word →
+    left ≡ length (presses new) →
     before ≡ length (presses word) → left ≢ before → left < before
 fewer_left plan word new left before bytes is counted had other = by_cases (swept_or plan word bytes)
   where
@@ -242,17 +269,22 @@ none_cleaned plan word e = ap (λ n. sweeps n plan word) (sym e)
 abbrev IsWithin : Word → Word → Type 0
 IsWithin given word = AreBytes word × (length (presses word) ≤ length (presses given))
 
-released_within : (given word : Word) (p : Press) → IsWithin given word → (released word p ≡ word) ⊎ (buttons_in (released word p) < buttons_in word)
+released_within : (given word : Word) (p : Press) → IsWithin given word
+    → (released word p ≡ word) ⊎ (buttons_in (released word p) < buttons_in word)
     → length (presses (released word p)) ≤ length (presses given)
 released_within given word p h (inl e) = omega (arith, h.1, ap (λ v. length (presses v)) e)
-released_within given word p h (inr less) = omega (arith, h.1, less, presses_count 0 word, presses_count 0 (released word p))
+released_within given word p h (inr less) =
+    omega (arith, h.1, less, presses_count 0 word, presses_count 0 (released word p))
 
 keeps_within : (plan : Plan) (given : Word) → Keeps plan (IsWithin given)
 unfolding Keeps
 keeps_within plan given word p h =
-    tried_keeps plan (IsWithin given) word p h (λ _. (released_bytes word p h.0, released_within given word p h (released_or word p h.0)))
+    tried_keeps plan (IsWithin given) word p h
+    (λ _. (released_bytes word p h.0, released_within given word p h (released_or word p h.0)))
 
 -- a cleaned word has no more presses
-pub cleaned_fewer : (plan : Plan) (word : Word) → AreBytes word → length (presses (cleaned plan word)) ≤ length (presses word)
+pub cleaned_fewer : (plan : Plan) (word : Word) → AreBytes word
+    → length (presses (cleaned plan word)) ≤ length (presses word)
 unfolding cleaned
-cleaned_fewer plan word bytes = (sweeps_keep plan (IsWithin word) (keeps_within plan word) (length (presses word)) word (bytes, omega arith)).1
+cleaned_fewer plan word bytes =
+    (sweeps_keep plan (IsWithin word) (keeps_within plan word) (length (presses word)) word (bytes, omega arith)).1

@@ -19,20 +19,24 @@ use Rattle.nj_clean.proofs.Firsts.{drop_next}
 -- ---- judgements
 
 -- a word wins as its judgement says
-pub wins_judged : (plan : Plan) (word : Word) (judged : Judged) → judged ≡ judged_of plan word → wins plan word ≡ is_win judged.verdict
+pub wins_judged : (plan : Plan) (word : Word) (judged : Judged) → judged ≡ judged_of plan word
+    → wins plan word ≡ is_win judged.verdict
 unfolding wins replayed_of
 wins_judged plan word judged e = ap (λ j. is_win j.verdict) (sym e)
 
-pub reward_judged : (plan : Plan) (word : Word) (judged : Judged) → judged ≡ judged_of plan word → judged.reward ≡ (let r = replayed_of plan word in r.reward)
+pub reward_judged : (plan : Plan) (word : Word) (judged : Judged) → judged ≡ judged_of plan word
+    → judged.reward ≡ (let r = replayed_of plan word in r.reward)
 unfolding replayed_of
 reward_judged plan word judged e = ap (λ j. j.reward) e
 
-pub tried_won : (plan : Plan) (word : Word) (p : Press) (judged : Judged) → judged ≡ judged_of plan (released word p) → is_win judged.verdict ≡ true → tried plan word p ≡ released word p
+pub tried_won : (plan : Plan) (word : Word) (p : Press) (judged : Judged) → judged ≡ judged_of plan (released word p)
+    → is_win judged.verdict ≡ true → tried plan word p ≡ released word p
 tried_won plan word p judged e won =
     let yes_wins : wins plan (released word p) ≡ true = wins_judged plan (released word p) judged e ∙ won in
     rw yes_wins refl
 
-pub tried_lost : (plan : Plan) (word : Word) (p : Press) (judged : Judged) → judged ≡ judged_of plan (released word p) → is_win judged.verdict ≡ false → tried plan word p ≡ word
+pub tried_lost : (plan : Plan) (word : Word) (p : Press) (judged : Judged) → judged ≡ judged_of plan (released word p)
+    → is_win judged.verdict ≡ false → tried plan word p ≡ word
 tried_lost plan word p judged e lost =
     let no_wins : wins plan (released word p) ≡ false = wins_judged plan (released word p) judged e ∙ lost in
     rw no_wins refl
@@ -50,7 +54,8 @@ alters_set step word pad = record {
 }
 
 pub alters_on : (step : ℕ) (word mid new : Word) → Alters step word mid → Alters step mid new → Alters step word new
-alters_on step word mid new a b = record { before = b.before ∙ a.before; behind = b.behind ∙ a.behind; long = b.long ∙ a.long }
+alters_on step word mid new a b =
+    record { before = b.before ∙ a.before; behind = b.behind ∙ a.behind; long = b.long ∙ a.long }
 
 pub alters_same : (step : ℕ) (word mid new : Word) → new ≡ mid → Alters step word mid → Alters step word new
 alters_same step word mid new e a = subst (Alters step word) (sym e) a
@@ -64,34 +69,43 @@ put_back (y ∷ ys) (suc step) x pad e = ap (λ zs. y ∷ zs) (put_back ys step 
 -- ---- the buttons of a pad
 
 -- the first of several buttons, and the others
-button_on : {A B : Type 0} (f : B → A → B) (g : Button → A) (p : Button → Bool) (word next whole : B) (b : Button) (rest : List Button) →
-    next ≡ fold f word (map g (filter p (b ∷ []))) → fold f word (map g (filter p (b ∷ rest))) ≡ whole → fold f next (map g (filter p rest)) ≡ whole
+button_on : {A B : Type 0} (f : B → A → B) (g : Button → A) (p : Button → Bool) (word next whole : B) (b : Button)
+    (rest : List Button) →
+    next ≡ fold f word (map g (filter p (b ∷ []))) → fold f word (map g (filter p (b ∷ rest))) ≡ whole
+    → fold f next (map g (filter p rest)) ≡ whole
 button_on f g p word next whole b rest now so_far = by_test (p b) now so_far
   where
-    by_test : (t : Bool) → next ≡ fold f word (map g (if t then b ∷ [] else [])) → fold f word (map g (if t then b ∷ filter p rest else filter p rest)) ≡ whole
+    by_test : (t : Bool) → next ≡ fold f word (map g (if t then b ∷ [] else []))
+        → fold f word (map g (if t then b ∷ filter p rest else filter p rest)) ≡ whole
         → fold f next (map g (filter p rest)) ≡ whole
     by_test true now so_far = ap (λ w. fold f w (map g (filter p rest))) now ∙ so_far
     by_test false now so_far = ap (λ w. fold f w (map g (filter p rest))) now ∙ so_far
 
-button_counts : (p : Button → Bool) (b : Button) (rest : List Button) → length (filter p (b ∷ rest)) ≡ length (filter p (b ∷ [])) + length (filter p rest)
+button_counts : (p : Button → Bool) (b : Button) (rest : List Button)
+    → length (filter p (b ∷ rest)) ≡ length (filter p (b ∷ [])) + length (filter p rest)
 button_counts p b rest = by_test (p b)
   where
-    by_test : (t : Bool) → length (if t then b ∷ filter p rest else filter p rest) ≡ length (if t then b ∷ [] else []) + length (filter p rest)
+    by_test : (t : Bool) → length (if t then b ∷ filter p rest else filter p rest)
+        ≡ length (if t then b ∷ [] else []) + length (filter p rest)
     by_test true = omega arith
     by_test false = omega arith
 
-pub button_left : {A B : Type 0} (f : B → A → B) (g : Button → A) (p : Button → Bool) (word next whole : B) (b : Button) (all rest : List Button) → all ≡ b ∷ rest →
-    next ≡ fold f word (map g (filter p (b ∷ []))) → fold f word (map g (filter p all)) ≡ whole → fold f next (map g (filter p rest)) ≡ whole
+pub button_left : {A B : Type 0} (f : B → A → B) (g : Button → A) (p : Button → Bool) (word next whole : B) (b : Button)
+    (all rest : List Button) → all ≡ b ∷ rest →
+    next ≡ fold f word (map g (filter p (b ∷ []))) → fold f word (map g (filter p all)) ≡ whole
+    → fold f next (map g (filter p rest)) ≡ whole
 button_left f g p word next whole b all rest e now so_far =
     button_on f g p word next whole b rest now (ap (λ bs. fold f word (map g (filter p bs))) (sym e) ∙ so_far)
 
-pub buttons_counted : (p : Button → Bool) (b : Button) (all rest : List Button) → all ≡ b ∷ rest → length (filter p all) ≡ length (filter p (b ∷ [])) + length (filter p rest)
+pub buttons_counted : (p : Button → Bool) (b : Button) (all rest : List Button) → all ≡ b ∷ rest
+    → length (filter p all) ≡ length (filter p (b ∷ [])) + length (filter p rest)
 buttons_counted p b all rest e = ap (λ bs. length (filter p bs)) e ∙ button_counts p b rest
 
 -- ---- the steps of a word
 
 -- the presses from a step on are those of the step and those behind it
-pub step_on : (plan : Plan) (word next whole : Word) (step pad : ℕ) → step < length word → pad ≡ get_or word step pad → Alters step word next →
+pub step_on : (plan : Plan) (word next whole : Word) (step pad : ℕ) → step < length word → pad ≡ get_or word step pad →
+    Alters step word next →
     next ≡ fold (tried plan) word (map (press_at step) (buttons_of pad)) →
     fold (tried plan) word (presses_from step (drop step word)) ≡ whole →
     fold (tried plan) next (presses_from (step + 1) (drop (step + 1) next)) ≡ whole
@@ -104,7 +118,9 @@ step_on plan word next whole step pad within is alters now so_far =
     ∙ so_far
 
 -- how many presses are left from a step on
-pub step_counts : (word next : Word) (step pad : ℕ) → step < length word → pad ≡ get_or word step pad → Alters step word next →
+pub step_counts : (word next : Word) (step pad : ℕ) → step < length word → pad ≡ get_or word step pad →
+    Alters step word next →
     buttons_in (drop step word) ≡ length (buttons_of pad) + buttons_in (drop (step + 1) next)
 step_counts word next step pad within is alters =
-    ap buttons_in (drop_next word step pad within is) ∙ ap (λ rest. length (buttons_of pad) + buttons_in rest) (sym alters.behind)
+    ap buttons_in (drop_next word step pad within is)
+    ∙ ap (λ rest. length (buttons_of pad) + buttons_in rest) (sym alters.behind)

@@ -27,13 +27,17 @@ presses_count step (pad ∷ word) =
     ∙ ap₂ (λ n m. n + m) (length-map (buttons_of pad) (press_at step)) (presses_count (step + 1) word)
 
 -- one more pad of a word is counted
-pub counts_on : (word : Word) (i byte item count whole : ℕ) → byte < 256 → i < length word → byte ≡ item → item ≡ get_or word i item →
+pub counts_on : (word : Word) (i byte item count whole : ℕ) → byte < 256 → i < length word → byte ≡ item →
+    item ≡ get_or word i item →
     (count ≤ 8 * i) × (count + buttons_in (drop i word) ≡ whole) →
     (count + count_ones byte ≤ 8 * (i + 1)) × (count + count_ones byte + buttons_in (drop (i + 1) word) ≡ whole)
 counts_on word i byte item count whole below within same is so_far =
     let next : buttons_in (drop i word) ≡ length (buttons_of byte) + buttons_in (drop (i + 1) word) =
-    ap buttons_in (drop_next word i item within is) ∙ ap (λ x. length (buttons_of x) + buttons_in (drop (i + 1) word)) (sym same) in
-    (omega (arith, so_far.0, few_buttons byte below, counted byte below), omega (arith, so_far.1, next, counted byte below))
+    ap buttons_in (drop_next word i item within is)
+    ∙ ap (λ x. length (buttons_of x) + buttons_in (drop (i + 1) word)) (sym same) in (
+      omega (arith, so_far.0, few_buttons byte below, counted byte below),
+      omega (arith, so_far.1, next, counted byte below),
+    )
 
 -- the pads behind the first are bytes
 tail_bytes : (pad : ℕ) (word : Word) → AreBytes (pad ∷ word) → AreBytes word
@@ -43,25 +47,30 @@ head_byte : (pad : ℕ) (word : Word) → AreBytes (pad ∷ word) → pad < 256
 head_byte pad word bytes = bytes 0 0 (omega arith)
 
 -- without a press that it has a word has fewer
-released_fewer : (word : Word) (step : ℕ) (b : Button) → AreBytes word → is_pressed word (press_at step b) ≡ true → buttons_in (released word (press_at step b)) < buttons_in word
+released_fewer : (word : Word) (step : ℕ) (b : Button) → AreBytes word → is_pressed word (press_at step b) ≡ true
+    → buttons_in (released word (press_at step b)) < buttons_in word
 released_fewer [] step b bytes held = let e : holds 0 b ≡ true = held in absurd (let f = unheld b in cc)
 released_fewer (pad ∷ word) zero b bytes held = omega (arith, fewer pad b (head_byte pad word bytes) held)
-released_fewer (pad ∷ word) (suc step) b bytes held = omega (arith, released_fewer word step b (tail_bytes pad word bytes) held)
+released_fewer (pad ∷ word) (suc step) b bytes held =
+    omega (arith, released_fewer word step b (tail_bytes pad word bytes) held)
 
 -- without a press that it has not a word is the same
 released_same : (word : Word) (p : Press) → is_pressed word p ≡ false → released word p ≡ word
 released_same word p e =
     ap (set word p.step) (without_unheld (get_or word p.step 0) p.button e) ∙ set-get_or word p.step 0
 
-pub released_or : (word : Word) (p : Press) → AreBytes word → (released word p ≡ word) ⊎ (buttons_in (released word p) < buttons_in word)
+pub released_or : (word : Word) (p : Press) → AreBytes word
+    → (released word p ≡ word) ⊎ (buttons_in (released word p) < buttons_in word)
 released_or word p bytes = by_test (is_pressed word p) refl
   where
-    by_test : (t : Bool) → is_pressed word p ≡ t → (released word p ≡ word) ⊎ (buttons_in (released word p) < buttons_in word)
+    by_test : (t : Bool) → is_pressed word p ≡ t
+        → (released word p ≡ word) ⊎ (buttons_in (released word p) < buttons_in word)
     by_test true e = inr (released_fewer word p.step p.button bytes e)
     by_test false e = inl (released_same word p e)
 
 -- a press that a word has is one that its release takes away
-pub pressed_fewer : (word : Word) (p : Press) → AreBytes word → is_pressed word p ≡ true → buttons_in (released word p) < buttons_in word
+pub pressed_fewer : (word : Word) (p : Press) → AreBytes word → is_pressed word p ≡ true
+    → buttons_in (released word p) < buttons_in word
 pressed_fewer word p bytes e = released_fewer word p.step p.button bytes e
 
 -- ---- what is kept
@@ -71,11 +80,13 @@ released_long word p = length-set word p.step (without p.button (get_or word p.s
 
 pub released_bytes : (word : Word) (p : Press) → AreBytes word → AreBytes (released word p)
 released_bytes [] p bytes = bytes
-released_bytes (x ∷ xs) p bytes = All-set (λ pad. pad < 256) (x ∷ xs) p.step _ (omega (arith, byte_at (x ∷ xs) p.step bytes)) bytes
+released_bytes (x ∷ xs) p bytes =
+    All-set (λ pad. pad < 256) (x ∷ xs) p.step _ (omega (arith, byte_at (x ∷ xs) p.step bytes)) bytes
   where
     byte_by : (t : Bool) (word : Word) (k : ℕ) → nat_lt k (length word) ≡ t → AreBytes word → get_or word k 0 < 256
     byte_by true word k e bytes = All-get_or (λ pad. pad < 256) word k 0 (grind (arith, nat_tests)) bytes
-    byte_by false word k e bytes = let past : get_or word k 0 ≡ 0 = get_or_past word k 0 (grind (arith, nat_tests)) in omega (arith, past)
+    byte_by false word k e bytes = let past : get_or word k 0 ≡ 0 =
+        get_or_past word k 0 (grind (arith, nat_tests)) in omega (arith, past)
 
     byte_at : (word : Word) (k : ℕ) → AreBytes word → get_or word k 0 < 256
     byte_at word k bytes = byte_by (nat_lt k (length word)) word k refl bytes
@@ -89,7 +100,8 @@ among_at (pad ∷ word) zero (suc i) b c bytes e = e
 among_at (pad ∷ word) (suc k) zero b c bytes e = e
 among_at (pad ∷ word) (suc k) (suc i) b c bytes e = among_at word k i b c (tail_bytes pad word bytes) e
 
-pub released_among : (word : Word) (p q : Press) → AreBytes word → is_pressed (released word p) q ≡ true → is_pressed word q ≡ true
+pub released_among : (word : Word) (p q : Press) → AreBytes word → is_pressed (released word p) q ≡ true
+    → is_pressed word q ≡ true
 released_among word p q bytes e = among_at word p.step q.step p.button q.button bytes e
 
 -- ---- a press of a word is among its presses
@@ -117,18 +129,22 @@ member_filter p x (y ∷ xs) e (inr m) = by_test (p y) (member_filter p x xs e m
     by_test true m = inr m
     by_test false m = m
 
-pressed_from : (first step : ℕ) (word : Word) (b : Button) → is_pressed word (press_at step b) ≡ true → Member (press_at (first + step) b) (presses_from first word)
+pressed_from : (first step : ℕ) (word : Word) (b : Button) → is_pressed word (press_at step b) ≡ true
+    → Member (press_at (first + step) b) (presses_from first word)
 pressed_from first step [] b e = absurd (let f = unheld b in cc)
 pressed_from first zero (pad ∷ word) b e =
     let here : Member (press_at first b) (map (press_at first) (buttons_of pad)) =
     member_map (press_at first) b (buttons_of pad) (member_filter (holds pad) b buttons_in_turn e (a_button b)) in
     let P : ℕ → Type 0 = λ n. Member (press_at n b) (presses_from first (pad ∷ word)) in
-    subst P (let same : first ≡ first + 0 = omega arith in same) (member_left (press_at first b) (map (press_at first) (buttons_of pad)) (presses_from (first + 1) word) here)
+    subst P (let same : first ≡ first + 0 = omega arith in same)
+    (member_left (press_at first b) (map (press_at first) (buttons_of pad)) (presses_from (first + 1) word) here)
 pressed_from first (suc step) (pad ∷ word) b e =
-    let there : Member (press_at (first + 1 + step) b) (presses_from (first + 1) word) = pressed_from (first + 1) step word b e in
+    let there : Member (press_at (first + 1 + step) b) (presses_from (first + 1) word) =
+    pressed_from (first + 1) step word b e in
     let P : ℕ → Type 0 = λ n. Member (press_at n b) (presses_from first (pad ∷ word)) in
     subst P (let same : first + 1 + step ≡ first + suc step = omega arith in same)
-    (member_right (press_at (first + 1 + step) b) (map (press_at first) (buttons_of pad)) (presses_from (first + 1) word) there)
+    (member_right (press_at (first + 1 + step) b) (map (press_at first) (buttons_of pad))
+    (presses_from (first + 1) word) there)
 
 pub pressed_is_member : (word : Word) (p : Press) → is_pressed word p ≡ true → Member p (presses word)
 pressed_is_member word p e =

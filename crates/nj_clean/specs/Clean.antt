@@ -28,7 +28,8 @@ end_told plan (Err refused) = Err refused
 unfoldable pub clean_of : Plan → List ℕ → Result CleanEnd ReplayRefused
 clean_of plan movie = end_told plan (word_of plan.script.hold plan.start movie)
 
--- with p presses there are at most p + 1 sweeps of at most p replays each, and one replay before them, so many frames each
+-- with p presses there are at most p + 1 sweeps of at most p replays each, and one replay before them, so many frames
+-- each
 abbrev pub frames_of : ℕ → ℕ → ℕ
 frames_of frames p = frames * (1 + p * (p + 1))
 

@@ -30,7 +30,7 @@ abbrev pub sweeps : ℕ → Plan → Word → Word
 sweeps zero plan word = word
 sweeps (suc n) plan word = sweeps n plan (swept plan word)
 
--- the word after sweeps until one releases no press. Each sweep before that one releases some, so that as many as the word
--- has presses are enough, and more change nothing
+-- the word after sweeps until one releases no press. Each sweep before that one releases some, so that as many as the
+-- word has presses are enough, and more change nothing
 unfoldable pub cleaned : Plan → Word → Word
 cleaned plan word = sweeps (length (presses word)) plan word

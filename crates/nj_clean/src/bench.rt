@@ -56,9 +56,12 @@ fn is_cartridge(cart: &Cart)
 
 // The image of a word's state is one of its cartridge, and the state is made again from it.
 fn an_image_stands_for_its_word()
-    ensures is_image { (plan : Plan) (word : Word) → IsCartridge plan.cartridge → IsImage (rom_of (power_on plan.cartridge)) (image_of (state_of plan word)) }
-    ensures state { (plan : Plan) (word : Word) → IsCartridge plan.cartridge → of_image (rom_of (power_on plan.cartridge)) (image_of (state_of plan word)) ≡ state_of plan word }
-    ensures len { (plan : Plan) (word : Word) → IsCartridge plan.cartridge → length (image_of (state_of plan word)) ≡ image_len (rom_of (power_on plan.cartridge)) }
+    ensures is_image { (plan : Plan) (word : Word) → IsCartridge plan.cartridge
+        → IsImage (rom_of (power_on plan.cartridge)) (image_of (state_of plan word)) }
+    ensures state { (plan : Plan) (word : Word) → IsCartridge plan.cartridge
+        → of_image (rom_of (power_on plan.cartridge)) (image_of (state_of plan word)) ≡ state_of plan word }
+    ensures len { (plan : Plan) (word : Word) → IsCartridge plan.cartridge
+        → length (image_of (state_of plan word)) ≡ image_len (rom_of (power_on plan.cartridge)) }
 {
     a_word_keeps_the_cartridge();
     an_image_tells_its_state();
@@ -111,7 +114,8 @@ fn run_step<L: Ledger>(
     pad: Pad,
     steps: &mut Steps<L>,
 ) -> Judged
-    ensures after { (plan : Plan) (word : Word) → plan.script ≡ script.now → IsAfter plan word machine.old judged → IsAfter plan (word ++ pad ∷ []) machine.new result }
+    ensures after { (plan : Plan) (word : Word) → plan.script ≡ script.now → IsAfter plan word machine.old judged
+        → IsAfter plan (word ++ pad ∷ []) machine.new result }
     ensures cartridge { rom_of machine.new ≡ rom_of machine.old }
     ensures frames { steps.new ≤ steps.old + script.now.hold }
     ensures never_falls { steps.old ≤ steps.new }
@@ -134,7 +138,8 @@ fn run_steps<L: Ledger>(
     pads: &[Pad],
     steps: &mut Steps<L>,
 ) -> Judged
-    ensures after { (plan : Plan) (word : Word) → plan.script ≡ script.now → IsAfter plan word machine.old before → IsAfter plan (word ++ pads.now) machine.new result }
+    ensures after { (plan : Plan) (word : Word) → plan.script ≡ script.now → IsAfter plan word machine.old before
+        → IsAfter plan (word ++ pads.now) machine.new result }
     ensures cartridge { rom_of machine.new ≡ rom_of machine.old }
     ensures frames { steps.new ≤ steps.old + script.now.hold * length pads.now }
     ensures never_falls { steps.old ≤ steps.new }

@@ -26,7 +26,8 @@ use std::sync::ledger::Ledger;
 
 /// A movie is that of the word that it is read as.
 pub fn a_read_movie_is_its_words(script: &Script)
-    ensures { (start movie : List ℕ) (word : Word) → word_of script.now.hold start movie ≡ Ok word → movie ≡ start ++ held_pads script.now.hold word }
+    ensures { (start movie : List ℕ) (word : Word) → word_of script.now.hold start movie ≡ Ok word
+        → movie ≡ start ++ held_pads script.now.hold word }
 {
     a_movie_is_read_as_its_word();
     let _hold = script.hold();
@@ -42,7 +43,8 @@ fn won_word(
     requires few { length movie.now ≤ 2 ^ 20 }
     requires told { replay_of (plan_in setting) movie.now ≡ Ok replayed }
     requires won { is_win replayed.verdict ≡ true }
-    ensures word { IfOk result (λ won. word_of setting.entry.script.now.hold setting.entry.start.now movie.now ≡ Ok won.word.items) }
+    ensures word { IfOk result
+        (λ won. word_of setting.entry.script.now.hold setting.entry.start.now movie.now ≡ Ok won.word.items) }
     ensures won { IfOk result (λ won. IsWon (plan_in setting.entry) won) }
     ensures bytes { IfOk result (λ won. All (λ pad. pad < 256) won.word.items) }
     ensures few { IfOk result (λ won. length won.word.items ≤ 2 ^ 20) }
@@ -65,7 +67,8 @@ fn won_of(word: Vec<Pad>, replayed: Replayed) -> Won
 
 // What is told of a word that wins and has as many steps and frames as another.
 fn told_of(replayed: Replayed, won: &Won) -> Replayed
-    ensures { result ≡ record { step = replayed.step; frames = replayed.frames; reward = won.now.reward; verdict = Win } }
+    ensures { result
+        ≡ record { step = replayed.step; frames = replayed.frames; reward = won.now.reward; verdict = Win } }
 {
     Replayed {
         step: replayed.step,
@@ -85,7 +88,9 @@ fn told_clean(
 ) -> Result<CleanEnd, AllocError>
     requires few { length won.now.word.items ≤ 2 ^ 20 }
     requires fewer { length (presses won.now.word.items) ≤ given }
-    ensures { IfOk result (λ end. end ≡ Cleaned (movie_of (plan_in setting.entry) won.now.word.items) (given - length (presses won.now.word.items)) (record { step = replayed.step; frames = replayed.frames; reward = won.now.reward; verdict = Win })) }
+    ensures { IfOk result (λ end. end
+        ≡ Cleaned (movie_of (plan_in setting.entry) won.now.word.items) (given - length (presses won.now.word.items))
+        (record { step = replayed.step; frames = replayed.frames; reward = won.now.reward; verdict = Win })) }
 {
     let word = won.word.as_slice();
     let released = given - press_count(word);

@@ -1,7 +1,7 @@
-//! A movie that wins, without the presses that its win does not need. A press is a button that is held in one step behind
-//! the start; sweeps go through the presses and release each whose release leaves a movie that wins, until a sweep
-//! releases none. A press is tried from the image of the state in front of it, so that no try runs the steps before it
-//! again. Read `swept` and `cleaned` (specs/Sweeps.antt) first.
+//! A movie that wins, without the presses that its win does not need. A press is a button that is held in one step
+//! behind the start; sweeps go through the presses and release each whose release leaves a movie that wins, until a
+//! sweep releases none. A press is tried from the image of the state in front of it, so that no try runs the steps
+//! before it again. Read `swept` and `cleaned` (specs/Sweeps.antt) first.
 #![tactic(auto)]
 
 ghost use Rattle.std.specs.Prelude.{◌≡◌, ◌≤◌, ◌+◌, ◌^◌, ◌⊎◌, length, MatchResult, Ok, Err};
@@ -44,8 +44,9 @@ pub enum CleanEnd {
     },
 }
 
-/// Releases each press that a movie's win does not need. The movie is read as in a replay, with the same refusals. With p
-/// presses behind the start and F frames at most F x (1 + p x (p + 1)) frames are run, and none where it is refused.
+/// Releases each press that a movie's win does not need. The movie is read as in a replay, with the same refusals.
+/// With p presses behind the start and F frames at most F x (1 + p x (p + 1)) frames are run, and none where it is
+/// refused.
 pub fn clean<L: Ledger>(
     alloc: Global,
     cart: &Cart,
@@ -55,7 +56,9 @@ pub fn clean<L: Ledger>(
     steps: &mut Steps<L>,
 ) -> Result<CleanEnd, ReplayRefused>
     requires { length movie.now ≤ 2 ^ 20 }
-    ensures answer { MatchResult result (λ end. clean_of (plan_of cart.now script.now start.now) movie.now ≡ Ok end) (λ refused. (refused ≡ ReplayRefused.NoMemory) ⊎ (clean_of (plan_of cart.now script.now start.now) movie.now ≡ Err refused)) }
+    ensures answer { MatchResult result (λ end. clean_of (plan_of cart.now script.now start.now) movie.now ≡ Ok end)
+        (λ refused. (refused ≡ ReplayRefused.NoMemory)
+        ⊎ (clean_of (plan_of cart.now script.now start.now) movie.now ≡ Err refused)) }
     ensures frames { steps.new ≤ steps.old + clean_frames (plan_of cart.now script.now start.now) movie.now }
     ensures never_falls { steps.old ≤ steps.new }
 {

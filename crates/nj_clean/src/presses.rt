@@ -12,7 +12,8 @@ use std::alloc::{AllocError, Global};
 // One more frame of a step of which so many frames are left; the answer is how many are left then.
 fn take_pad(word: &mut Vec<Pad>, hold: u32, left: u32, pad: Pad) -> Result<u32, AllocError>
     requires { 1 ≤ hold }
-    ensures { IfOk result (λ n. (rest : List ℕ) → word.new.items ++ first_from hold n rest ≡ word.old.items ++ first_from hold left (pad ∷ rest)) }
+    ensures { IfOk result (λ n. (rest : List ℕ)
+        → word.new.items ++ first_from hold n rest ≡ word.old.items ++ first_from hold left (pad ∷ rest)) }
 {
     if left == 0 {
         word.push(pad)?;

@@ -97,11 +97,13 @@ fn try_button<L: Ledger>(
     requires step { step < length won.old.word.items }
     requires stands { StandsAt (plan_in setting) (take step won.old.word.items) bench.old }
     requires won { IsWon (plan_in setting) won.old }
-    ensures word { won.new.word.items ≡ fold (tried (plan_in setting.entry)) won.old.word.items (map (press_at step) (filter (holds pad) (button ∷ []))) }
+    ensures word { won.new.word.items ≡ fold (tried (plan_in setting.entry)) won.old.word.items
+        (map (press_at step) (filter (holds pad) (button ∷ []))) }
     ensures alters { Alters step won.old.word.items won.new.word.items }
     ensures won { IsWon (plan_in setting.entry) won.new }
     ensures stands { StandsAt (plan_in setting.entry) (take step won.old.word.items) bench.new }
-    ensures frames { steps.new ≤ steps.old + setting.entry.script.now.hold * (length won.old.word.items - step) * length (filter (holds pad) (button ∷ [])) }
+    ensures frames { steps.new ≤ steps.old + setting.entry.script.now.hold * (length won.old.word.items - step)
+        * length (filter (holds pad) (button ∷ [])) }
     ensures never_falls { steps.old ≤ steps.new }
 {
     if pad.is_pressed(button) {
@@ -121,11 +123,13 @@ fn try_step<L: Ledger>(
     requires step { step < length won.old.word.items }
     requires stands { StandsAt (plan_in setting) (take step won.old.word.items) bench.old }
     requires won { IsWon (plan_in setting) won.old }
-    ensures word { won.new.word.items ≡ fold (tried (plan_in setting.entry)) won.old.word.items (map (press_at step) (buttons_of pad)) }
+    ensures word { won.new.word.items
+        ≡ fold (tried (plan_in setting.entry)) won.old.word.items (map (press_at step) (buttons_of pad)) }
     ensures alters { Alters step won.old.word.items won.new.word.items }
     ensures won { IsWon (plan_in setting.entry) won.new }
     ensures stands { StandsAt (plan_in setting.entry) (take step won.old.word.items) bench.new }
-    ensures frames { steps.new ≤ steps.old + setting.entry.script.now.hold * (length won.old.word.items - step) * length (buttons_of pad) }
+    ensures frames { steps.new
+        ≤ steps.old + setting.entry.script.now.hold * (length won.old.word.items - step) * length (buttons_of pad) }
     ensures never_falls { steps.old ≤ steps.new }
 {
     for bit in 0..8 {
@@ -147,12 +151,14 @@ fn sweep_step<L: Ledger>(
     requires step { step < length won.old.word.items }
     requires stands { StandsAt (plan_in setting) (take at won.old.word.items) bench.old }
     requires won { IsWon (plan_in setting) won.old }
-    ensures word { won.new.word.items ≡ fold (tried (plan_in setting.entry)) won.old.word.items (map (press_at step) (buttons_of (get_or won.old.word.items step 0))) }
+    ensures word { won.new.word.items ≡ fold (tried (plan_in setting.entry)) won.old.word.items
+        (map (press_at step) (buttons_of (get_or won.old.word.items step 0))) }
     ensures alters { Alters step won.old.word.items won.new.word.items }
     ensures won { IsWon (plan_in setting.entry) won.new }
     ensures order { result ≤ step }
     ensures stands { StandsAt (plan_in setting.entry) (take result won.old.word.items) bench.new }
-    ensures frames { steps.new ≤ steps.old + setting.entry.script.now.hold * length won.old.word.items * length (buttons_of (get_or won.old.word.items step 0)) }
+    ensures frames { steps.new ≤ steps.old + setting.entry.script.now.hold * length won.old.word.items
+        * length (buttons_of (get_or won.old.word.items step 0)) }
     ensures never_falls { steps.old ≤ steps.new }
 {
     let pad = won.word[step];
@@ -176,7 +182,8 @@ fn sweep<L: Ledger>(
     ensures word { IfOk result (λ _. won.new.word.items ≡ swept (plan_in setting.entry) won.old.word.items) }
     ensures won { IsWon (plan_in setting.entry) won.new }
     ensures stands { IfOk result (λ _. Stands (plan_in setting.entry) bench.new) }
-    ensures frames { steps.new ≤ steps.old + setting.entry.script.now.hold * length won.old.word.items * length (presses won.old.word.items) }
+    ensures frames { steps.new
+        ≤ steps.old + setting.entry.script.now.hold * length won.old.word.items * length (presses won.old.word.items) }
     ensures never_falls { steps.old ≤ steps.new }
 {
     bench.rewind()?;
@@ -200,7 +207,8 @@ fn sweep_until_none<L: Ledger>(
     ensures word { IfOk result (λ _. won.new.word.items ≡ cleaned (plan_in setting.entry) won.old.word.items) }
     ensures won { IsWon (plan_in setting.entry) won.new }
     ensures frames { (let p = length (presses won.old.word.items) in
-        steps.new ≤ steps.old + length setting.entry.start.now + setting.entry.script.now.hold * length won.old.word.items * p * (p + 1)) }
+        steps.new ≤ steps.old + length setting.entry.start.now + setting.entry.script.now.hold
+        * length won.old.word.items * p * (p + 1)) }
     ensures never_falls { steps.old ≤ steps.new }
 {
     let mut bench = Bench::open(alloc, setting, steps)?;
@@ -227,7 +235,8 @@ pub fn clear<L: Ledger>(
     requires bytes { All (λ pad. pad < 256) won.old.word.items }
     ensures word { IfOk result (λ _. won.new.word.items ≡ cleaned (plan_in setting.entry) won.old.word.items) }
     ensures won { IsWon (plan_in setting.entry) won.new }
-    ensures frames { steps.new + word_frames setting.entry won.old ≤ steps.old + frames_of (word_frames setting.entry won.old) (length (presses won.old.word.items)) }
+    ensures frames { steps.new + word_frames setting.entry won.old
+        ≤ steps.old + frames_of (word_frames setting.entry won.old) (length (presses won.old.word.items)) }
     ensures never_falls { steps.old ≤ steps.new }
 {
     if press_count(won.word.as_slice()) == 0 {

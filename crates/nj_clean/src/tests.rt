@@ -17,12 +17,20 @@ const WALK: [u8; 36] = [
 ];
 
 // One point for each count at $10, and 100 more once it is 5, which wins.
-const GOAL: &str =
-    r#"{"version":1,"properties":[{"name":"x","at":16,"kind":"u8"}],"hash":["x"],"inputs":[{"pads":["........","...R...."]}],"rules":[{"name":"go","weights":[{"property":"x","weight":1}]},{"name":"goal","when":[{"property":"x","op":"==","value":5}],"win":true,"reward":100}]}"#;
+const GOAL: &str = concat!(
+    r#"{"version":1,"properties":[{"name":"x","at":16,"kind":"u8"}],"hash":["x"],"#,
+    r#""inputs":[{"pads":["........","...R...."]}],"#,
+    r#""rules":[{"name":"go","weights":[{"property":"x","weight":1}]},"#,
+    r#"{"name":"goal","when":[{"property":"x","op":"==","value":5}],"win":true,"reward":100}]}"#,
+);
 
 // The same with two frames a step.
-const IN_PAIRS: &str =
-    r#"{"version":1,"properties":[{"name":"x","at":16,"kind":"u8"}],"hash":["x"],"hold":2,"inputs":[{"pads":["........","...R...."]}],"rules":[{"name":"go","weights":[{"property":"x","weight":1}]},{"name":"goal","when":[{"property":"x","op":"==","value":2}],"win":true,"reward":100}]}"#;
+const IN_PAIRS: &str = concat!(
+    r#"{"version":1,"properties":[{"name":"x","at":16,"kind":"u8"}],"hash":["x"],"#,
+    r#""hold":2,"inputs":[{"pads":["........","...R...."]}],"#,
+    r#""rules":[{"name":"go","weights":[{"property":"x","weight":1}]},"#,
+    r#"{"name":"goal","when":[{"property":"x","op":"==","value":2}],"win":true,"reward":100}]}"#,
+);
 
 const R: u8 = 0x80;
 

@@ -32,7 +32,8 @@ pub record Tells {X : Type 0} (same : X → X → Bool) : Type 0 where
   pub equal : (x y : X) → same x y ≡ true → x ≡ y
 
 -- where the count of an element is not 0, the list has it
-pub has : {X : Type 0} (same : X → X → Bool) → Tells same → (x : X) (ys : List X) → 0 < sum_by (one (same x)) ys → Has ys x
+pub has : {X : Type 0} (same : X → X → Bool) → Tells same → (x : X) (ys : List X) → 0 < sum_by (one (same x)) ys
+    → Has ys x
 has same tells x [] some = absurd (omega arith)
 has same tells x (y ∷ ys) some = go (same x y) refl (sum_by-cons (one (same x)) y ys) (has same tells x ys) where
   go : (b : Bool) → same x y ≡ b → sum_by (one (same x)) (y ∷ ys) ≡ one (same x) y + sum_by (one (same x)) ys
@@ -55,7 +56,8 @@ sum_middle f before x after =
     omega (arith, sum_by-append f before (x ∷ after), sum_by-append f before after, sum_by-cons f x after)
 
 -- without one element the sums stay the same
-pub rest_sums : {X : Type 0} (x : X) (xs ys : List X) (found : Has ys x) → SameSums (x ∷ xs) ys → SameSums xs (found.before ++ found.after)
+pub rest_sums : {X : Type 0} (x : X) (xs ys : List X) (found : Has ys x) → SameSums (x ∷ xs) ys
+    → SameSums xs (found.before ++ found.after)
 rest_sums x xs ys found sums f =
     let left = sum_by-cons f x xs in
     let both : sum_by f (x ∷ xs) ≡ sum_by f (found.before ++ x ∷ found.after) = sums f ∙ ap (sum_by f) found.is in
@@ -63,7 +65,8 @@ rest_sums x xs ys found sums f =
     omega arith
 
 -- the first element of one list is in the other
-pub first_found : {X : Type 0} (same : X → X → Bool) → Tells same → (x : X) (xs ys : List X) → SameSums (x ∷ xs) ys → Has ys x
+pub first_found : {X : Type 0} (same : X → X → Bool) → Tells same → (x : X) (xs ys : List X) → SameSums (x ∷ xs) ys
+    → Has ys x
 first_found same tells x xs ys sums =
     let left = sum_by-cons (one (same x)) x xs in
     let both = sums (one (same x)) in
@@ -71,7 +74,8 @@ first_found same tells x xs ys sums =
     has same tells x ys (omega arith)
 
 -- lists with the same sums are rearranged
-pub moved_from_sums : {X : Type 0} (same : X → X → Bool) → Tells same → (xs ys : List X) → SameSums xs ys → IsPermutation xs ys
+pub moved_from_sums : {X : Type 0} (same : X → X → Bool) → Tells same → (xs ys : List X) → SameSums xs ys
+    → IsPermutation xs ys
 moved_from_sums same tells [] ys sums =
     subst (IsPermutation []) (sym (no_members ys (sym (sums (λ _. 1))))) (IsPermutation-refl [])
 moved_from_sums {X} same tells (x ∷ xs) ys sums =
@@ -129,7 +133,8 @@ pub piece_tells : Tells same_piece
 piece_tells = record { itself = piece_itself; equal = pieces_equal }
 
 -- a sum over lists joined is a sum over the lists
-pub sum_flat : {X A : Type 0} (g : X → List A) (f : A → ℕ) (xs : List X) → sum_by f (flat_map g xs) ≡ sum_by (λ x. sum_by f (g x)) xs
+pub sum_flat : {X A : Type 0} (g : X → List A) (f : A → ℕ) (xs : List X)
+    → sum_by f (flat_map g xs) ≡ sum_by (λ x. sum_by f (g x)) xs
 sum_flat g f [] = refl
 sum_flat g f (x ∷ xs) =
     sum_by-append f (g x) (flat_map g xs)

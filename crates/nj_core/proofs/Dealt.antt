@@ -63,7 +63,8 @@ share n entries w = map (λ (e : ℕ × Piece). e.1) (filter (λ (e : ℕ × Pie
 share_more : (h : Piece → ℕ) (n : ℕ) (entry : ℕ × Piece) (entries : List (ℕ × Piece)) (w : ℕ)
     → sum_by h (share n (entry ∷ entries) w) ≡ at (entry.0 % n) (h entry.1) w + sum_by h (share n entries w)
 share_more h n entry entries w = go (eqb (entry.0 % n) w) where
-  go : (b : Bool) → sum_by h (map (λ (e : ℕ × Piece). e.1) (cond b (entry ∷ filter (λ (e : ℕ × Piece). eqb (e.0 % n) w) entries) (filter (λ (e : ℕ × Piece). eqb (e.0 % n) w) entries)))
+  go : (b : Bool) → sum_by h (map (λ (e : ℕ × Piece). e.1) (cond b (entry
+      ∷ filter (λ (e : ℕ × Piece). eqb (e.0 % n) w) entries) (filter (λ (e : ℕ × Piece). eqb (e.0 % n) w) entries)))
       ≡ (if b then h entry.1 else 0) + sum_by h (share n entries w)
   go true = sum_by-cons h entry.1 (share n entries w)
   go false = sym (zero-add (sum_by h (share n entries w)))
@@ -73,13 +74,16 @@ shares : (h : Piece → ℕ) (n : ℕ) (entries : List (ℕ × Piece)) → 1 ≤
     → sum_by (λ w. sum_by h (share n entries w)) (range_with_len 0 n) ≡ sum_by (λ (e : ℕ × Piece). h e.1) entries
 shares h n [] some = sum_zero (range_with_len 0 n)
 shares h n (entry ∷ entries) some =
-    sum_same (λ w. sum_by h (share n (entry ∷ entries) w)) (λ w. at (entry.0 % n) (h entry.1) w + sum_by h (share n entries w)) (range_with_len 0 n) (share_more h n entry entries)
+    sum_same (λ w. sum_by h (share n (entry ∷ entries) w)) (λ w. at (entry.0 % n) (h entry.1) w
+    + sum_by h (share n entries w)) (range_with_len 0 n) (share_more h n entry entries)
     ∙ sum_plus (at (entry.0 % n) (h entry.1)) (λ w. sum_by h (share n entries w)) (range_with_len 0 n)
-    ∙ ap (λ k. k + sum_by (λ w. sum_by h (share n entries w)) (range_with_len 0 n)) (within (entry.0 % n) (h entry.1) 0 n (omega arith) (omega arith))
+    ∙ ap (λ k. k + sum_by (λ w. sum_by h (share n entries w)) (range_with_len 0 n))
+    (within (entry.0 % n) (h entry.1) 0 n (omega arith) (omega arith))
     ∙ ap (λ k. h entry.1 + k) (shares h n entries some)
     ∙ sym (sum_by-cons (λ (e : ℕ × Piece). h e.1) entry entries)
 
-numbered : (h : Piece → ℕ) (k : ℕ) (pieces : List Piece) → sum_by (λ (e : ℕ × Piece). h e.1) (enumerate_from k pieces) ≡ sum_by h pieces
+numbered : (h : Piece → ℕ) (k : ℕ) (pieces : List Piece)
+    → sum_by (λ (e : ℕ × Piece). h e.1) (enumerate_from k pieces) ≡ sum_by h pieces
 numbered h k [] = refl
 numbered h k (piece ∷ pieces) =
     sum_by-cons (λ (e : ℕ × Piece). h e.1) (k, piece) (enumerate_from (k + 1) pieces)
@@ -92,7 +96,8 @@ pub opening_weight : (h : Piece → ℕ) (owners : List Claim) (pieces : List Pi
 unfolding opening
 opening_weight h owners pieces n some =
     sum_map (weigh h) (λ w. beginning (dealt_to n pieces w)) (range_with_len 0 n)
-    ∙ sum_same (λ w. weigh h (beginning (dealt_to n pieces w))) (λ w. sum_by h (share n (enumerate_from 0 pieces) w)) (range_with_len 0 n) (λ w. omega arith)
+    ∙ sum_same (λ w. weigh h (beginning (dealt_to n pieces w))) (λ w. sum_by h (share n (enumerate_from 0 pieces) w))
+    (range_with_len 0 n) (λ w. omega arith)
     ∙ shares h n (enumerate_from 0 pieces) some
     ∙ numbered h 0 pieces
 

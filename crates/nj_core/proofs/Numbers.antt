@@ -31,14 +31,16 @@ one_same : (number : ℕ) (claim : Claim) → claim.number ≡ number → one (h
 one_same number claim same = ap (λ (b : Bool). if b then 1 else 0) (eq-eqb claim.number number same)
 
 -- where none has the number, the first has another
-none_cons : (number : ℕ) (claim : Claim) (claims : List Claim) → NoneHas number (claim ∷ claims) → (claim.number ≢ number) × NoneHas number claims
+none_cons : (number : ℕ) (claim : Claim) (claims : List Claim) → NoneHas number (claim ∷ claims)
+    → (claim.number ≢ number) × NoneHas number claims
 none_cons number claim claims none =
     let sum = sum_by-cons (one (has_number number)) claim claims in (
       λ same. (let is = one_same number claim same in omega arith),
       omega arith,
     )
 
-none_from : (number : ℕ) (claims : List Claim) → ((k : ℕ) (d : Claim) → k < length claims → number ≢ (get_or claims k d).number) → NoneHas number claims
+none_from : (number : ℕ) (claims : List Claim)
+    → ((k : ℕ) (d : Claim) → k < length claims → number ≢ (get_or claims k d).number) → NoneHas number claims
 none_from number [] differ = refl
 none_from number (claim ∷ claims) differ =
     let sum = sum_by-cons (one (has_number number)) claim claims in
@@ -54,11 +56,13 @@ apart (claim ∷ claims) distinct = (
   apart claims (λ i j d lt within. distinct (suc i) (suc j) d (omega arith) (omega arith)),
 )
 
-none_filter : (number : ℕ) (p : Claim → Bool) (claims : List Claim) → NoneHas number claims → NoneHas number (filter p claims)
+none_filter : (number : ℕ) (p : Claim → Bool) (claims : List Claim) → NoneHas number claims
+    → NoneHas number (filter p claims)
 none_filter number p [] none = none
 none_filter number p (claim ∷ claims) none =
     go (p claim) (none_filter number p claims (none_cons number claim claims none).1) where
-      go : (b : Bool) → NoneHas number (filter p claims) → NoneHas number (cond b (claim ∷ filter p claims) (filter p claims))
+      go : (b : Bool) → NoneHas number (filter p claims)
+          → NoneHas number (cond b (claim ∷ filter p claims) (filter p claims))
       go true rest =
           let sum = sum_by-cons (one (has_number number)) claim (filter p claims) in
           let first = one_other number claim (none_cons number claim claims none).0 in
@@ -93,15 +97,19 @@ swapped a x (z ∷ zs) differ =
       | inl az ↦ elim (cases_lt x.number z.number) [
         | inl xz ↦ elim (cases_lt a.number x.number) [
           | inl ax ↦ ap (put_by_number a) (in_front x z zs xz) ∙ in_front a x (z ∷ zs) ax
-              ∙ sym (ap (put_by_number x) (in_front a z zs az) ∙ behind x a (z ∷ zs) (omega arith) ∙ ap (λ ds. a ∷ ds) (in_front x z zs xz))
-          | inr xa ↦ ap (put_by_number a) (in_front x z zs xz) ∙ behind a x (z ∷ zs) xa ∙ ap (λ ds. x ∷ ds) (in_front a z zs az)
+              ∙ sym (ap (put_by_number x) (in_front a z zs az) ∙ behind x a (z ∷ zs) (omega arith)
+              ∙ ap (λ ds. a ∷ ds) (in_front x z zs xz))
+          | inr xa ↦ ap (put_by_number a) (in_front x z zs xz) ∙ behind a x (z ∷ zs) xa
+              ∙ ap (λ ds. x ∷ ds) (in_front a z zs az)
               ∙ sym (ap (put_by_number x) (in_front a z zs az) ∙ in_front x a (z ∷ zs) (omega arith))
         ]
         | inr zx ↦ ap (put_by_number a) (behind x z zs zx) ∙ in_front a z (put_by_number x zs) az
-            ∙ sym (ap (put_by_number x) (in_front a z zs az) ∙ behind x a (z ∷ zs) (omega arith) ∙ ap (λ ds. a ∷ ds) (behind x z zs zx))
+            ∙ sym (ap (put_by_number x) (in_front a z zs az) ∙ behind x a (z ∷ zs) (omega arith)
+            ∙ ap (λ ds. a ∷ ds) (behind x z zs zx))
       ]
       | inr za ↦ elim (cases_lt x.number z.number) [
-        | inl xz ↦ ap (put_by_number a) (in_front x z zs xz) ∙ behind a x (z ∷ zs) (omega arith) ∙ ap (λ ds. x ∷ ds) (behind a z zs za)
+        | inl xz ↦ ap (put_by_number a) (in_front x z zs xz) ∙ behind a x (z ∷ zs) (omega arith)
+            ∙ ap (λ ds. x ∷ ds) (behind a z zs za)
             ∙ sym (ap (put_by_number x) (behind a z zs za) ∙ in_front x z (put_by_number a zs) xz)
         | inr zx ↦ ap (put_by_number a) (behind x z zs zx) ∙ behind a z (put_by_number x zs) za
             ∙ ap (λ ds. z ∷ ds) (swapped a x zs differ)
@@ -158,7 +166,8 @@ pairs (x ∷ xs) up i zero d lt within = absurd (omega arith)
 pairs (x ∷ xs) up zero (suc j) d lt within = up.0 j d (omega arith)
 pairs (x ∷ xs) up (suc i) (suc j) d lt within = pairs xs up.1 i j d (omega arith) (omega arith)
 
-put_all : (n : ℕ) (x : Claim) (xs : List Claim) → n ≤ x.number → All (λ y. n ≤ y.number) xs → All (λ y. n ≤ y.number) (put_by_number x xs)
+put_all : (n : ℕ) (x : Claim) (xs : List Claim) → n ≤ x.number → All (λ y. n ≤ y.number) xs
+    → All (λ y. n ≤ y.number) (put_by_number x xs)
 put_all n x [] le all = All-cons (λ y. n ≤ y.number) x [] le all
 put_all n x (y ∷ ys) le all =
     elim (ltb x.number y.number) as (λ b. All (λ z. n ≤ z.number) (cond b (x ∷ y ∷ ys) (y ∷ put_by_number x ys))) [
@@ -172,7 +181,8 @@ put_ascends x [] up = (All-nil (λ y. x.number ≤ y.number), tt)
 put_ascends x (y ∷ ys) up =
     elim (cases_lt x.number y.number) [
       | inl lt ↦ rw (in_front x y ys lt) (
-        All-cons (λ z. x.number ≤ z.number) y ys (omega arith) (All-weaker (λ z. y.number ≤ z.number) (λ z. x.number ≤ z.number) (λ z le. omega arith) ys up.0),
+        All-cons (λ z. x.number ≤ z.number) y ys (omega arith)
+            (All-weaker (λ z. y.number ≤ z.number) (λ z. x.number ≤ z.number) (λ z le. omega arith) ys up.0),
         up,
       )
       | inr le ↦ rw (behind x y ys le) (put_all y.number x ys le up.0, put_ascends x ys up.1)
@@ -192,4 +202,5 @@ rising_stays (x ∷ y ∷ ys) up =
 
 -- claims by rising number
 pub rising : (xs : List Claim) → AreRising xs (by_number xs)
-rising xs = record { moved = by_number_moves xs; rising = pairs (by_number xs) (by_number_ascends xs); stays = rising_stays xs }
+rising xs =
+    record { moved = by_number_moves xs; rising = pairs (by_number xs) (by_number_ascends xs); stays = rising_stays xs }

@@ -24,18 +24,23 @@ agree_on p q (x ∷ xs) all =
 -- the claims whose key is owned by their number are the first ones of new keys
 pub owned_claims : OwnedClaimsAreFirst
 owned_claims opening owners dealt made distinct below moved least_is =
-    let on_dealt : AreLeast opening dealt owners = λ key. (least_is key ∙ sym (least_moved (opening key) key dealt made moved)) in
+    let on_dealt : AreLeast opening dealt owners =
+    λ key. (least_is key ∙ sym (least_moved (opening key) key dealt made moved)) in
     sym (by_number_same (filter (is_owned owners) dealt) (filter (is_owned owners) made)
-    (apart_filter (is_owned owners) dealt (apart dealt distinct)) (filter_sums (is_owned owners) dealt made (sums_moved dealt made moved)))
-    ∙ ap by_number (agree_on (is_owned owners) (is_first opening dealt) dealt (owned_first opening owners dealt below on_dealt))
+    (apart_filter (is_owned owners) dealt (apart dealt distinct))
+    (filter_sums (is_owned owners) dealt made (sums_moved dealt made moved)))
+    ∙ ap by_number
+    (agree_on (is_owned owners) (is_first opening dealt) dealt (owned_first opening owners dealt below on_dealt))
 
 -- lists and hands are empty
 abbrev AreSpent : List WorkerState → Type 0
 AreSpent workers = All (λ worker. (worker.waiting ≡ []) × (worker.hand ≡ None)) workers
 
 -- a worker with an empty list and hand has its finished pieces alone
-spent_worker : (worker other : WorkerState) → worker.waiting ≡ other.waiting → worker.hand ≡ other.hand → worker.finished ≡ other.finished → worker ≡ other
-spent_worker worker other waiting hand finished = λ i. record { waiting = waiting i; hand = hand i; finished = finished i }
+spent_worker : (worker other : WorkerState) → worker.waiting ≡ other.waiting → worker.hand ≡ other.hand
+    → worker.finished ≡ other.finished → worker ≡ other
+spent_worker worker other waiting hand finished =
+    λ i. record { waiting = waiting i; hand = hand i; finished = finished i }
 
 abbrev only_finished : List Piece → WorkerState
 only_finished pieces = record { waiting = []; hand = None; finished = pieces }

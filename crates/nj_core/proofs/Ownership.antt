@@ -30,7 +30,8 @@ or_assoc : (a b c : Bool) → ((a || b) || c) ≡ (a || (b || c))
 or_assoc true b c = refl
 or_assoc false b c = refl
 
-lesser_passes : (p : ℕ → Bool) → Falls p → (opening : Option ℕ) (number : ℕ) → p (lesser opening number) ≡ (passes p opening || p number)
+lesser_passes : (p : ℕ → Bool) → Falls p → (opening : Option ℕ) (number : ℕ)
+    → p (lesser opening number) ≡ (passes p opening || p number)
 lesser_passes p falls None number = refl
 lesser_passes p falls (Some other) number = falls other number
 
@@ -74,12 +75,14 @@ any_number : (p : ℕ → Bool) (key : ℕ) (claims : List Claim)
 any_number p key [] = refl
 any_number p key (c ∷ cs) = go (eqb c.key key) (any_number p key cs) where
   go : (b : Bool) → list_any p (numbers_of key cs) ≡ list_any (λ d. p d.number && eqb d.key key) cs
-      → list_any p (map (λ (d : Claim). d.number) (cond b (c ∷ filter (λ d. eqb d.key key) cs) (filter (λ d. eqb d.key key) cs)))
+      → list_any p
+      (map (λ (d : Claim). d.number) (cond b (c ∷ filter (λ d. eqb d.key key) cs) (filter (λ d. eqb d.key key) cs)))
       ≡ ((p c.number && b) || list_any (λ d. p d.number && eqb d.key key) cs)
   go true rest =
       ap (λ r. p c.number || r) rest
       ∙ ap (λ b. b || list_any (λ (d : Claim). p d.number && eqb d.key key) cs) (sym (and_true (p c.number)))
-  go false rest = rest ∙ ap (λ b. b || list_any (λ (d : Claim). p d.number && eqb d.key key) cs) (sym (and_false (p c.number)))
+  go false rest =
+      rest ∙ ap (λ b. b || list_any (λ (d : Claim). p d.number && eqb d.key key) cs) (sym (and_false (p c.number)))
 
 -- the least does not depend on the order of the claims
 pub least_moved : (opening : Option ℕ) (key : ℕ) (xs ys : List Claim) → IsPermutation xs ys
@@ -96,12 +99,14 @@ least_moved opening key xs ys moved =
     )
 
 -- an owner is a number where it is at most that and not below it
-number_between : (o : Option ℕ) (number : ℕ) → is_number o number ≡ (passes (λ n. leb n number) o && not (passes (λ n. ltb n number) o))
+number_between : (o : Option ℕ) (number : ℕ)
+    → is_number o number ≡ (passes (λ n. leb n number) o && not (passes (λ n. ltb n number) o))
 number_between None number = refl
 number_between (Some other) number = grind (arith, nat_tests)
 
 -- where some member passes
-any_at : (p : Claim → Bool) (cs : List Claim) (k : ℕ) (d : Claim) → k < length cs → p (get_or cs k d) ≡ true → list_any p cs ≡ true
+any_at : (p : Claim → Bool) (cs : List Claim) (k : ℕ) (d : Claim) → k < length cs → p (get_or cs k d) ≡ true
+    → list_any p cs ≡ true
 any_at p [] k d lt is = absurd (omega arith)
 any_at p (c ∷ cs) zero d lt is = ap (λ b. b || list_any p cs) is
 any_at p (c ∷ cs) (suc k) d lt is = ap (λ b. p c || b) (any_at p cs k d (omega arith) is) ∙ or_right (p c) true refl
@@ -134,13 +139,15 @@ owned_first opening owners claims below least_is k d lt =
     ap (λ (r : Option ℕ). is_number r n) (least_is claim.key)
     ∙ number_between (least o numbers) n
     ∙ ap (λ b. b && not (passes (λ m. ltb m n) (least o numbers)))
-    (least_passes (λ m. leb m n) (at_most_falls n) o numbers ∙ ap (λ b. passes (λ m. leb m n) o || b) there ∙ or_right (passes (λ m. leb m n) o) true refl)
+    (least_passes (λ m. leb m n) (at_most_falls n) o numbers ∙ ap (λ b. passes (λ m. leb m n) o || b) there
+    ∙ or_right (passes (λ m. leb m n) o) true refl)
     ∙ ap not (least_passes (λ m. ltb m n) (below_falls n) o numbers
     ∙ ap (λ b. b || list_any (λ m. ltb m n) numbers) (below_or_none o n (below_one o claims k d lt (below claim.key)))
     ∙ ap (λ b. is_some o || b) (any_number (λ m. ltb m n) claim.key claims))
     ∙ neither (is_some o) (list_any (λ c. ltb c.number n && eqb c.key claim.key) claims)
 
-owner_if : (b : Bool) (xs ys : List Claim) (key : ℕ) → owner (if b then xs else ys) key ≡ (if b then owner xs key else owner ys key)
+owner_if : (b : Bool) (xs ys : List Claim) (key : ℕ)
+    → owner (if b then xs else ys) key ≡ (if b then owner xs key else owner ys key)
 owner_if true xs ys key = refl
 owner_if false xs ys key = refl
 
@@ -161,8 +168,10 @@ three_tests false false c e n old new same other is = is
 pub takes_lesser : AClaimTakesTheLesser
 takes_lesser claim [] key = refl
 takes_lesser claim (e ∷ es) key =
-    owner_if (eqb e.key claim.key) (record { key = e.key; number = min e.number claim.number } ∷ es) (e ∷ claimed claim es) key
-    ∙ three_tests (eqb e.key claim.key) (eqb e.key key) (eqb claim.key key) e.number claim.number (owner es key) (owner (claimed claim es) key)
+    owner_if (eqb e.key claim.key)
+    (record { key = e.key; number = min e.number claim.number } ∷ es) (e ∷ claimed claim es) key
+    ∙ three_tests (eqb e.key claim.key) (eqb e.key key) (eqb claim.key key) e.number claim.number (owner es key)
+    (owner (claimed claim es) key)
     (λ is. ap (λ k. eqb k key) (eqb-true e.key claim.key is))
     (λ is same. ne_eqb claim.key key (λ h. eqb-false e.key claim.key is (eqb-true e.key key same ∙ sym h)))
     (takes_lesser claim es key)
@@ -184,7 +193,8 @@ lesser_is (Some m) n r is =
       | inr le ↦ inr (omega arith)
     ]
 
-attained_more : (o : Option ℕ) (n : ℕ) (ns : List ℕ) (r : ℕ) → (Some (lesser o n) ≡ Some r) ⊎ Contains ns r → (o ≡ Some r) ⊎ Contains (n ∷ ns) r
+attained_more : (o : Option ℕ) (n : ℕ) (ns : List ℕ) (r : ℕ) → (Some (lesser o n) ≡ Some r) ⊎ Contains ns r
+    → (o ≡ Some r) ⊎ Contains (n ∷ ns) r
 attained_more o n ns r is =
     elim is [
       | inl e ↦ elim (lesser_is o n r (same_Some (lesser o n) r e)) [
@@ -194,7 +204,8 @@ attained_more o n ns r is =
       | inr c ↦ inr (suc c.0, omega arith, c.2)
     ]
 
-least_more : (o : Option ℕ) (n : ℕ) (ns : List ℕ) (r : Option ℕ) → IsLeast (Some (lesser o n)) ns r → IsLeast o (n ∷ ns) r
+least_more : (o : Option ℕ) (n : ℕ) (ns : List ℕ) (r : Option ℕ) → IsLeast (Some (lesser o n)) ns r
+    → IsLeast o (n ∷ ns) r
 least_more o n ns None is = absurd (let h = is.0 in cc)
 least_more o n ns (Some r) is = (
   attained_more o n ns r is.0,
@@ -206,7 +217,8 @@ least_more o n ns (Some r) is = (
 least_least : (opening : Option ℕ) (numbers : List ℕ) → IsLeast opening numbers (least opening numbers)
 least_least None [] = (refl, refl)
 least_least (Some o) [] = (inl refl, omega arith, All-nil (λ n. o ≤ n))
-least_least opening (n ∷ ns) = least_more opening n ns (least (Some (lesser opening n)) ns) (least_least (Some (lesser opening n)) ns)
+least_least opening (n ∷ ns) =
+    least_more opening n ns (least (Some (lesser opening n)) ns) (least_least (Some (lesser opening n)) ns)
 
 not_above : (opening : Option ℕ) (numbers : List ℕ) (a b : ℕ)
     → IfSome opening (λ m. a ≤ m) → All (λ m. a ≤ m) numbers → (opening ≡ Some b) ⊎ Contains numbers b → a ≤ b
@@ -216,14 +228,16 @@ not_above opening numbers a b below all is =
       | inr c ↦ All-contains (λ m. a ≤ m) numbers b all c
     ]
 
-none_attained : (opening : Option ℕ) (numbers : List ℕ) (b : ℕ) → opening ≡ None → numbers ≡ [] → (opening ≡ Some b) ⊎ Contains numbers b → ⊥
+none_attained : (opening : Option ℕ) (numbers : List ℕ) (b : ℕ) → opening ≡ None → numbers ≡ []
+    → (opening ≡ Some b) ⊎ Contains numbers b → ⊥
 none_attained opening numbers b none empty is =
     elim is [
       | inl there ↦ cc
       | inr c ↦ (let h : length numbers ≡ 0 = ap length empty in let k = c.1 in omega arith)
     ]
 
-one_least : (opening : Option ℕ) (numbers : List ℕ) (a b : Option ℕ) → IsLeast opening numbers a → IsLeast opening numbers b → a ≡ b
+one_least : (opening : Option ℕ) (numbers : List ℕ) (a b : Option ℕ) → IsLeast opening numbers a
+    → IsLeast opening numbers b → a ≡ b
 one_least opening numbers None None x y = refl
 one_least opening numbers None (Some b) x y = absurd (none_attained opening numbers b x.0 x.1 y.0)
 one_least opening numbers (Some a) None x y = absurd (none_attained opening numbers a y.0 y.1 x.0)

@@ -61,13 +61,15 @@ sum_kept f change (y ∷ ys) (suc w) kept =
     omega (arith, sum_by-cons f y ys, sum_by-cons f y (changed change w ys), sum_kept f change ys w kept)
 
 -- the worker of which something is read
-was_read : {A : Type 0} (read : WorkerState → Option A) (o : Option WorkerState) (a : A) → option_and_then read o ≡ Some a
+was_read : {A : Type 0} (read : WorkerState → Option A) (o : Option WorkerState) (a : A)
+    → option_and_then read o ≡ Some a
     → (worker : WorkerState) × (o ≡ Some worker) × (read worker ≡ Some a)
 was_read read None a is = absurd (cc)
 was_read read (Some worker) a is = (worker, refl, is)
 
 -- a worker with an empty hand, if its hand is found empty
-idle_worker : (o : Option WorkerState) → is_idle o ≡ true → (worker : WorkerState) × (o ≡ Some worker) × (worker.hand ≡ None)
+idle_worker : (o : Option WorkerState) → is_idle o ≡ true → (worker : WorkerState) × (o ≡ Some worker)
+    × (worker.hand ≡ None)
 idle_worker None idle = absurd (cc)
 idle_worker (Some worker) idle = (worker, refl, empty worker.hand idle) where
   empty : (hand : Option Hand) → is_none hand ≡ true → hand ≡ None
@@ -75,7 +77,8 @@ idle_worker (Some worker) idle = (worker, refl, empty worker.hand idle) where
   empty (Some hand) h = absurd (cc)
 
 -- a piece taken from a list leaves hands as they are
-idle_kept : (workers : List WorkerState) (w v : ℕ) → is_idle (slice_get (changed without_first v workers) w) ≡ is_idle (slice_get workers w)
+idle_kept : (workers : List WorkerState) (w v : ℕ)
+    → is_idle (slice_get (changed without_first v workers) w) ≡ is_idle (slice_get workers w)
 idle_kept [] w v = refl
 idle_kept (worker ∷ workers) zero zero = refl
 idle_kept (worker ∷ workers) zero (suc v) = refl
@@ -129,21 +132,28 @@ take_made f workers w v piece idle =
 abbrev among : State → List WorkerState → State
 among state workers = record state { workers = workers }
 
-taken_makes : (w v : ℕ) (start end : State) → with_workers start (taken w v start.workers) ≡ Some end → Makes start end []
+taken_makes : (w v : ℕ) (start end : State) → with_workers start (taken w v start.workers) ≡ Some end
+    → Makes start end []
 taken_makes w v start end is =
-    go (is_idle (slice_get start.workers w)) refl (option_and_then first_piece (slice_get start.workers v)) refl is where
-      go : (b : Bool) → is_idle (slice_get start.workers w) ≡ b → (o : Option Piece) → option_and_then first_piece (slice_get start.workers v) ≡ o
-          → with_workers start (if b then option_map (λ piece. changed (holding piece) w (changed without_first v start.workers)) o else None) ≡ Some end → Makes start end []
+    go (is_idle (slice_get start.workers w)) refl (option_and_then first_piece (slice_get start.workers v)) refl
+    is where
+      go : (b : Bool) → is_idle (slice_get start.workers w) ≡ b → (o : Option Piece)
+          → option_and_then first_piece (slice_get start.workers v) ≡ o
+          → with_workers start (if b
+          then option_map (λ piece. changed (holding piece) w (changed without_first v start.workers)) o else None)
+          ≡ Some end → Makes start end []
       go false idle o first is = absurd (cc)
       go true idle None first is = absurd (cc)
       go true idle (Some piece) first is =
-          subst (λ (s : State). Makes start s []) (same_Some (among start (changed (holding piece) w (changed without_first v start.workers))) end is)
+          subst (λ (s : State). Makes start s [])
+          (same_Some (among start (changed (holding piece) w (changed without_first v start.workers))) end is)
           (no_claims start (among start (changed (holding piece) w (changed without_first v start.workers)))
           (λ h. take_pieces h start.workers w v piece idle first) (λ f. take_made f start.workers w v piece idle) refl)
 
 -- the piece of a hand that has no claim at its place
 done_hand : (hand : Option Hand) (piece : Piece)
-    → option_and_then (λ (h : Hand). if is_none (slice_get h.piece h.place) then Some h.piece else None) hand ≡ Some piece
+    → option_and_then (λ (h : Hand). if is_none (slice_get h.piece h.place) then Some h.piece else None) hand
+    ≡ Some piece
     → (h : Hand) × (hand ≡ Some h) × (h.piece ≡ piece) × (slice_get h.piece h.place ≡ None)
 done_hand None piece is = absurd (cc)
 done_hand (Some h) piece is = go (slice_get h.piece h.place) refl is where
@@ -177,21 +187,28 @@ finish_made f worker piece is =
     omega arith
 
 -- a change of a worker that keeps its weight keeps the sum
-change_kept : (f : WorkerState → ℕ) (change : WorkerState → WorkerState) (workers : List WorkerState) (w : ℕ) (worker : WorkerState)
-    → slice_get workers w ≡ Some worker → f (change worker) ≡ f worker → sum_by f (changed change w workers) ≡ sum_by f workers
+change_kept : (f : WorkerState → ℕ) (change : WorkerState
+    → WorkerState) (workers : List WorkerState) (w : ℕ) (worker : WorkerState)
+    → slice_get workers w ≡ Some worker → f (change worker) ≡ f worker
+    → sum_by f (changed change w workers) ≡ sum_by f workers
 change_kept f change workers w worker there kept = omega (arith, sum_changed f change workers w worker there)
 
-finished_makes : (w : ℕ) (start end : State) → with_workers start (finished_by w start.workers) ≡ Some end → Makes start end []
+finished_makes : (w : ℕ) (start end : State) → with_workers start (finished_by w start.workers) ≡ Some end
+    → Makes start end []
 finished_makes w start end is = go (option_and_then done_piece (slice_get start.workers w)) refl is where
   go : (o : Option Piece) → option_and_then done_piece (slice_get start.workers w) ≡ o
-      → with_workers start (option_map (λ piece. changed (finishing piece) w start.workers) o) ≡ Some end → Makes start end []
+      → with_workers start (option_map (λ piece. changed (finishing piece) w start.workers) o) ≡ Some end
+      → Makes start end []
   go None read is = absurd (cc)
   go (Some piece) read is =
       let worker = was_read done_piece (slice_get start.workers w) piece read in
-      subst (λ (s : State). Makes start s []) (same_Some (among start (changed (finishing piece) w start.workers)) end is)
+      subst (λ (s : State).
+      Makes start s []) (same_Some (among start (changed (finishing piece) w start.workers)) end is)
       (no_claims start (among start (changed (finishing piece) w start.workers))
-      (λ h. change_kept (weigh h) (finishing piece) start.workers w worker.0 worker.1 (finish_pieces h worker.0 piece worker.2))
-      (λ f. change_kept (made_by f) (finishing piece) start.workers w worker.0 worker.1 (finish_made f worker.0 piece worker.2)) refl)
+      (λ h. change_kept (weigh h) (finishing piece) start.workers w worker.0 worker.1
+      (finish_pieces h worker.0 piece worker.2))
+      (λ f. change_kept (made_by f) (finishing piece) start.workers w worker.0 worker.1
+      (finish_made f worker.0 piece worker.2)) refl)
 
 claim_pieces : (h : Piece → ℕ) (worker : WorkerState) → weigh h (moved_on worker) ≡ weigh h worker
 claim_pieces h worker =
@@ -204,14 +221,16 @@ claim_pieces h worker =
 claim_made : (f : Claim → ℕ) (worker : WorkerState) (claim : Claim) → next_claim worker ≡ Some claim
     → made_by f (moved_on worker) ≡ made_by f worker + f claim
 claim_made f worker claim is =
-    let more : made_in_hand f (option_map next_place worker.hand) ≡ made_in_hand f worker.hand + f claim = go worker.hand is in
+    let more : made_in_hand f (option_map next_place worker.hand) ≡ made_in_hand f worker.hand + f claim =
+    go worker.hand is in
     omega arith where
       go : (hand : Option Hand) → option_and_then (λ (h : Hand). slice_get h.piece h.place) hand ≡ Some claim
           → made_in_hand f (option_map next_place hand) ≡ made_in_hand f hand + f claim
       go None is = absurd (cc)
       go (Some hand) is =
           sum_by_more f hand.piece hand.place claim (slice_get_within hand.piece hand.place claim is)
-          ∙ ap (λ c. sum_by f (take hand.place hand.piece) + f c) (get_or_from_slice_get hand.piece hand.place claim claim is)
+          ∙ ap (λ c. sum_by f (take hand.place hand.piece) + f c)
+          (get_or_from_slice_get hand.piece hand.place claim claim is)
 
 one_claim : (f : Claim → ℕ) (claim : Claim) → sum_by f (claim ∷ []) ≡ f claim
 one_claim f claim = sum_by-cons f claim [] ∙ add-zero (f claim)
@@ -225,15 +244,18 @@ claim_least claim owners key = takes_lesser claim owners key ∙ go (eqb claim.k
   go true = refl
   go false = refl
 
-claim_makes : (w : ℕ) (start end : State) → claimed_next w start ≡ Some end → (claims : List Claim) × Makes start end claims
+claim_makes : (w : ℕ) (start end : State) → claimed_next w start ≡ Some end
+    → (claims : List Claim) × Makes start end claims
 claim_makes w start end is = go (option_and_then next_claim (slice_get start.workers w)) refl is where
   go : (o : Option Claim) → option_and_then next_claim (slice_get start.workers w) ≡ o
-      → option_map (λ claim. record { workers = changed moved_on w start.workers; owners = claimed claim start.owners }) o ≡ Some end
+      → option_map (λ claim.
+      record { workers = changed moved_on w start.workers; owners = claimed claim start.owners }) o ≡ Some end
       → (claims : List Claim) × Makes start end claims
   go None read is = absurd (cc)
   go (Some claim) read is =
       let worker = was_read next_claim (slice_get start.workers w) claim read in
-      let after : State = record { workers = changed moved_on w start.workers; owners = claimed claim start.owners } in (
+      let after : State =
+      record { workers = changed moved_on w start.workers; owners = claimed claim start.owners } in (
         claim ∷ [],
         subst (λ (s : State). Makes start s (claim ∷ [])) (same_Some after end is) (record {
           pieces = λ h. sum_kept (weigh h) moved_on start.workers w (claim_pieces h);
@@ -247,11 +269,13 @@ claim_makes w start end is = go (option_and_then next_claim (slice_get start.wor
         }),
       )
 
-steal_makes : (w v : ℕ) (start end : State) (same : Bool) → (if same then None else with_workers start (taken w v start.workers)) ≡ Some end → Makes start end []
+steal_makes : (w v : ℕ) (start end : State) (same : Bool)
+    → (if same then None else with_workers start (taken w v start.workers)) ≡ Some end → Makes start end []
 steal_makes w v start end true is = absurd (cc)
 steal_makes w v start end false is = taken_makes w v start end is
 
-step_makes : (start end : State) (event : Event) → step start event ≡ Some end → (claims : List Claim) × Makes start end claims
+step_makes : (start end : State) (event : Event) → step start event ≡ Some end
+    → (claims : List Claim) × Makes start end claims
 unfolding step
 step_makes start end (Pop w) is = ([], taken_makes w w start end is)
 step_makes start end (Steal w v) is = ([], steal_makes w v start end (eqb w v) is)
@@ -265,10 +289,12 @@ least_append o (x ∷ xs) ys = least_append (Some (lesser o x)) xs ys
 numbers_append : (key : ℕ) (xs ys : List Claim) → numbers_of key (xs ++ ys) ≡ numbers_of key xs ++ numbers_of key ys
 numbers_append key xs ys =
     ap (map (λ (c : Claim). c.number)) (filter-append (λ (c : Claim). eqb c.key key) xs ys)
-    ∙ map-append (λ (c : Claim). c.number) (filter (λ (c : Claim). eqb c.key key) xs) (filter (λ (c : Claim). eqb c.key key) ys)
+    ∙ map-append (λ (c : Claim). c.number) (filter (λ (c : Claim). eqb c.key key) xs)
+    (filter (λ (c : Claim). eqb c.key key) ys)
 
 -- claims made one after the other
-makes_both : (start middle end : State) (xs ys : List Claim) → Makes start middle xs → Makes middle end ys → Makes start end (xs ++ ys)
+makes_both : (start middle end : State) (xs ys : List Claim) → Makes start middle xs → Makes middle end ys
+    → Makes start end (xs ++ ys)
 makes_both start middle end xs ys first second = record {
   pieces = λ h. second.pieces h ∙ first.pieces h;
   made = λ f. omega (arith, second.made f, first.made f, sum_by-append f xs ys);
@@ -281,11 +307,13 @@ makes_both start middle end xs ys first second = record {
 
 makes_none : (start end : State) → start ≡ end → Makes start end []
 makes_none start end is =
-    no_claims start end (λ h. ap (λ (s : State). sum_by (weigh h) s.workers) (sym is)) (λ f. ap (λ (s : State). sum_by (made_by f) s.workers) (sym is))
+    no_claims start end (λ h. ap (λ (s : State). sum_by (weigh h) s.workers) (sym is))
+    (λ f. ap (λ (s : State). sum_by (made_by f) s.workers) (sym is))
     (ap (λ (s : State). s.owners) (sym is))
 
 -- a run makes some claims, in the order of its events
-pub run_makes : (start : State) (events : List Event) (end : State) → Runs start events end → (claims : List Claim) × Makes start end claims
+pub run_makes : (start : State) (events : List Event) (end : State) → Runs start events end
+    → (claims : List Claim) × Makes start end claims
 run_makes start [] end run = ([], makes_none start end run)
 run_makes start (event ∷ events) end run =
     let first = step_makes start run.0 event run.1 in

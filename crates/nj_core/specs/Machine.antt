@@ -73,7 +73,8 @@ changed change (suc place) (x ∷ xs) = x ∷ changed change place xs
 abbrev pub taken : ℕ → ℕ → List WorkerState → Option (List WorkerState)
 taken w v workers =
     if is_idle (slice_get workers w)
-    then option_map (λ piece. changed (holding piece) w (changed without_first v workers)) (option_and_then first_piece (slice_get workers v))
+    then option_map (λ piece. changed (holding piece) w (changed without_first v workers))
+    (option_and_then first_piece (slice_get workers v))
     else None
 
 -- the workers after the piece in w's hand is finished, where it has no claim at its place

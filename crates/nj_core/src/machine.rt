@@ -63,7 +63,8 @@ impl Core {
     // The first piece of v's list comes into w's hand.
     fn take(&mut self, w: usize, v: usize) -> Applied
         ensures answer { result ≡ answer (taken w v self.old.workers) }
-        ensures state { self.new ≡ record self.old { workers = unwrap_or (taken w v self.old.workers) self.old.workers } }
+        ensures state { self.new
+            ≡ record self.old { workers = unwrap_or (taken w v self.old.workers) self.old.workers } }
     {
         take_at(self.workers.as_mut_slice(), w, v)
     }
@@ -86,7 +87,8 @@ impl Core {
     // The piece in w's hand is finished.
     fn finish(&mut self, w: usize) -> Result<Applied, AllocError>
         ensures answer { IfOk result (λ applied. applied ≡ answer (finished_by w self.old.workers)) }
-        ensures state { self.new ≡ (if is_ok result then record self.old { workers = unwrap_or (finished_by w self.old.workers) self.old.workers } else self.old) }
+        ensures state { self.new ≡ (if is_ok result then
+            record self.old { workers = unwrap_or (finished_by w self.old.workers) self.old.workers } else self.old) }
     {
         finish_at(self.workers.as_mut_slice(), w)
     }
@@ -170,7 +172,8 @@ fn move_on_at(workers: &mut [Worker], w: usize)
 // Finishes the piece in a worker's hand, where all its claims are made. Without memory the workers are as before.
 fn finish_at(workers: &mut [Worker], w: usize) -> Result<Applied, AllocError>
     ensures answer { IfOk result (λ applied. applied ≡ answer (finished_by w workers.old)) }
-    ensures workers { workers.new ≡ (if is_ok result then unwrap_or (finished_by w workers.old) workers.old else workers.old) }
+    ensures workers { workers.new
+        ≡ (if is_ok result then unwrap_or (finished_by w workers.old) workers.old else workers.old) }
 {
     if w >= workers.len() {
         return Ok(Applied::NotEnabled);

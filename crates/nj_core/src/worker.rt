@@ -37,7 +37,8 @@ impl Worker {
 
     // Puts a piece at the end of the list. Without memory the worker is as before.
     pub(crate) fn deal(&mut self, piece: Seq<Claim>) -> Result<(), AllocError>
-        ensures { self.new ≡ (if is_ok result then record self.old { waiting = self.old.waiting ++ piece ∷ [] } else self.old) }
+        ensures { self.new
+            ≡ (if is_ok result then record self.old { waiting = self.old.waiting ++ piece ∷ [] } else self.old) }
     {
         self.waiting.push_back(piece)?;
         Ok(())
@@ -86,7 +87,8 @@ impl Worker {
     // Finishes the piece in hand, where all its claims are made. Without memory the worker is as before.
     pub(crate) fn finish(&mut self) -> Result<Applied, AllocError>
         ensures answer { IfOk result (λ applied. applied ≡ answer (done_piece self.old)) }
-        ensures worker { self.new ≡ (if is_ok result then unwrap_or (option_map (λ piece. finishing piece self.old) (done_piece self.old)) self.old else self.old) }
+        ensures worker { self.new ≡ (if is_ok result then
+            unwrap_or (option_map (λ piece. finishing piece self.old) (done_piece self.old)) self.old else self.old) }
     {
         if self.hand.is_none() || self.next_claim().is_some() {
             return Ok(Applied::NotEnabled);

@@ -2,5 +2,6 @@ pub mod Walks
 pub mod Lower
 pub mod Runs
 pub mod Cycles
+pub mod Notes
 pub mod Straight
 pub mod Stack

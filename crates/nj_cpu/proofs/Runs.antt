@@ -18,22 +18,28 @@ chosen : {A : Type 0} (b : Bool) (x y : A) → b ≡ false → cond b x y ≡ y
 chosen false x y e = refl
 chosen true x y e = cc
 
-without_copy : {Held : Type 0} (acts : Acts Held) (cpu : Cpu) (held : Held) (page : Option ℕ) → page ≡ None → on_page page acts cpu held ≡ on_note cpu.note acts cpu held
+without_copy : {Held : Type 0} (acts : Acts Held) (cpu : Cpu) (held : Held) (page : Option ℕ) → page ≡ None
+    → on_page page acts cpu held ≡ on_note cpu.note acts cpu held
 without_copy acts cpu held None e = refl
 without_copy acts cpu held (Some p) e = cc
 
-without_entry : {Held : Type 0} (acts : Acts Held) (cpu : Cpu) (held : Held) (note : Note) → note ≢ Due → on_note note acts cpu held ≡ instruction acts cpu held
+without_entry : {Held : Type 0} (acts : Acts Held) (cpu : Cpu) (held : Held) (note : Note) → note ≢ Due
+    → on_note note acts cpu held ≡ instruction acts cpu held
 without_entry acts cpu held NoNote h = refl
 without_entry acts cpu held Late h = refl
 without_entry acts cpu held Due h = absurd (h refl)
 
-by_opcode : {Held : Type 0} (acts : Acts Held) (cpu : Cpu) (held : Held) (opcode : ℕ) → acts.byte held cpu.pc ≡ opcode → instruction acts cpu held ≡ rest_of acts (row_of opcode) (opcode_read acts cpu held)
+by_opcode : {Held : Type 0} (acts : Acts Held) (cpu : Cpu) (held : Held) (opcode : ℕ) → acts.byte held cpu.pc ≡ opcode
+    → instruction acts cpu held ≡ rest_of acts (row_of opcode) (opcode_read acts cpu held)
 unfolding instruction
 by_opcode acts cpu held opcode e = ap (λ n. rest_of acts (row_of n) (opcode_read acts cpu held)) e
 
 -- it is the rest of the instruction of that opcode
-pub unit-runs : {Held : Type 0} (acts : Acts Held) (cpu : Cpu) (held : Held) (opcode : ℕ) → Runs acts cpu held opcode → unit_of acts cpu held ≡ noted cpu.note (rest_of acts (row_of opcode) (opcode_read acts cpu held))
+pub unit-runs : {Held : Type 0} (acts : Acts Held) (cpu : Cpu) (held : Held) (opcode : ℕ) → Runs acts cpu held opcode
+    → unit_of acts cpu held ≡ noted cpu.note (rest_of acts (row_of opcode) (opcode_read acts cpu held))
 unfolding unit_of active
 unit-runs acts cpu held opcode r =
-    chosen cpu.jammed (record { cpu = cpu; held = held; end_ = Jammed }) (noted cpu.note (active acts cpu held)) r.not_jammed
-    ∙ ap (noted cpu.note) (without_copy acts cpu held (acts.page held) r.no_copy ∙ without_entry acts cpu held cpu.note r.no_entry ∙ by_opcode acts cpu held opcode r.at_pc)
+    chosen cpu.jammed (record { cpu = cpu; held = held; end_ = Jammed }) (noted cpu.note (active acts cpu held))
+    r.not_jammed
+    ∙ ap (noted cpu.note) (without_copy acts cpu held (acts.page held) r.no_copy
+    ∙ without_entry acts cpu held cpu.note r.no_entry ∙ by_opcode acts cpu held opcode r.at_pc)

@@ -87,7 +87,10 @@ compared result cpu =
 -- flags of a byte that an operation changed in memory
 abbrev pub with_changed : Op → ℕ → Cpu → Cpu
 with_changed op value cpu =
-    record cpu { flags = record (with_result (changed_by op cpu.flags.c value) cpu.flags) { c = carry_by op cpu.flags.c value } }
+    record cpu {
+      flags =
+          record (with_result (changed_by op cpu.flags.c value) cpu.flags) { c = carry_by op cpu.flags.c value };
+    }
 
 -- the same of A, which takes the byte
 abbrev pub a_changed : Op → Cpu → Cpu
@@ -101,7 +104,10 @@ shifted op _ value cpu = with_changed op value cpu
 -- BIT: Z of A and the byte, N and V are its bits 7 and 6
 abbrev pub tested : ℕ → Cpu → Cpu
 tested value cpu =
-    record cpu { flags = record cpu.flags { z = bit_and cpu.a value == 0; n = is_negative value; v = has_bit 64 value } }
+    record cpu {
+      flags =
+          record cpu.flags { z = bit_and cpu.a value == 0; n = is_negative value; v = has_bit 64 value };
+    }
 
 -- AND of A and a byte
 abbrev pub and_a : ℕ → Cpu → Cpu
@@ -131,8 +137,8 @@ compare_a value cpu = compared (comparison_of cpu.a value) cpu
 abbrev pub and_then : Op → (ℕ → Cpu → Cpu) → ℕ → Cpu → Cpu
 and_then op next value cpu = next (changed_by op cpu.flags.c value) (with_changed op value cpu)
 
--- the operations that unofficial opcodes have: ANC is AND with bit 7 for the carry, ALR is AND and LSR of A, ARR is AND and
--- ROR of A with flags of its own, SBX takes the byte from A AND X without a borrow and gives it to X
+-- the operations that unofficial opcodes have: ANC is AND with bit 7 for the carry, ALR is AND and LSR of A, ARR is AND
+-- and ROR of A with flags of its own, SBX takes the byte from A AND X without a borrow and gives it to X
 unfoldable pub joined : Op → ℕ → Cpu → Cpu
 joined Slo value cpu = and_then Asl or_a value cpu
 joined Rla value cpu = and_then Rol and_a value cpu

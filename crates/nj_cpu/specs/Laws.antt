@@ -63,7 +63,9 @@ leaves_page acts cpu held =
 -- the published number of cycles of an instruction here, with its penalties
 unfoldable pub published_cycles : {Held : Type 0} → Acts Held → Cpu → Held → ℕ → ℕ
 published_cycles acts cpu held opcode =
-    cycles_of opcode + penalty_of opcode (crosses acts cpu held opcode) (branches cpu opcode) (branches cpu opcode && leaves_page acts cpu held)
+    cycles_of opcode
+    + penalty_of opcode (crosses acts cpu held opcode) (branches cpu opcode)
+    (branches cpu opcode && leaves_page acts cpu held)
 
 -- an instruction that goes on behind itself: no jump, call, return, break or jam
 abbrev pub goes_on_in : Class → Bool
@@ -96,8 +98,10 @@ pub record InStack (at : ℕ) : Type 0 where
 
 -- the bus answers at each stack address the byte last written there
 pub record RemembersStack {Held : Type 0} (acts : Acts Held) : Type 0 where
-  pub written : (h : Held) (at value : ℕ) → InStack at → value < 256 → acts.byte (acts.after_write h at value) at ≡ value
-  pub elsewhere : (h : Held) (at other value : ℕ) → InStack at → at ≢ other → acts.byte (acts.after_write h other value) at ≡ acts.byte h at
+  pub written : (h : Held) (at value : ℕ) → InStack at → value < 256
+      → acts.byte (acts.after_write h at value) at ≡ value
+  pub elsewhere : (h : Held) (at other value : ℕ) → InStack at → at ≢ other
+      → acts.byte (acts.after_write h other value) at ≡ acts.byte h at
   pub read : (h : Held) (at other : ℕ) → InStack at → acts.byte (acts.after_read h other) at ≡ acts.byte h at
 
 -- A is the byte, and Z and N are of it

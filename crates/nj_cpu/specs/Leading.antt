@@ -23,9 +23,11 @@ leading Abs kind = fetch ToLow ∷ fetch ToHigh ∷ []
 leading AbsX kind = fetch ToLow ∷ fetch ToHigh ∷ access (AtUncarried X) ToData Stay ∷ []
 leading AbsY kind = fetch ToLow ∷ fetch ToHigh ∷ access (AtUncarried Y) ToData Stay ∷ []
 leading IndX kind =
-    fetch ToPointer ∷ access AtPointer Ignores PointerUp ∷ access AtPointer ToLow Stay ∷ access AfterPointer ToHigh Stay ∷ []
+    fetch ToPointer ∷ access AtPointer Ignores PointerUp ∷ access AtPointer ToLow Stay ∷ access AfterPointer ToHigh Stay
+    ∷ []
 leading IndY kind =
-    fetch ToPointer ∷ access AtPointer ToLow Stay ∷ access AfterPointer ToHigh Stay ∷ access (AtUncarried Y) ToData Stay ∷ []
+    fetch ToPointer ∷ access AtPointer ToLow Stay ∷ access AfterPointer ToHigh Stay ∷ access (AtUncarried Y) ToData Stay
+    ∷ []
 leading Indirect kind = []
 leading Relative kind = []
 

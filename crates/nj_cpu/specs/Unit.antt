@@ -20,7 +20,8 @@ use Rattle.nj_cpu.specs.declared.state.UnitEnd.TheVariants.{Done, Jammed}
 use Rattle.nj_cpu.specs.Effects.{is_taken, in_a, done}
 use Rattle.nj_cpu.specs.Walk.{Rises, Walk, begun, target_of, read_at, moved, walk}
 
--- at power-on S is $FD, I is set, and all else is clear (this project's own profile of NESdev Wiki, "CPU power up state")
+-- at power-on S is $FD, I is set, and all else is clear (this project's own profile of NESdev Wiki, "CPU power up
+-- state")
 abbrev pub powered_on : ℕ → Cpu
 powered_on pc =
     record {
@@ -65,7 +66,8 @@ settled _ row w = w.cpu
 -- the rest of an instruction once its row is known
 unfoldable pub rest_by : {Held : Type 0} → Acts Held → Class → OpRow → Walk Held → Walk Held
 rest_by acts class row w =
-    let v = walk acts row.op (accesses class row.mode row.kind) (opened class w) in record v { cpu = settled class row v }
+    let v = walk acts row.op (accesses class row.mode row.kind) (opened class w) in
+    record v { cpu = settled class row v }
 
 -- the rest of an instruction, by the class of its row
 unfoldable pub rest_of : {Held : Type 0} → Acts Held → OpRow → Walk Held → Walk Held

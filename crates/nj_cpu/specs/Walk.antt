@@ -14,6 +14,11 @@ pub record Rises : Type 0 where
   pub before : Bool
   pub last : Bool
 
+-- the NMI line as it is watched: where it rose within a unit, and its level after the last access
+pub record Watched : Type 0 where
+  pub edges : Rises
+  pub line : Bool
+
 -- an instruction on its way: the processor, what the bus holds, where the NMI line rose, and the bytes gathered so far
 pub record Walk (Held : Type 0) : Type 0 where
   pub cpu : Cpu
@@ -69,10 +74,18 @@ is_made TakenAway op w =
 abbrev pub risen : Bool → Bool → Rises → Rises
 risen was is rises = record { before = rises.before || rises.last; last = is && not was }
 
+-- the same with the level
+abbrev pub watched : Bool → Bool → Watched → Watched
+watched was is w = record { edges = risen was is w.edges; line = is }
+
 -- the cycle is over, and the bus holds this
 abbrev pub seen : {Held : Type 0} → Acts Held → Held → Walk Held → Walk Held
 seen acts held w =
-    record w { cpu = record w.cpu { line = acts.line held }; held = held; rises = risen w.cpu.line (acts.line held) w.rises }
+    record w {
+      cpu = record w.cpu { line = acts.line held };
+      held = held;
+      rises = risen w.cpu.line (acts.line held) w.rises;
+    }
 
 -- a cycle that reads
 abbrev pub read_at : {Held : Type 0} → Acts Held → ℕ → Walk Held → Walk Held
@@ -120,8 +133,8 @@ abbrev pub walk : {Held : Type 0} → Acts Held → Op → List Access → Walk 
 walk acts op [] w = w
 walk acts op (a ∷ rest) w = walk acts op rest (step acts op a w)
 
--- the processor, the bus and the rises are those that a walk ends with
-pub record EndsAs {Held : Type 0} (w : Walk Held) (c : Cpu) (h : Held) (r : Rises) : Type 0 where
+-- the processor, the bus and what is watched of the NMI line are those that a walk ends with
+pub record EndsAs {Held : Type 0} (w : Walk Held) (c : Cpu) (h : Held) (r : Watched) : Type 0 where
   pub cpu : c ≡ w.cpu
   pub held : h ≡ w.held
-  pub rises : r ≡ w.rises
+  pub rises : r ≡ record { edges = w.rises; line = w.cpu.line }

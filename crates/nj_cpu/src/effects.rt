@@ -154,7 +154,10 @@ fn set_shifted(cpu: &mut Cpu, made: Shifted)
 // The same, and the byte is A.
 #[inline(always)]
 fn put_in_a(cpu: &mut Cpu, made: Shifted)
-    ensures { cpu.new ≡ record cpu.old { flags = record (with_result made.value cpu.old.flags) { c = made.carry }; a = made.value } }
+    ensures { cpu.new ≡ record cpu.old {
+      flags = record (with_result made.value cpu.old.flags) { c = made.carry };
+      a = made.value;
+    } }
 {
     set_shifted(cpu, made);
     cpu.a = made.value;

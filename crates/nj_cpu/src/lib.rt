@@ -21,4 +21,4 @@ pub use laws::{
 pub use nj_alu::Flags;
 pub use nj_isa::Bus;
 pub use state::{Cpu, Note, UnitEnd};
-pub use units::{power_on, unit};
+pub use units::{next_unit, power_on, unit};

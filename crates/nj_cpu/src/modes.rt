@@ -14,8 +14,11 @@ use nj_isa::{Bus, Index, Kind, Mode, Op};
 /// The address of a zero page operand.
 #[inline(always)]
 fn zero_page<B: Bus>(cpu: &mut Cpu, rises: &mut Rises, bus: &mut B, op: Op) -> u16
-    ensures ends { EndsAs (walk B.acts op (fetched ToLow ∷ []) (begun cpu.old (B.held bus.old) rises.old)) cpu.new (B.held bus.new) rises.new }
-    ensures place { result ≡ address_of InZero (walk B.acts op (fetched ToLow ∷ []) (begun cpu.old (B.held bus.old) rises.old)) }
+    requires { rises.old.line ≡ cpu.old.line }
+    ensures ends { EndsAs (walk B.acts op (fetched ToLow ∷ []) (begun cpu.old (B.held bus.old) rises.old.edges))
+        cpu.new (B.held bus.new) rises.new }
+    ensures place { result ≡ address_of InZero (walk B.acts op (fetched ToLow ∷ [])
+        (begun cpu.old (B.held bus.old) rises.old.edges)) }
 {
     fetch(cpu, rises, bus) as u16
 }
@@ -23,8 +26,11 @@ fn zero_page<B: Bus>(cpu: &mut Cpu, rises: &mut Rises, bus: &mut B, op: Op) -> u
 /// The address of a zero page operand with an index, which never leaves the page.
 #[inline(always)]
 fn zero_page_by<B: Bus>(cpu: &mut Cpu, rises: &mut Rises, bus: &mut B, op: Op, index: Index) -> u16
-    ensures ends { EndsAs (walk B.acts op (fetched ToLow ∷ access InZero Ignores Stay ∷ []) (begun cpu.old (B.held bus.old) rises.old)) cpu.new (B.held bus.new) rises.new }
-    ensures place { result ≡ address_of (InZeroBy index) (walk B.acts op (fetched ToLow ∷ access InZero Ignores Stay ∷ []) (begun cpu.old (B.held bus.old) rises.old)) }
+    requires { rises.old.line ≡ cpu.old.line }
+    ensures ends { EndsAs (walk B.acts op (fetched ToLow ∷ access InZero Ignores Stay ∷ [])
+        (begun cpu.old (B.held bus.old) rises.old.edges)) cpu.new (B.held bus.new) rises.new }
+    ensures place { result ≡ address_of (InZeroBy index) (walk B.acts op
+        (fetched ToLow ∷ access InZero Ignores Stay ∷ []) (begun cpu.old (B.held bus.old) rises.old.edges)) }
 {
     let low = fetch(cpu, rises, bus);
     let _ = read(cpu, rises, bus, low as u16);
@@ -34,9 +40,13 @@ fn zero_page_by<B: Bus>(cpu: &mut Cpu, rises: &mut Rises, bus: &mut B, op: Op, i
 /// The high and the low byte of an absolute operand.
 #[inline(always)]
 fn absolute_bytes<B: Bus>(cpu: &mut Cpu, rises: &mut Rises, bus: &mut B, op: Op) -> (u8, u8)
-    ensures ends { EndsAs (walk B.acts op (fetched ToLow ∷ fetched ToHigh ∷ []) (begun cpu.old (B.held bus.old) rises.old)) cpu.new (B.held bus.new) rises.new }
-    ensures high { result.0 ≡ (walk B.acts op (fetched ToLow ∷ fetched ToHigh ∷ []) (begun cpu.old (B.held bus.old) rises.old)).high }
-    ensures low { result.1 ≡ (walk B.acts op (fetched ToLow ∷ fetched ToHigh ∷ []) (begun cpu.old (B.held bus.old) rises.old)).low }
+    requires { rises.old.line ≡ cpu.old.line }
+    ensures ends { EndsAs (walk B.acts op (fetched ToLow ∷ fetched ToHigh ∷ [])
+        (begun cpu.old (B.held bus.old) rises.old.edges)) cpu.new (B.held bus.new) rises.new }
+    ensures high { result.0 ≡ (walk B.acts op (fetched ToLow ∷ fetched ToHigh ∷ [])
+        (begun cpu.old (B.held bus.old) rises.old.edges)).high }
+    ensures low { result.1 ≡ (walk B.acts op (fetched ToLow ∷ fetched ToHigh ∷ [])
+        (begun cpu.old (B.held bus.old) rises.old.edges)).low }
 {
     let low = fetch(cpu, rises, bus);
     let high = fetch(cpu, rises, bus);
@@ -46,9 +56,14 @@ fn absolute_bytes<B: Bus>(cpu: &mut Cpu, rises: &mut Rises, bus: &mut B, op: Op)
 /// The high and the low byte at a pointer in zero page; the second place never leaves the page.
 #[inline(always)]
 fn bytes_at<B: Bus>(cpu: &mut Cpu, rises: &mut Rises, bus: &mut B, op: Op, pointer: u8) -> (u8, u8)
-    ensures ends { EndsAs (walk B.acts op (access AtPointer ToLow Stay ∷ access AfterPointer ToHigh Stay ∷ []) (record (begun cpu.old (B.held bus.old) rises.old) { pointer = pointer })) cpu.new (B.held bus.new) rises.new }
-    ensures high { result.0 ≡ (walk B.acts op (access AtPointer ToLow Stay ∷ access AfterPointer ToHigh Stay ∷ []) (record (begun cpu.old (B.held bus.old) rises.old) { pointer = pointer })).high }
-    ensures low { result.1 ≡ (walk B.acts op (access AtPointer ToLow Stay ∷ access AfterPointer ToHigh Stay ∷ []) (record (begun cpu.old (B.held bus.old) rises.old) { pointer = pointer })).low }
+    requires { rises.old.line ≡ cpu.old.line }
+    ensures ends { EndsAs (walk B.acts op (access AtPointer ToLow Stay ∷ access AfterPointer ToHigh Stay ∷ [])
+        (record (begun cpu.old (B.held bus.old) rises.old.edges) { pointer = pointer })) cpu.new (B.held bus.new)
+        rises.new }
+    ensures high { result.0 ≡ (walk B.acts op (access AtPointer ToLow Stay ∷ access AfterPointer ToHigh Stay ∷ [])
+        (record (begun cpu.old (B.held bus.old) rises.old.edges) { pointer = pointer })).high }
+    ensures low { result.1 ≡ (walk B.acts op (access AtPointer ToLow Stay ∷ access AfterPointer ToHigh Stay ∷ [])
+        (record (begun cpu.old (B.held bus.old) rises.old.edges) { pointer = pointer })).low }
 {
     let low = read(cpu, rises, bus, pointer as u16);
     let high = read(cpu, rises, bus, pointer.wrapping_add(1) as u16);
@@ -58,9 +73,14 @@ fn bytes_at<B: Bus>(cpu: &mut Cpu, rises: &mut Rises, bus: &mut B, op: Op, point
 /// The high and the low byte behind a pointer in zero page.
 #[inline(always)]
 fn pointed_bytes<B: Bus>(cpu: &mut Cpu, rises: &mut Rises, bus: &mut B, op: Op) -> (u8, u8)
-    ensures ends { EndsAs (walk B.acts op (fetched ToPointer ∷ access AtPointer ToLow Stay ∷ access AfterPointer ToHigh Stay ∷ []) (begun cpu.old (B.held bus.old) rises.old)) cpu.new (B.held bus.new) rises.new }
-    ensures high { result.0 ≡ (walk B.acts op (fetched ToPointer ∷ access AtPointer ToLow Stay ∷ access AfterPointer ToHigh Stay ∷ []) (begun cpu.old (B.held bus.old) rises.old)).high }
-    ensures low { result.1 ≡ (walk B.acts op (fetched ToPointer ∷ access AtPointer ToLow Stay ∷ access AfterPointer ToHigh Stay ∷ []) (begun cpu.old (B.held bus.old) rises.old)).low }
+    requires { rises.old.line ≡ cpu.old.line }
+    ensures ends { EndsAs (walk B.acts op (fetched ToPointer ∷ access AtPointer ToLow Stay
+        ∷ access AfterPointer ToHigh Stay ∷ []) (begun cpu.old (B.held bus.old) rises.old.edges))
+        cpu.new (B.held bus.new) rises.new }
+    ensures high { result.0 ≡ (walk B.acts op (fetched ToPointer ∷ access AtPointer ToLow Stay
+        ∷ access AfterPointer ToHigh Stay ∷ []) (begun cpu.old (B.held bus.old) rises.old.edges)).high }
+    ensures low { result.1 ≡ (walk B.acts op (fetched ToPointer ∷ access AtPointer ToLow Stay
+        ∷ access AfterPointer ToHigh Stay ∷ []) (begun cpu.old (B.held bus.old) rises.old.edges)).low }
 {
     let pointer = fetch(cpu, rises, bus);
     bytes_at(cpu, rises, bus, op, pointer)
@@ -69,8 +89,11 @@ fn pointed_bytes<B: Bus>(cpu: &mut Cpu, rises: &mut Rises, bus: &mut B, op: Op) 
 /// The address of an absolute operand.
 #[inline(always)]
 fn absolute<B: Bus>(cpu: &mut Cpu, rises: &mut Rises, bus: &mut B, op: Op) -> u16
-    ensures ends { EndsAs (walk B.acts op (fetched ToLow ∷ fetched ToHigh ∷ []) (begun cpu.old (B.held bus.old) rises.old)) cpu.new (B.held bus.new) rises.new }
-    ensures place { result ≡ address_of AtWord (walk B.acts op (fetched ToLow ∷ fetched ToHigh ∷ []) (begun cpu.old (B.held bus.old) rises.old)) }
+    requires { rises.old.line ≡ cpu.old.line }
+    ensures ends { EndsAs (walk B.acts op (fetched ToLow ∷ fetched ToHigh ∷ [])
+        (begun cpu.old (B.held bus.old) rises.old.edges)) cpu.new (B.held bus.new) rises.new }
+    ensures place { result ≡ address_of AtWord (walk B.acts op (fetched ToLow ∷ fetched ToHigh ∷ [])
+        (begun cpu.old (B.held bus.old) rises.old.edges)) }
 {
     let (high, low) = absolute_bytes(cpu, rises, bus, op);
     make_word(high, low)
@@ -79,8 +102,13 @@ fn absolute<B: Bus>(cpu: &mut Cpu, rises: &mut Rises, bus: &mut B, op: Op) -> u1
 /// The address behind a pointer in zero page, X added to the pointer first.
 #[inline(never)]
 fn indirect_by_x<B: Bus>(cpu: &mut Cpu, rises: &mut Rises, bus: &mut B, op: Op) -> u16
-    ensures ends { EndsAs (walk B.acts op (fetched ToPointer ∷ access AtPointer Ignores PointerUp ∷ access AtPointer ToLow Stay ∷ access AfterPointer ToHigh Stay ∷ []) (begun cpu.old (B.held bus.old) rises.old)) cpu.new (B.held bus.new) rises.new }
-    ensures place { result ≡ address_of AtWord (walk B.acts op (fetched ToPointer ∷ access AtPointer Ignores PointerUp ∷ access AtPointer ToLow Stay ∷ access AfterPointer ToHigh Stay ∷ []) (begun cpu.old (B.held bus.old) rises.old)) }
+    requires { rises.old.line ≡ cpu.old.line }
+    ensures ends { EndsAs (walk B.acts op (fetched ToPointer ∷ access AtPointer Ignores PointerUp
+        ∷ access AtPointer ToLow Stay ∷ access AfterPointer ToHigh Stay ∷ [])
+        (begun cpu.old (B.held bus.old) rises.old.edges)) cpu.new (B.held bus.new) rises.new }
+    ensures place { result ≡ address_of AtWord (walk B.acts op (fetched ToPointer ∷ access AtPointer Ignores PointerUp
+        ∷ access AtPointer ToLow Stay ∷ access AfterPointer ToHigh Stay ∷ [])
+        (begun cpu.old (B.held bus.old) rises.old.edges)) }
 {
     let pointer = fetch(cpu, rises, bus);
     let _ = read(cpu, rises, bus, pointer as u16);
@@ -101,9 +129,14 @@ fn carried<B: Bus>(
     high: u8,
     low: u8,
 ) -> (u16, Option<u8>)
-    ensures ends { EndsAs (walk B.acts op (access (AtUncarried index) ToData Stay ∷ []) (record (begun cpu.old (B.held bus.old) rises.old) { low = low; high = high })) cpu.new (B.held bus.new) rises.new }
-    ensures place { result.0 ≡ address_of (AtWordBy index) (walk B.acts op (access (AtUncarried index) ToData Stay ∷ []) (record (begun cpu.old (B.held bus.old) rises.old) { low = low; high = high })) }
-    ensures early { result.1 ≡ early_by index kind (walk B.acts op (access (AtUncarried index) ToData Stay ∷ []) (record (begun cpu.old (B.held bus.old) rises.old) { low = low; high = high })) }
+    requires { rises.old.line ≡ cpu.old.line }
+    ensures ends { EndsAs (walk B.acts op (access (AtUncarried index) ToData Stay ∷ [])
+        (record (begun cpu.old (B.held bus.old) rises.old.edges) { low = low; high = high }))
+        cpu.new (B.held bus.new) rises.new }
+    ensures place { result.0 ≡ address_of (AtWordBy index) (walk B.acts op (access (AtUncarried index) ToData Stay ∷ [])
+        (record (begun cpu.old (B.held bus.old) rises.old.edges) { low = low; high = high })) }
+    ensures early { result.1 ≡ early_by index kind (walk B.acts op (access (AtUncarried index) ToData Stay ∷ [])
+        (record (begun cpu.old (B.held bus.old) rises.old.edges) { low = low; high = high })) }
 {
     let offset = index_value(index, cpu);
     let byte = read(cpu, rises, bus, make_word(high, low.wrapping_add(offset)));
@@ -141,9 +174,13 @@ fn lead<B: Bus>(
     mode: Mode,
     kind: Kind,
 ) -> (u16, Option<u8>)
-    ensures ends { EndsAs (walk B.acts op (leading mode kind) (begun cpu.old (B.held bus.old) rises.old)) cpu.new (B.held bus.new) rises.new }
-    ensures place { result.0 ≡ address_of (ending mode) (walk B.acts op (leading mode kind) (begun cpu.old (B.held bus.old) rises.old)) }
-    ensures early { result.1 ≡ early mode kind (walk B.acts op (leading mode kind) (begun cpu.old (B.held bus.old) rises.old)) }
+    requires { rises.old.line ≡ cpu.old.line }
+    ensures ends { EndsAs (walk B.acts op (leading mode kind) (begun cpu.old (B.held bus.old) rises.old.edges))
+        cpu.new (B.held bus.new) rises.new }
+    ensures place { result.0 ≡ address_of (ending mode) (walk B.acts op (leading mode kind)
+        (begun cpu.old (B.held bus.old) rises.old.edges)) }
+    ensures early { result.1 ≡ early mode kind (walk B.acts op (leading mode kind)
+        (begun cpu.old (B.held bus.old) rises.old.edges)) }
 {
     match mode {
         Mode::Implied | Mode::Accumulator => {
@@ -173,8 +210,11 @@ fn lead<B: Bus>(
 /// Reads a byte, writes it back, and writes what the operation makes of it. Answers the byte read.
 #[inline(always)]
 fn change_at<B: Bus>(cpu: &mut Cpu, rises: &mut Rises, bus: &mut B, op: Op, at: u16) -> u8
-    ensures ends { EndsAs (walk B.acts op (end_on (At at) ModifyKind) (begun cpu.old (B.held bus.old) rises.old)) cpu.new (B.held bus.new) rises.new }
-    ensures byte { result ≡ (walk B.acts op (end_on (At at) ModifyKind) (begun cpu.old (B.held bus.old) rises.old)).data_ }
+    requires { rises.old.line ≡ cpu.old.line }
+    ensures ends { EndsAs (walk B.acts op (end_on (At at) ModifyKind) (begun cpu.old (B.held bus.old) rises.old.edges))
+        cpu.new (B.held bus.new) rises.new }
+    ensures byte { result ≡ (walk B.acts op (end_on (At at) ModifyKind)
+        (begun cpu.old (B.held bus.old) rises.old.edges)).data_ }
 {
     let byte = read(cpu, rises, bus, at);
     write(cpu, rises, bus, at, byte);
@@ -187,8 +227,11 @@ fn change_at<B: Bus>(cpu: &mut Cpu, rises: &mut Rises, bus: &mut B, op: Op, at: 
 /// none is.
 #[inline(always)]
 fn end_at<B: Bus>(cpu: &mut Cpu, rises: &mut Rises, bus: &mut B, op: Op, kind: Kind, at: u16) -> u8
-    ensures ends { EndsAs (walk B.acts op (end_on (At at) kind) (begun cpu.old (B.held bus.old) rises.old)) cpu.new (B.held bus.new) rises.new }
-    ensures byte { result ≡ given kind (walk B.acts op (end_on (At at) kind) (begun cpu.old (B.held bus.old) rises.old)).data_ }
+    requires { rises.old.line ≡ cpu.old.line }
+    ensures ends { EndsAs (walk B.acts op (end_on (At at) kind) (begun cpu.old (B.held bus.old) rises.old.edges))
+        cpu.new (B.held bus.new) rises.new }
+    ensures byte { result ≡ given kind (walk B.acts op (end_on (At at) kind)
+        (begun cpu.old (B.held bus.old) rises.old.edges)).data_ }
 {
     match kind {
         Kind::Read => read(cpu, rises, bus, at),
@@ -212,8 +255,11 @@ pub(crate) fn byte_by<B: Bus>(
     mode: Mode,
     kind: Kind,
 ) -> u8
-    ensures ends { EndsAs (walk B.acts op (by_mode mode kind) (begun cpu.old (B.held bus.old) rises.old)) cpu.new (B.held bus.new) rises.new }
-    ensures byte { result ≡ given kind (walk B.acts op (by_mode mode kind) (begun cpu.old (B.held bus.old) rises.old)).data_ }
+    requires { rises.old.line ≡ cpu.old.line }
+    ensures ends { EndsAs (walk B.acts op (by_mode mode kind) (begun cpu.old (B.held bus.old) rises.old.edges))
+        cpu.new (B.held bus.new) rises.new }
+    ensures byte { result ≡ given kind (walk B.acts op (by_mode mode kind)
+        (begun cpu.old (B.held bus.old) rises.old.edges)).data_ }
 {
     let (at, early) = lead(cpu, rises, bus, op, mode, kind);
     match early {

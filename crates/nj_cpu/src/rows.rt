@@ -30,8 +30,10 @@ pub(crate) fn enter<B: Bus>(
     brk: bool,
     vector: u16,
 )
-    requires { vector < 65535 }
-    ensures { EndsAs (walk B.acts op (entering brk vector) (begun cpu.old (B.held bus.old) rises.old)) cpu.new (B.held bus.new) rises.new }
+    requires level { rises.old.line ≡ cpu.old.line }
+    requires vector { vector < 65535 }
+    ensures { EndsAs (walk B.acts op (entering brk vector) (begun cpu.old (B.held bus.old) rises.old.edges))
+        cpu.new (B.held bus.new) rises.new }
 {
     push(cpu, rises, bus, (cpu.pc / 256) as u8);
     push(cpu, rises, bus, (cpu.pc % 256) as u8);
@@ -46,7 +48,9 @@ pub(crate) fn enter<B: Bus>(
 #[tactic(auto, unfolding(crate::specs::Unit::rest_by))]
 #[inline(always)]
 fn run_by_mode<B: Bus>(cpu: &mut Cpu, rises: &mut Rises, bus: &mut B, row: OpRow)
-    ensures { EndsAs (rest_by B.acts ByModeClass row (begun cpu.old (B.held bus.old) rises.old)) cpu.new (B.held bus.new) rises.new }
+    requires { rises.old.line ≡ cpu.old.line }
+    ensures { EndsAs (rest_by B.acts ByModeClass row (begun cpu.old (B.held bus.old) rises.old.edges))
+        cpu.new (B.held bus.new) rises.new }
 {
     step_over(cpu);
     let byte = byte_by(cpu, rises, bus, row.op, row.mode, row.kind);
@@ -60,7 +64,9 @@ fn run_by_mode<B: Bus>(cpu: &mut Cpu, rises: &mut Rises, bus: &mut B, row: OpRow
 #[tactic(auto, unfolding(crate::specs::Unit::rest_by))]
 #[inline(always)]
 fn branch<B: Bus>(cpu: &mut Cpu, rises: &mut Rises, bus: &mut B, row: OpRow)
-    ensures { EndsAs (rest_by B.acts BranchClass row (begun cpu.old (B.held bus.old) rises.old)) cpu.new (B.held bus.new) rises.new }
+    requires { rises.old.line ≡ cpu.old.line }
+    ensures { EndsAs (rest_by B.acts BranchClass row (begun cpu.old (B.held bus.old) rises.old.edges))
+        cpu.new (B.held bus.new) rises.new }
 {
     step_over(cpu);
     let offset = fetch(cpu, rises, bus);
@@ -83,7 +89,9 @@ fn branch<B: Bus>(cpu: &mut Cpu, rises: &mut Rises, bus: &mut B, row: OpRow)
 #[tactic(auto, unfolding(crate::specs::Unit::rest_by))]
 #[inline(always)]
 fn jump<B: Bus>(cpu: &mut Cpu, rises: &mut Rises, bus: &mut B, row: OpRow)
-    ensures { EndsAs (rest_by B.acts JumpClass row (begun cpu.old (B.held bus.old) rises.old)) cpu.new (B.held bus.new) rises.new }
+    requires { rises.old.line ≡ cpu.old.line }
+    ensures { EndsAs (rest_by B.acts JumpClass row (begun cpu.old (B.held bus.old) rises.old.edges))
+        cpu.new (B.held bus.new) rises.new }
 {
     step_over(cpu);
     let low = fetch(cpu, rises, bus);
@@ -95,7 +103,9 @@ fn jump<B: Bus>(cpu: &mut Cpu, rises: &mut Rises, bus: &mut B, row: OpRow)
 #[tactic(auto, unfolding(crate::specs::Unit::rest_by))]
 #[inline(never)]
 fn jump_indirect<B: Bus>(cpu: &mut Cpu, rises: &mut Rises, bus: &mut B, row: OpRow)
-    ensures { EndsAs (rest_by B.acts JumpIndirectClass row (begun cpu.old (B.held bus.old) rises.old)) cpu.new (B.held bus.new) rises.new }
+    requires { rises.old.line ≡ cpu.old.line }
+    ensures { EndsAs (rest_by B.acts JumpIndirectClass row (begun cpu.old (B.held bus.old) rises.old.edges))
+        cpu.new (B.held bus.new) rises.new }
 {
     step_over(cpu);
     let pointer = fetch(cpu, rises, bus);
@@ -109,7 +119,9 @@ fn jump_indirect<B: Bus>(cpu: &mut Cpu, rises: &mut Rises, bus: &mut B, row: OpR
 #[tactic(auto, unfolding(crate::specs::Unit::rest_by))]
 #[inline(always)]
 fn call<B: Bus>(cpu: &mut Cpu, rises: &mut Rises, bus: &mut B, row: OpRow)
-    ensures { EndsAs (rest_by B.acts CallClass row (begun cpu.old (B.held bus.old) rises.old)) cpu.new (B.held bus.new) rises.new }
+    requires { rises.old.line ≡ cpu.old.line }
+    ensures { EndsAs (rest_by B.acts CallClass row (begun cpu.old (B.held bus.old) rises.old.edges))
+        cpu.new (B.held bus.new) rises.new }
 {
     step_over(cpu);
     let low = fetch(cpu, rises, bus);
@@ -124,7 +136,9 @@ fn call<B: Bus>(cpu: &mut Cpu, rises: &mut Rises, bus: &mut B, row: OpRow)
 #[tactic(auto, unfolding(crate::specs::Unit::rest_by))]
 #[inline(always)]
 fn return_from_call<B: Bus>(cpu: &mut Cpu, rises: &mut Rises, bus: &mut B, row: OpRow)
-    ensures { EndsAs (rest_by B.acts ReturnClass row (begun cpu.old (B.held bus.old) rises.old)) cpu.new (B.held bus.new) rises.new }
+    requires { rises.old.line ≡ cpu.old.line }
+    ensures { EndsAs (rest_by B.acts ReturnClass row (begun cpu.old (B.held bus.old) rises.old.edges))
+        cpu.new (B.held bus.new) rises.new }
 {
     step_over(cpu);
     idle(cpu, rises, bus);
@@ -139,7 +153,9 @@ fn return_from_call<B: Bus>(cpu: &mut Cpu, rises: &mut Rises, bus: &mut B, row: 
 #[tactic(auto, unfolding(crate::specs::Unit::rest_by))]
 #[inline(never)]
 fn return_from_interrupt<B: Bus>(cpu: &mut Cpu, rises: &mut Rises, bus: &mut B, row: OpRow)
-    ensures { EndsAs (rest_by B.acts InterruptReturnClass row (begun cpu.old (B.held bus.old) rises.old)) cpu.new (B.held bus.new) rises.new }
+    requires { rises.old.line ≡ cpu.old.line }
+    ensures { EndsAs (rest_by B.acts InterruptReturnClass row (begun cpu.old (B.held bus.old) rises.old.edges))
+        cpu.new (B.held bus.new) rises.new }
 {
     step_over(cpu);
     idle(cpu, rises, bus);
@@ -155,7 +171,9 @@ fn return_from_interrupt<B: Bus>(cpu: &mut Cpu, rises: &mut Rises, bus: &mut B, 
 #[tactic(auto, unfolding(crate::specs::Unit::rest_by))]
 #[inline(never)]
 fn break_in<B: Bus>(cpu: &mut Cpu, rises: &mut Rises, bus: &mut B, row: OpRow)
-    ensures { EndsAs (rest_by B.acts BreakClass row (begun cpu.old (B.held bus.old) rises.old)) cpu.new (B.held bus.new) rises.new }
+    requires { rises.old.line ≡ cpu.old.line }
+    ensures { EndsAs (rest_by B.acts BreakClass row (begun cpu.old (B.held bus.old) rises.old.edges))
+        cpu.new (B.held bus.new) rises.new }
 {
     step_over(cpu);
     let _ = fetch(cpu, rises, bus);
@@ -166,7 +184,9 @@ fn break_in<B: Bus>(cpu: &mut Cpu, rises: &mut Rises, bus: &mut B, row: OpRow)
 #[tactic(auto, unfolding(crate::specs::Unit::rest_by))]
 #[inline(never)]
 fn push_a<B: Bus>(cpu: &mut Cpu, rises: &mut Rises, bus: &mut B, row: OpRow)
-    ensures { EndsAs (rest_by B.acts PushAClass row (begun cpu.old (B.held bus.old) rises.old)) cpu.new (B.held bus.new) rises.new }
+    requires { rises.old.line ≡ cpu.old.line }
+    ensures { EndsAs (rest_by B.acts PushAClass row (begun cpu.old (B.held bus.old) rises.old.edges))
+        cpu.new (B.held bus.new) rises.new }
 {
     step_over(cpu);
     idle(cpu, rises, bus);
@@ -178,7 +198,9 @@ fn push_a<B: Bus>(cpu: &mut Cpu, rises: &mut Rises, bus: &mut B, row: OpRow)
 #[tactic(auto, unfolding(crate::specs::Unit::rest_by))]
 #[inline(never)]
 fn push_flags<B: Bus>(cpu: &mut Cpu, rises: &mut Rises, bus: &mut B, row: OpRow)
-    ensures { EndsAs (rest_by B.acts PushFlagsClass row (begun cpu.old (B.held bus.old) rises.old)) cpu.new (B.held bus.new) rises.new }
+    requires { rises.old.line ≡ cpu.old.line }
+    ensures { EndsAs (rest_by B.acts PushFlagsClass row (begun cpu.old (B.held bus.old) rises.old.edges))
+        cpu.new (B.held bus.new) rises.new }
 {
     step_over(cpu);
     idle(cpu, rises, bus);
@@ -189,7 +211,9 @@ fn push_flags<B: Bus>(cpu: &mut Cpu, rises: &mut Rises, bus: &mut B, row: OpRow)
 #[tactic(auto, unfolding(crate::specs::Unit::rest_by))]
 #[inline(never)]
 fn pull_a<B: Bus>(cpu: &mut Cpu, rises: &mut Rises, bus: &mut B, row: OpRow)
-    ensures { EndsAs (rest_by B.acts PullAClass row (begun cpu.old (B.held bus.old) rises.old)) cpu.new (B.held bus.new) rises.new }
+    requires { rises.old.line ≡ cpu.old.line }
+    ensures { EndsAs (rest_by B.acts PullAClass row (begun cpu.old (B.held bus.old) rises.old.edges))
+        cpu.new (B.held bus.new) rises.new }
 {
     step_over(cpu);
     idle(cpu, rises, bus);
@@ -202,7 +226,9 @@ fn pull_a<B: Bus>(cpu: &mut Cpu, rises: &mut Rises, bus: &mut B, row: OpRow)
 #[tactic(auto, unfolding(crate::specs::Unit::rest_by))]
 #[inline(never)]
 fn pull_flags<B: Bus>(cpu: &mut Cpu, rises: &mut Rises, bus: &mut B, row: OpRow)
-    ensures { EndsAs (rest_by B.acts PullFlagsClass row (begun cpu.old (B.held bus.old) rises.old)) cpu.new (B.held bus.new) rises.new }
+    requires { rises.old.line ≡ cpu.old.line }
+    ensures { EndsAs (rest_by B.acts PullFlagsClass row (begun cpu.old (B.held bus.old) rises.old.edges))
+        cpu.new (B.held bus.new) rises.new }
 {
     step_over(cpu);
     idle(cpu, rises, bus);
@@ -215,7 +241,9 @@ fn pull_flags<B: Bus>(cpu: &mut Cpu, rises: &mut Rises, bus: &mut B, row: OpRow)
 #[tactic(auto, unfolding(crate::specs::Unit::rest_by))]
 #[inline(always)]
 fn run_class<B: Bus>(cpu: &mut Cpu, rises: &mut Rises, bus: &mut B, class: Class, row: OpRow)
-    ensures { EndsAs (rest_by B.acts class row (begun cpu.old (B.held bus.old) rises.old)) cpu.new (B.held bus.new) rises.new }
+    requires { rises.old.line ≡ cpu.old.line }
+    ensures { EndsAs (rest_by B.acts class row (begun cpu.old (B.held bus.old) rises.old.edges))
+        cpu.new (B.held bus.new) rises.new }
 {
     match class {
         Class::ByMode => run_by_mode(cpu, rises, bus, row),
@@ -238,7 +266,9 @@ fn run_class<B: Bus>(cpu: &mut Cpu, rises: &mut Rises, bus: &mut B, class: Class
 #[tactic(auto, unfolding(crate::specs::Unit::rest_of))]
 #[inline(always)]
 pub(crate) fn run_row<B: Bus>(cpu: &mut Cpu, rises: &mut Rises, bus: &mut B, row: OpRow)
-    ensures { EndsAs (rest_of B.acts row (begun cpu.old (B.held bus.old) rises.old)) cpu.new (B.held bus.new) rises.new }
+    requires { rises.old.line ≡ cpu.old.line }
+    ensures { EndsAs (rest_of B.acts row (begun cpu.old (B.held bus.old) rises.old.edges))
+        cpu.new (B.held bus.new) rises.new }
 {
     run_class(cpu, rises, bus, op_class(row.op, row.mode), row);
 }

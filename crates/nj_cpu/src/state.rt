@@ -1,6 +1,6 @@
 //! The processor's registers, and what lasts from one unit to the next.
 
-ghost use Rattle.std.specs.Prelude.{◌≡◌, ◌||◌};
+ghost use Rattle.std.specs.Prelude.{◌≡◌, ◌||◌, true};
 ghost use Rattle.nj_cpu.specs.Unit.{no_rise};
 
 use nj_alu::Flags;
@@ -37,61 +37,77 @@ pub enum UnitEnd {
     Jammed,
 }
 
-/// Where the NMI line rose within a unit: before its last cycle so far, and in that cycle.
+/// The NMI line as a unit's code watches it: its level after the last access, and where it rose within the unit, before
+/// its last cycle so far and in that cycle. All of it is one byte, so that one look tells that there is nothing to
+/// note.
 #[derive(Drop)]
 pub(crate) struct Rises {
-    // 2 where it rose before, and 1 where in the last cycle, so that one look tells whether it rose at all.
+    // 1 for the level, 2 where it rose in the last cycle, and 4 where it rose before.
     marks: u8,
 }
 
 impl Model for Rises {
-    ghost use Rattle.std.specs.Prelude.{◌==◌, ◌%◌, nat_le};
-    ghost use Rattle.nj_cpu.specs.Walk.{Rises as Edges};
+    ghost use Rattle.std.specs.Prelude.{◌==◌, ◌/◌, ◌%◌, nat_le};
+    ghost use Rattle.nj_cpu.specs.Walk.{Watched};
 
-    ghost Value = { Edges };
+    ghost Value = { Watched };
 
-    ghost view = { λ r. record { before = nat_le 2 r.marks; last = r.marks % 2 == 1 } };
+    ghost view = { λ r. record {
+      edges = record { before = nat_le 4 r.marks; last = r.marks / 2 % 2 == 1 };
+      line = r.marks % 2 == 1;
+    } };
 }
 
 impl Rises {
     /// The line has not risen yet.
     #[inline(always)]
-    pub fn none() -> Rises
-        ensures { result ≡ no_rise }
+    pub fn begun(level: bool) -> Rises
+        ensures { result ≡ record { edges = no_rise; line = level } }
     {
-        Rises { marks: 0 }
+        Rises { marks: level as u8 }
     }
 
     /// Whether it rose at all.
     #[inline(always)]
     pub fn any(&self) -> bool
-        ensures { result ≡ (self.now.before || self.now.last) }
+        ensures { result ≡ (self.now.edges.before || self.now.edges.last) }
     {
-        self.marks != 0
+        self.marks >= 2
+    }
+
+    /// Whether there is nothing to note after an access: the line stands, and has not risen yet.
+    #[inline(always)]
+    pub fn is_quiet(&self, level: bool) -> bool
+        ensures { result ≡ true → self.now ≡ record { edges = no_rise; line = level } }
+    {
+        self.marks == level as u8
     }
 
     /// Whether it rose in the last cycle so far.
     #[inline(always)]
     pub fn last(&self) -> bool
-        ensures { result ≡ self.now.last }
+        ensures { result ≡ self.now.edges.last }
     {
-        self.marks % 2 == 1
+        self.marks / 2 % 2 == 1
     }
 
     /// Whether it rose before that cycle.
     #[inline(always)]
     pub fn before(&self) -> bool
-        ensures { result ≡ self.now.before }
+        ensures { result ≡ self.now.edges.before }
     {
-        self.marks >= 2
+        self.marks >= 4
     }
 
-    /// One cycle more, in which it rose or not.
+    /// One cycle more, after which the line has this level, and in which it rose or not.
     #[inline(always)]
-    pub fn turn(&mut self, rose: bool)
-        ensures { self.new ≡ record { before = self.old.before || self.old.last; last = rose } }
+    pub fn turn(&mut self, level: bool, rose: bool)
+        ensures { self.new ≡ record {
+          edges = record { before = self.old.edges.before || self.old.edges.last; last = rose };
+          line = level;
+        } }
     {
-        let before = if self.marks == 0 { 0 } else { 2 };
-        self.marks = before + rose as u8;
+        let before = self.marks >= 2;
+        self.marks = before as u8 * 4 + rose as u8 * 2 + level as u8;
     }
 }

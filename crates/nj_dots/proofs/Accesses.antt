@@ -89,15 +89,23 @@ put_oam_address-fits value s h = record { placed = h.placed; fine_x = h.fine_x; 
 put_oam-fits : (value : ℕ) (s : Screen) → IsScreen s → IsScreen (put_oam value s)
 unfolding put_oam
 put_oam-fits value s h =
-    record { placed = h.placed; fine_x = h.fine_x; oam = length-set s.oam s.oam_address (oam_kept s.oam_address value) ∙ h.oam; vram = h.vram }
+    record {
+      placed = h.placed;
+      fine_x = h.fine_x;
+      oam = length-set s.oam s.oam_address (oam_kept s.oam_address value)
+          ∙ h.oam;
+      vram = h.vram;
+    }
 
 put_scroll-fits : (value : ℕ) (s : Screen) → IsScreen s → IsScreen (put_scroll value s)
 unfolding put_scroll
-put_scroll-fits value s h = record { placed = h.placed; fine_x = scrolled-x value s.scroll h.fine_x; oam = h.oam; vram = h.vram }
+put_scroll-fits value s h =
+    record { placed = h.placed; fine_x = scrolled-x value s.scroll h.fine_x; oam = h.oam; vram = h.vram }
 
 put_address-fits : (value : ℕ) (s : Screen) → IsScreen s → IsScreen (put_address value s)
 unfolding put_address
-put_address-fits value s h = record { placed = h.placed; fine_x = addressed-x value s.scroll h.fine_x; oam = h.oam; vram = h.vram }
+put_address-fits value s h =
+    record { placed = h.placed; fine_x = addressed-x value s.scroll h.fine_x; oam = h.oam; vram = h.vram }
 
 -- a write keeps the sizes of the picture's memory
 vram-if : (b : Bool) (at value : ℕ) (m : Vram) → IsSized m → IsSized (if b then m else written m at value)

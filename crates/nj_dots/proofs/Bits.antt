@@ -79,7 +79,8 @@ scroll-same : (s e : Screen) → e.scroll ≡ s.scroll → ScrollFits s → Scro
 scroll-same s e same h = record { scroll = subst IsScroll (sym same) h.scroll }
 
 -- with another v that fits
-scroll-v : (s e : Screen) (v : ℕ) → e.scroll ≡ (let c = s.scroll in record c { v = v }) → v < 32768 → ScrollFits s → ScrollFits e
+scroll-v : (s e : Screen) (v : ℕ) → e.scroll ≡ (let c = s.scroll in record c { v = v }) → v < 32768 → ScrollFits s
+    → ScrollFits e
 scroll-v s e v same fits h =
     let t : s.scroll.t < 32768 = h.scroll.t in
     let x : s.scroll.x < 8 = h.scroll.x in
@@ -94,7 +95,8 @@ dot_of-scroll p s h =
     let moves : Moves (drawn p f) (moved (drawn p f)) = moves-moved (drawn p f) in
     let before : ScrollFits f = scroll-same s f (ap (λ (e : Screen). e.scroll) flags.same) h in
     let v : FitsV (drawn p f) = v-drawn p f (record { v = before.scroll.v }) in
-    let after : ScrollFits (drawn p f) = scroll-v f (drawn p f) (drawn p f).scroll.v (ap (λ (e : Screen). e.scroll) stays.same) v.v before in
+    let after : ScrollFits (drawn p f) =
+    scroll-v f (drawn p f) (drawn p f).scroll.v (ap (λ (e : Screen). e.scroll) stays.same) v.v before in
     scroll-same (drawn p f) (dot_of p s) (ap (λ (e : Screen). e.scroll) (dot_of-moved p s ∙ moves.same)) after
 
 pub after_dots-scroll : (n : ℕ) (p : List ℕ) (s : Screen) → ScrollFits s → ScrollFits (after_dots n p s)
@@ -122,7 +124,8 @@ scroll-after_oam_read s h = record { scroll = h.scroll }
 
 scroll-after_data_read : (p : List ℕ) (s : Screen) → ScrollFits s → ScrollFits (after_data_read p s)
 unfolding after_data_read
-scroll-after_data_read p s h = record { scroll = record { v = next_address-lt s.control s.scroll.v; t = h.scroll.t; x = h.scroll.x } }
+scroll-after_data_read p s h =
+    record { scroll = record { v = next_address-lt s.control s.scroll.v; t = h.scroll.t; x = h.scroll.x } }
 
 pub after_read-scroll : (reg : ℕ) (p : List ℕ) (s : Screen) → ScrollFits s → ScrollFits (after_read reg p s)
 unfolding after_read
@@ -162,9 +165,11 @@ scroll-put_address value s byte h = record { scroll = addressed-fits value s.scr
 
 scroll-put_data : (value : ℕ) (s : Screen) → ScrollFits s → ScrollFits (put_data value s)
 unfolding put_data
-scroll-put_data value s h = record { scroll = record { v = next_address-lt s.control s.scroll.v; t = h.scroll.t; x = h.scroll.x } }
+scroll-put_data value s h =
+    record { scroll = record { v = next_address-lt s.control s.scroll.v; t = h.scroll.t; x = h.scroll.x } }
 
-pub after_write-scroll : (reg value : ℕ) (s : Screen) → value < 256 → ScrollFits s → ScrollFits (after_write reg value s)
+pub after_write-scroll : (reg value : ℕ) (s : Screen) → value < 256 → ScrollFits s
+    → ScrollFits (after_write reg value s)
 unfolding after_write
 after_write-scroll reg value s byte h =
     fits-if _ _ _ (scroll-put_control value s h)

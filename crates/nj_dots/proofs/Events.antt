@@ -29,7 +29,8 @@ to_event-at s =
     (and-assoc (nat_le (place_of s.position) 89340) s.odd_frame (is_rendering s.mask))
 
 -- one place further it is one less
-at-next : (n m : ℕ) (skip : Bool) → m ≡ n + 1 → n ≢ 82182 → n ≢ 89002 → n < 89341 → (n ≡ 89340 → skip ≡ false) → to-event-at m skip + 1 ≡ to-event-at n skip
+at-next : (n m : ℕ) (skip : Bool) → m ≡ n + 1 → n ≢ 82182 → n ≢ 89002 → n < 89341 → (n ≡ 89340 → skip ≡ false)
+    → to-event-at m skip + 1 ≡ to-event-at n skip
 unfolding to-event-at
 at-next n m skip next a b late whole = grind (arith, nat_tests, next, a, b, late, whole)
 
@@ -73,7 +74,11 @@ place_of-lt s placed = omega (arith, placed.line, placed.dot)
 
 pub to_event-positive : (s : Screen) → IsPlaced s.position → 0 < to_event s
 to_event-positive s placed =
-    omega (arith, to_event-at s, at-positive (place_of s.position) (s.odd_frame && is_rendering s.mask) (place_of-lt s placed))
+    omega (
+      arith,
+      to_event-at s,
+      at-positive (place_of s.position) (s.odd_frame && is_rendering s.mask) (place_of-lt s placed),
+    )
 
 -- an event is the next dot exactly where the count is 1
 pub event-one : (s : Screen) → IsEvent s → to_event s ≡ 1
@@ -86,9 +91,18 @@ event-one s (inr at) =
 
 pub one-event : (s : Screen) → IsPlaced s.position → to_event s ≡ 1 → IsEvent s
 one-event s placed one =
-    elim (at-one (place_of s.position) (s.odd_frame && is_rendering s.mask) (place_of-lt s placed) (sym (to_event-at s) ∙ one)) [
-      | inl at ↦ inl (record { line = omega (arith, at, placed.line, placed.dot); dot = omega (arith, at, placed.line, placed.dot) })
-      | inr at ↦ inr (record { line = omega (arith, at, placed.line, placed.dot); dot = omega (arith, at, placed.line, placed.dot) })
+    elim (at-one (place_of s.position) (s.odd_frame && is_rendering s.mask) (place_of-lt s placed) (sym (to_event-at s)
+    ∙ one)) [
+      | inl at ↦
+          inl (record {
+            line = omega (arith, at, placed.line, placed.dot);
+            dot = omega (arith, at, placed.line, placed.dot);
+          })
+      | inr at ↦
+          inr (record {
+            line = omega (arith, at, placed.line, placed.dot);
+            dot = omega (arith, at, placed.line, placed.dot);
+          })
     ]
 
 -- a place that is not the last leaves its frame's last dot to come
@@ -100,14 +114,16 @@ before-last s placed goes_on = elim (cases_lt (place_of s.position) 89341) [
       absurd (true≢false (sym (is-last s placed at) ∙ goes_on)))
 ]
 
-whole-there : (s : Screen) → IsPlaced s.position → is_last_dot s ≡ false → place_of s.position ≡ 89340 → (s.odd_frame && is_rendering s.mask) ≡ false
+whole-there : (s : Screen) → IsPlaced s.position → is_last_dot s ≡ false → place_of s.position ≡ 89340
+    → (s.odd_frame && is_rendering s.mask) ≡ false
 whole-there s placed goes_on at = elim (cases_Bool (s.odd_frame && is_rendering s.mask)) [
   | inl odd ↦ absurd (true≢false (sym (is-last-odd s placed at odd) ∙ goes_on))
   | inr whole ↦ whole
 ]
 
 -- the last place is one of two
-last-cases : (s : Screen) → IsPlaced s.position → is_last_dot s ≡ true → (place_of s.position ≡ 89341) ⊎ ((place_of s.position ≡ 89340) × ((s.odd_frame && is_rendering s.mask) ≡ true))
+last-cases : (s : Screen) → IsPlaced s.position → is_last_dot s ≡ true
+    → (place_of s.position ≡ 89341) ⊎ ((place_of s.position ≡ 89340) × ((s.odd_frame && is_rendering s.mask) ≡ true))
 last-cases s placed last =
     let l : IsLastPlace s = last-place s last in
     elim (cases_eq (place_of s.position) 89340) [
@@ -122,16 +138,28 @@ to_event-dot p s fits apart = elim (cases_Bool (is_last_dot s)) [
       let e : Restarts s (dot_of p s) = restarts p s last in
       let there : place_of (dot_of p s).position ≡ 0 = omega (arith, e.start.line, e.start.dot) in
       let after : to_event (dot_of p s) ≡ 82183 =
-      to_event-at (dot_of p s) ∙ ap (λ n. to-event-at n ((dot_of p s).odd_frame && is_rendering (dot_of p s).mask)) there ∙ at-start _ in
+      to_event-at (dot_of p s)
+      ∙ ap (λ n. to-event-at n ((dot_of p s).odd_frame && is_rendering (dot_of p s).mask)) there ∙ at-start _ in
       let before : to_event s ≡ 82184 = to_event-at s ∙ at-first _ _ (last-cases s fits.placed last) in
       omega (arith, after, before))
   | inr goes_on ↦ (
       let e : GoesOn s (dot_of p s) = goes-on p s goes_on in
-      let there : place_of (dot_of p s).position ≡ place_of s.position + 1 = ap place_of e.position ∙ place_of-after s.position fits.placed.dot in
+      let there : place_of (dot_of p s).position ≡ place_of s.position + 1 =
+      ap place_of e.position ∙ place_of-after s.position fits.placed.dot in
       let same : ((dot_of p s).odd_frame && is_rendering (dot_of p s).mask) ≡ (s.odd_frame && is_rendering s.mask) =
       ap (λ b. b && is_rendering (dot_of p s).mask) e.odd_frame ∙ ap (λ m. s.odd_frame && is_rendering m) e.mask in
-      let a : place_of s.position ≢ 82182 = λ at. apart (inl (record { line = omega (arith, at, fits.placed.line, fits.placed.dot); dot = omega (arith, at, fits.placed.line, fits.placed.dot) })) in
-      let b : place_of s.position ≢ 89002 = λ at. apart (inr (record { line = omega (arith, at, fits.placed.line, fits.placed.dot); dot = omega (arith, at, fits.placed.line, fits.placed.dot) })) in
+      let a : place_of s.position ≢ 82182 =
+      λ at. apart
+      (inl (record {
+        line = omega (arith, at, fits.placed.line, fits.placed.dot);
+        dot = omega (arith, at, fits.placed.line, fits.placed.dot);
+      })) in
+      let b : place_of s.position ≢ 89002 =
+      λ at. apart
+      (inr (record {
+        line = omega (arith, at, fits.placed.line, fits.placed.dot);
+        dot = omega (arith, at, fits.placed.line, fits.placed.dot);
+      })) in
       ap (λ n. n + 1) (to_event-at (dot_of p s) ∙ ap (to-event-at (place_of (dot_of p s).position)) same)
       ∙ at-next (place_of s.position) (place_of (dot_of p s).position) (s.odd_frame && is_rendering s.mask) there a b
       (before-last s fits.placed goes_on) (whole-there s fits.placed goes_on)
@@ -139,12 +167,14 @@ to_event-dot p s fits apart = elim (cases_Bool (is_last_dot s)) [
 ]
 
 -- after k dots before the event, k less
-pub to_event-after : (k : ℕ) (p : List ℕ) (s : Screen) → IsScreen s → k < to_event s → to_event (after_dots k p s) + k ≡ to_event s
+pub to_event-after : (k : ℕ) (p : List ℕ) (s : Screen) → IsScreen s → k < to_event s
+    → to_event (after_dots k p s) + k ≡ to_event s
 unfolding after_dots
 to_event-after zero p s fits below = omega arith
 to_event-after (suc k) p s fits below =
     let e : Screen = after_dots k p s in
     let here : to_event e + k ≡ to_event s = to_event-after k p s fits (omega (arith, below)) in
-    let apart : IsEvent e → ⊥ = λ at. (let one : to_event e ≡ 1 = event-one e at in absurd (omega (arith, one, here, below))) in
+    let apart : IsEvent e → ⊥ =
+    λ at. (let one : to_event e ≡ 1 = event-one e at in absurd (omega (arith, one, here, below))) in
     let next : to_event (dot_of p e) + 1 ≡ to_event e = to_event-dot p e (after_dots-fits k p s fits) apart in
     omega (arith, here, next)

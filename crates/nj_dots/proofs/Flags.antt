@@ -32,31 +32,39 @@ unfolding raised is_next
 is_next-raised l d s = refl
 
 -- vertical blank begins at dot (241,1)
-pub blank-begins : (p : List ℕ) (s : Screen) → is_next 241 1 s ≡ true → (dot_of p s).vertical_blank ≡ (s.vertical_blank || not s.hold)
+pub blank-begins : (p : List ℕ) (s : Screen) → is_next 241 1 s ≡ true
+    → (dot_of p s).vertical_blank ≡ (s.vertical_blank || not s.hold)
 unfolding flagged blank_begun raised
 blank-begins p s at =
-    blank-dot p s ∙ ap (λ e. e.vertical_blank) (if-true (is_next 241 1 (raised s)) (blank_begun (raised s)) _ (is_next-raised 241 1 s ∙ at))
+    blank-dot p s
+    ∙ ap (λ e. e.vertical_blank)
+    (if-true (is_next 241 1 (raised s)) (blank_begun (raised s)) _ (is_next-raised 241 1 s ∙ at))
 
 -- it ends at dot (261,1)
-pub blank-ends : (p : List ℕ) (s : Screen) → is_next 241 1 s ≡ false → is_next 261 1 s ≡ true → (dot_of p s).vertical_blank ≡ false
+pub blank-ends : (p : List ℕ) (s : Screen) → is_next 241 1 s ≡ false → is_next 261 1 s ≡ true
+    → (dot_of p s).vertical_blank ≡ false
 unfolding flagged blank_ended raised
 blank-ends p s apart at =
     blank-dot p s
-    ∙ ap (λ e. e.vertical_blank) (if-false (is_next 241 1 (raised s)) _ _ (is_next-raised 241 1 s ∙ apart) ∙ if-true (is_next 261 1 (raised s)) (blank_ended (raised s)) _ (is_next-raised 261 1 s ∙ at))
+    ∙ ap (λ e. e.vertical_blank) (if-false (is_next 241 1 (raised s)) _ _ (is_next-raised 241 1 s ∙ apart)
+    ∙ if-true (is_next 261 1 (raised s)) (blank_ended (raised s)) _ (is_next-raised 261 1 s ∙ at))
 
 -- at every other dot it stays
-pub blank-stays : (p : List ℕ) (s : Screen) → is_next 241 1 s ≡ false → is_next 261 1 s ≡ false → (dot_of p s).vertical_blank ≡ s.vertical_blank
+pub blank-stays : (p : List ℕ) (s : Screen) → is_next 241 1 s ≡ false → is_next 261 1 s ≡ false
+    → (dot_of p s).vertical_blank ≡ s.vertical_blank
 unfolding flagged raised
 blank-stays p s apart far =
     blank-dot p s
-    ∙ ap (λ e. e.vertical_blank) (if-false (is_next 241 1 (raised s)) _ _ (is_next-raised 241 1 s ∙ apart) ∙ if-false (is_next 261 1 (raised s)) _ (raised s) (is_next-raised 261 1 s ∙ far))
+    ∙ ap (λ e. e.vertical_blank) (if-false (is_next 241 1 (raised s)) _ _ (is_next-raised 241 1 s ∙ apart)
+    ∙ if-false (is_next 261 1 (raised s)) _ (raised s) (is_next-raised 261 1 s ∙ far))
 
 -- the two dots are not one
 two-dots : (s : Screen) → is_next 261 1 s ≡ true → is_next 241 1 s ≡ false
 unfolding is_next
 two-dots s at = grind (arith, nat_tests, at)
 
-pub blank-risen : (p : List ℕ) (s : Screen) → s.vertical_blank ≡ false → (dot_of p s).vertical_blank ≡ true → IsNext 241 1 s
+pub blank-risen : (p : List ℕ) (s : Screen) → s.vertical_blank ≡ false → (dot_of p s).vertical_blank ≡ true
+    → IsNext 241 1 s
 blank-risen p s low high = elim (cases_Bool (is_next 241 1 s)) [
   | inl at ↦ next-is 241 1 s at
   | inr apart ↦ (elim (cases_Bool (is_next 261 1 s)) [
@@ -65,7 +73,8 @@ blank-risen p s low high = elim (cases_Bool (is_next 241 1 s)) [
   ])
 ]
 
-pub blank-fallen : (p : List ℕ) (s : Screen) → s.vertical_blank ≡ true → (dot_of p s).vertical_blank ≡ false → IsNext 261 1 s
+pub blank-fallen : (p : List ℕ) (s : Screen) → s.vertical_blank ≡ true → (dot_of p s).vertical_blank ≡ false
+    → IsNext 261 1 s
 blank-fallen p s high low = elim (cases_Bool (is_next 261 1 s)) [
   | inl at ↦ next-is 261 1 s at
   | inr far ↦ (elim (cases_Bool (is_next 241 1 s)) [
@@ -117,20 +126,25 @@ pub blank-status : (p : List ℕ) (s : Screen) → (after_read 2 p s).vertical_b
 unfolding after_read after_status
 blank-status p s = refl
 
-blank-status-read : (reg : ℕ) (p : List ℕ) (s : Screen) → (reg == 2) ≡ true → (after_read reg p s).vertical_blank ≡ false
+blank-status-read : (reg : ℕ) (p : List ℕ) (s : Screen) → (reg == 2) ≡ true
+    → (after_read reg p s).vertical_blank ≡ false
 unfolding after_read after_status
 blank-status-read reg p s at = ap (λ e. e.vertical_blank) (if-true (reg == 2) (after_status s) _ at)
 
-pub blank-read-low : (reg : ℕ) (p : List ℕ) (s : Screen) → s.vertical_blank ≡ false → (after_read reg p s).vertical_blank ≡ false
+pub blank-read-low : (reg : ℕ) (p : List ℕ) (s : Screen) → s.vertical_blank ≡ false
+    → (after_read reg p s).vertical_blank ≡ false
 blank-read-low reg p s low = elim (cases_Bool (reg == 2)) [
   | inl at ↦ blank-status-read reg p s at
   | inr other ↦ (let same : SameBlank s (after_read reg p s) = blank-other-read reg p s other in same.blank ∙ low)
 ]
 
-pub blank-read-lowers : (reg : ℕ) (p : List ℕ) (s : Screen) → s.vertical_blank ≡ true → (after_read reg p s).vertical_blank ≡ false → reg ≡ 2
+pub blank-read-lowers : (reg : ℕ) (p : List ℕ) (s : Screen) → s.vertical_blank ≡ true
+    → (after_read reg p s).vertical_blank ≡ false → reg ≡ 2
 blank-read-lowers reg p s high low = elim (cases_Bool (reg == 2)) [
   | inl at ↦ eqb-true reg 2 at
-  | inr other ↦ (let same : SameBlank s (after_read reg p s) = blank-other-read reg p s other in absurd (true≢false (sym high ∙ sym same.blank ∙ low)))
+  | inr other ↦
+      (let same : SameBlank s (after_read reg p s) =
+      blank-other-read reg p s other in absurd (true≢false (sym high ∙ sym same.blank ∙ low)))
 ]
 
 blank-put_control : (value : ℕ) (s : Screen) → SameBlank s (put_control value s)
@@ -183,8 +197,12 @@ unfolding flagged blank_begun blank_ended
 hit-flagged s low = elim (cases_Bool (is_next 241 1 s)) [
   | inl at ↦ ap (λ e. e.sprite_zero_hit) (if-true (is_next 241 1 s) (blank_begun s) _ at) ∙ low
   | inr apart ↦ (elim (cases_Bool (is_next 261 1 s)) [
-    | inl at ↦ ap (λ e. e.sprite_zero_hit) (if-false (is_next 241 1 s) (blank_begun s) _ apart ∙ if-true (is_next 261 1 s) (blank_ended s) s at)
-    | inr far ↦ ap (λ e. e.sprite_zero_hit) (if-false (is_next 241 1 s) (blank_begun s) _ apart ∙ if-false (is_next 261 1 s) (blank_ended s) s far) ∙ low
+    | inl at ↦
+        ap (λ e. e.sprite_zero_hit) (if-false (is_next 241 1 s) (blank_begun s) _ apart
+        ∙ if-true (is_next 261 1 s) (blank_ended s) s at)
+    | inr far ↦
+        ap (λ e. e.sprite_zero_hit) (if-false (is_next 241 1 s) (blank_begun s) _ apart
+        ∙ if-false (is_next 261 1 s) (blank_ended s) s far) ∙ low
   ])
 ]
 
@@ -192,7 +210,8 @@ hit-raised : (s : Screen) → s.sprite_zero_hit ≡ false → s.near ≡ false �
 unfolding raised
 hit-raised s low far = ap (λ b. b || s.near) low ∙ far
 
-pub hit-risen : (p : List ℕ) (s : Screen) → s.sprite_zero_hit ≡ false → (dot_of p s).sprite_zero_hit ≡ true → s.near ≡ true
+pub hit-risen : (p : List ℕ) (s : Screen) → s.sprite_zero_hit ≡ false → (dot_of p s).sprite_zero_hit ≡ true
+    → s.near ≡ true
 hit-risen p s low high = elim (cases_Bool s.near) [
   | inl near ↦ near
   | inr far ↦ absurd (true≢false (sym high ∙ hit-dot p s ∙ hit-flagged (raised s) (hit-raised s low far)))
@@ -202,7 +221,8 @@ hit-risen p s low high = elim (cases_Bool s.near) [
 pub record NearHere (s e : Screen) : Type 0 where
   pub place : e.near ≡ true → IsHitPlace s
 
-near-where : (b : Bool) (s x y : Screen) → (b ≡ true → NearHere s x) → (b ≡ false → NearHere s y) → NearHere s (if b then x else y)
+near-where : (b : Bool) (s x y : Screen) → (b ≡ true → NearHere s x) → (b ≡ false → NearHere s y)
+    → NearHere s (if b then x else y)
 near-where true s x y h k = h refl
 near-where false s x y h k = k refl
 
@@ -324,7 +344,8 @@ hit-place-same s e at mask h =
       line = omega (arith, h.line, line);
       from = omega (arith, h.from, dot);
       last = omega (arith, h.last, dot);
-      left = λ hidden_left. (let there : 9 ≤ e.position.dot = h.left (ap shows_left_columns mask ∙ hidden_left) in omega (arith, there, dot));
+      left = λ hidden_left. (let there : 9 ≤ e.position.dot =
+          h.left (ap shows_left_columns mask ∙ hidden_left) in omega (arith, there, dot));
     }
 
 pub near-dot : (p : List ℕ) (s : Screen) → (dot_of p s).near ≡ true → IsHitPlace s
@@ -333,6 +354,7 @@ near-dot p s near =
     let moves : Moves (before_move p s) (moved (before_move p s)) = moves-moved (before_move p s) in
     let flags : Flags s (flagged (raised s)) = flags-flagged_raised s in
     let here : NearHere (flagged (raised s)) (drawn p (flagged (raised s))) =
-    (let same : SameNear (raised s) (flagged (raised s)) = near-flagged (raised s) in near-drawn p (flagged (raised s)) (same.near ∙ near-raised s)) in
+    (let same : SameNear (raised s) (flagged (raised s)) =
+    near-flagged (raised s) in near-drawn p (flagged (raised s)) (same.near ∙ near-raised s)) in
     hit-place-same s (flagged (raised s)) (ap (λ e. e.position) flags.same) (ap (λ e. e.mask) flags.same)
     (here.place (sym (ap (λ e. e.near) (dot_of-moved p s ∙ moves.same)) ∙ near))

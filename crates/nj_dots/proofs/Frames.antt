@@ -41,12 +41,15 @@ skips-same k s e h = ap (λ b. b && is_rendering e.mask) h.odd_frame ∙ ap (λ 
 early : (k : ℕ) (s e : Screen) → InFrame k s e → suc k < frame_length s → is_last_dot e ≡ false
 early k s e h below = elim (cases_Bool (skips s)) [
   | inl odd ↦ not-last e (omega (arith, h.place, below, frame_length-odd s odd))
-  | inr whole ↦ not-last-whole e (omega (arith, h.place, below, frame_length-whole s whole)) (skips-same k s e h ∙ whole)
+  | inr whole ↦
+      not-last-whole e (omega (arith, h.place, below, frame_length-whole s whole)) (skips-same k s e h ∙ whole)
 ]
 
-pub in-frame : (k : ℕ) (p : List ℕ) (s : Screen) → IsScreen s → IsStart s → k < frame_length s → InFrame k s (after_dots k p s)
+pub in-frame : (k : ℕ) (p : List ℕ) (s : Screen) → IsScreen s → IsStart s → k < frame_length s
+    → InFrame k s (after_dots k p s)
 unfolding after_dots
-in-frame zero p s fits start below = record { fits = fits; place = omega (arith, start.line, start.dot); odd_frame = refl; mask = refl }
+in-frame zero p s fits start below =
+    record { fits = fits; place = omega (arith, start.line, start.dot); odd_frame = refl; mask = refl }
 in-frame (suc k) p s fits start below =
     let e : Screen = after_dots k p s in
     let here : InFrame k s e = in-frame k p s fits start (omega (arith, below)) in
@@ -61,7 +64,8 @@ in-frame (suc k) p s fits start below =
 -- at the last one it is
 late : (k : ℕ) (s e : Screen) → InFrame k s e → suc k ≡ frame_length s → is_last_dot e ≡ true
 late k s e h at = elim (cases_Bool (skips s)) [
-  | inl odd ↦ is-last-odd e h.fits.placed (omega (arith, h.place, at, frame_length-odd s odd)) (skips-same k s e h ∙ odd)
+  | inl odd ↦
+      is-last-odd e h.fits.placed (omega (arith, h.place, at, frame_length-odd s odd)) (skips-same k s e h ∙ odd)
   | inr whole ↦ is-last e h.fits.placed (omega (arith, h.place, at, frame_length-whole s whole))
 ]
 
@@ -70,7 +74,8 @@ pub record Follows (s e : Screen) : Type 0 where
   pub start : IsStart e
   pub odd_frame : e.odd_frame ≡ not s.odd_frame
 
-follows-suc : (k : ℕ) (p : List ℕ) (s : Screen) → IsScreen s → IsStart s → suc k ≡ frame_length s → Follows s (after_dots (suc k) p s)
+follows-suc : (k : ℕ) (p : List ℕ) (s : Screen) → IsScreen s → IsStart s → suc k ≡ frame_length s
+    → Follows s (after_dots (suc k) p s)
 unfolding after_dots
 follows-suc k p s fits start at =
     let e : Screen = after_dots k p s in
@@ -84,7 +89,8 @@ frame-follows p s fits start =
     subst (λ n. Follows s (after_dots n p s)) at (follows-suc (frame_length s - 1) p s fits start at)
 
 -- and no sooner
-pub no-start : (k : ℕ) (p : List ℕ) (s : Screen) → IsScreen s → IsStart s → 0 < k → k < frame_length s → IsStart (after_dots k p s) → ⊥
+pub no-start : (k : ℕ) (p : List ℕ) (s : Screen) → IsScreen s → IsStart s → 0 < k → k < frame_length s
+    → IsStart (after_dots k p s) → ⊥
 no-start k p s fits start some below again =
     let here : InFrame k s (after_dots k p s) = in-frame k p s fits start below in
     absurd (omega (arith, here.place, again.line, again.dot, some))

@@ -14,7 +14,8 @@ screen-if true x y h k = h
 screen-if false x y h k = k
 
 -- the same, told which way it went
-pub screen-where : (b : Bool) (x y : Screen) → (b ≡ true → IsScreen x) → (b ≡ false → IsScreen y) → IsScreen (if b then x else y)
+pub screen-where : (b : Bool) (x y : Screen) → (b ≡ true → IsScreen x) → (b ≡ false → IsScreen y)
+    → IsScreen (if b then x else y)
 screen-where true x y h k = h refl
 screen-where false x y h k = k refl
 
@@ -52,7 +53,10 @@ frame_begun-fits s h =
 after_position-fits : (s : Screen) → IsPlaced s.position → is_last_dot s ≡ false → IsPlaced (after_position s.position)
 unfolding after_position is_last_dot is_next
 after_position-fits s h goes_on =
-    record { line = grind (arith, nat_tests, h.line, h.dot, goes_on); dot = grind (arith, nat_tests, h.line, h.dot, goes_on) }
+    record {
+      line = grind (arith, nat_tests, h.line, h.dot, goes_on);
+      dot = grind (arith, nat_tests, h.line, h.dot, goes_on);
+    }
 
 advanced-fits : (s : Screen) → IsScreen s → is_last_dot s ≡ false → IsScreen (advanced s)
 unfolding advanced
@@ -78,7 +82,8 @@ before_draw s h = let fits : IsScreen (flagged (raised s)) = flagged-fits _ (rai
 
 pub before_move : (p : List ℕ) (s : Screen) → IsScreen s → IsPlaced (drawn p (flagged (raised s))).position
 before_move p s h =
-    let fits : IsScreen (drawn p (flagged (raised s))) = drawn-fits p _ (flagged-fits _ (raised-fits s h)) in fits.placed
+    let fits : IsScreen (drawn p (flagged (raised s))) =
+    drawn-fits p _ (flagged-fits _ (raised-fits s h)) in fits.placed
 
 -- the picture at power-on
 pub power_on-fits : (vertical : Bool) → IsScreen (power_on vertical)

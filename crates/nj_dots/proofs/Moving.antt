@@ -54,7 +54,8 @@ not-last s early = elim (cases_Bool (is_last_dot s)) [
   | inr does_not ↦ does_not
 ]
 
-pub not-last-whole : (s : Screen) → place_of s.position < 89341 → (s.odd_frame && is_rendering s.mask) ≡ false → is_last_dot s ≡ false
+pub not-last-whole : (s : Screen) → place_of s.position < 89341 → (s.odd_frame && is_rendering s.mask) ≡ false
+    → is_last_dot s ≡ false
 not-last-whole s early whole = elim (cases_Bool (is_last_dot s)) [
   | inl last ↦ (let l : IsLastPlace s = last-place s last in
       let at : place_of s.position ≡ 89340 = omega (arith, l.late) in
@@ -67,7 +68,8 @@ pub is-last : (s : Screen) → IsPlaced s.position → place_of s.position ≡ 8
 unfolding is_last_dot is_next
 is-last s placed at = grind (arith, nat_tests, placed.line, placed.dot, at)
 
-pub is-last-odd : (s : Screen) → IsPlaced s.position → place_of s.position ≡ 89340 → (s.odd_frame && is_rendering s.mask) ≡ true → is_last_dot s ≡ true
+pub is-last-odd : (s : Screen) → IsPlaced s.position → place_of s.position ≡ 89340
+    → (s.odd_frame && is_rendering s.mask) ≡ true → is_last_dot s ≡ true
 unfolding is_last_dot is_next
 is-last-odd s placed at odd = grind (arith, nat_tests, placed.line, placed.dot, at, odd)
 
@@ -88,9 +90,12 @@ goes-on p s does_not =
     let b : Screen = before_move p s in
     let st : Stands s b = before_move-stands p s in
     let same : is_last_dot b ≡ is_last_dot s =
-    ap (λ (q : Position). (q.line == 261 && q.dot == 340) || ((q.line == 261 && q.dot == 339) && b.odd_frame && is_rendering b.mask)) st.position
-    ∙ ap (λ (o : Bool). (s.position.line == 261 && s.position.dot == 340) || ((s.position.line == 261 && s.position.dot == 339) && o && is_rendering b.mask)) st.odd_frame
-    ∙ ap (λ (m : ℕ). (s.position.line == 261 && s.position.dot == 340) || ((s.position.line == 261 && s.position.dot == 339) && s.odd_frame && is_rendering m)) st.mask in
+    ap (λ (q : Position). (q.line == 261 && q.dot == 340)
+    || ((q.line == 261 && q.dot == 339) && b.odd_frame && is_rendering b.mask)) st.position
+    ∙ ap (λ (o : Bool). (s.position.line == 261 && s.position.dot == 340)
+    || ((s.position.line == 261 && s.position.dot == 339) && o && is_rendering b.mask)) st.odd_frame
+    ∙ ap (λ (m : ℕ). (s.position.line == 261 && s.position.dot == 340)
+    || ((s.position.line == 261 && s.position.dot == 339) && s.odd_frame && is_rendering m)) st.mask in
     let is : dot_of p s ≡ advanced b = dot_of-moved p s ∙ if-false (is_last_dot b) _ _ (same ∙ does_not) in
     record {
       position = ap (λ e. e.position) is ∙ ap after_position st.position;
@@ -110,9 +115,12 @@ restarts p s does =
     let b : Screen = before_move p s in
     let st : Stands s b = before_move-stands p s in
     let same : is_last_dot b ≡ is_last_dot s =
-    ap (λ (q : Position). (q.line == 261 && q.dot == 340) || ((q.line == 261 && q.dot == 339) && b.odd_frame && is_rendering b.mask)) st.position
-    ∙ ap (λ (o : Bool). (s.position.line == 261 && s.position.dot == 340) || ((s.position.line == 261 && s.position.dot == 339) && o && is_rendering b.mask)) st.odd_frame
-    ∙ ap (λ (m : ℕ). (s.position.line == 261 && s.position.dot == 340) || ((s.position.line == 261 && s.position.dot == 339) && s.odd_frame && is_rendering m)) st.mask in
+    ap (λ (q : Position). (q.line == 261 && q.dot == 340)
+    || ((q.line == 261 && q.dot == 339) && b.odd_frame && is_rendering b.mask)) st.position
+    ∙ ap (λ (o : Bool). (s.position.line == 261 && s.position.dot == 340)
+    || ((s.position.line == 261 && s.position.dot == 339) && o && is_rendering b.mask)) st.odd_frame
+    ∙ ap (λ (m : ℕ). (s.position.line == 261 && s.position.dot == 340)
+    || ((s.position.line == 261 && s.position.dot == 339) && s.odd_frame && is_rendering m)) st.mask in
     let is : dot_of p s ≡ frame_begun b = dot_of-moved p s ∙ if-true (is_last_dot b) _ _ (same ∙ does) in
     record {
       start = record { line = ap (λ e. e.position.line) is; dot = ap (λ e. e.position.dot) is };

@@ -63,7 +63,8 @@ overflow-hidden : (s : Screen) → SameOverflow s (hidden s)
 unfolding hidden
 overflow-hidden s = overflow-if _ s _ _ (overflow-emptied s) (overflow-refl s)
 
-overflow-latched : (p : List ℕ) (s : Screen) → (latched p s).sprite_overflow ≡ (s.sprite_overflow || overflows s.oam s.control s.position.line)
+overflow-latched : (p : List ℕ) (s : Screen)
+    → (latched p s).sprite_overflow ≡ (s.sprite_overflow || overflows s.oam s.control s.position.line)
 unfolding latched
 overflow-latched p s = refl
 
@@ -72,7 +73,8 @@ overflow-aside : (p : List ℕ) (s : Screen) → (s.position.dot == 257) ≡ fal
 unfolding shown
 overflow-aside p s aside =
     overflow-if _ s _ _ (overflow-tile p s) (overflow-else _ s _ _ aside
-    (overflow-if _ s _ _ (overflow-sprites_fetched s) (overflow-if _ s _ _ (overflow-prefetched p s) (overflow-refl s))))
+    (overflow-if _ s _ _ (overflow-sprites_fetched s)
+    (overflow-if _ s _ _ (overflow-prefetched p s) (overflow-refl s))))
 
 no-pixel : (dot : ℕ) → (dot == 257) ≡ true → (nat_le 1 dot && nat_le dot 256) ≡ false
 no-pixel dot at = grind (arith, nat_tests, at)
@@ -93,7 +95,9 @@ and-none : (b c : Bool) → c ≡ false → (b && c) ≡ false
 and-none true c none = none
 and-none false c none = refl
 
-overflow-shown : (p : List ℕ) (s : Screen) → (shown p s).sprite_overflow ≡ (s.sprite_overflow || (s.position.dot == 257 && overflows s.oam s.control s.position.line))
+overflow-shown : (p : List ℕ) (s : Screen)
+    → (shown p s).sprite_overflow
+    ≡ (s.sprite_overflow || (s.position.dot == 257 && overflows s.oam s.control s.position.line))
 overflow-shown p s = elim (cases_Bool (s.position.dot == 257)) [
   | inl at ↦
       ap (λ e. e.sprite_overflow) (overflow-there p s at) ∙ overflow-latched p s
@@ -114,28 +118,36 @@ unfolding drawn raises_overflow
 overflow-drawn p s = elim (cases_Bool (is_drawn_line s.position.line)) [
   | inl draws ↦ (elim (cases_Bool (is_rendering s.mask)) [
     | inl on ↦
-        ap (λ e. e.sprite_overflow) (if-true (is_drawn_line s.position.line) _ s draws ∙ if-true (is_rendering s.mask) (shown p s) (hidden s) on)
+        ap (λ e. e.sprite_overflow) (if-true (is_drawn_line s.position.line) _ s draws
+        ∙ if-true (is_rendering s.mask) (shown p s) (hidden s) on)
         ∙ overflow-shown p s
-        ∙ sym (ap (λ b. s.sprite_overflow || (b && (s.position.dot == 257 && overflows s.oam s.control s.position.line))) on)
+        ∙ sym (ap
+        (λ b. s.sprite_overflow || (b && (s.position.dot == 257 && overflows s.oam s.control s.position.line))) on)
     | inr off ↦ (
         let same : SameOverflow s (hidden s) = overflow-hidden s in
-        ap (λ e. e.sprite_overflow) (if-true (is_drawn_line s.position.line) _ s draws ∙ if-false (is_rendering s.mask) (shown p s) (hidden s) off)
+        ap (λ e. e.sprite_overflow) (if-true (is_drawn_line s.position.line) _ s draws
+        ∙ if-false (is_rendering s.mask) (shown p s) (hidden s) off)
         ∙ same.overflow
-        ∙ or-none s.sprite_overflow (is_rendering s.mask && (s.position.dot == 257 && overflows s.oam s.control s.position.line))
+        ∙ or-none s.sprite_overflow
+        (is_rendering s.mask && (s.position.dot == 257 && overflows s.oam s.control s.position.line))
         (ap (λ b. b && (s.position.dot == 257 && overflows s.oam s.control s.position.line)) off))
   ])
   | inr below ↦
       ap (λ e. e.sprite_overflow) (if-false (is_drawn_line s.position.line) _ s below)
-      ∙ or-none s.sprite_overflow (is_rendering s.mask && (s.position.dot == 257 && overflows s.oam s.control s.position.line))
-      (and-none (is_rendering s.mask) _ (and-none (s.position.dot == 257) _ (no-overflow-below s.oam s.control s.position.line below)))
+      ∙ or-none s.sprite_overflow
+      (is_rendering s.mask && (s.position.dot == 257 && overflows s.oam s.control s.position.line))
+      (and-none (is_rendering s.mask) _
+      (and-none (s.position.dot == 257) _ (no-overflow-below s.oam s.control s.position.line below)))
 ]
 
 -- a dot: its flag step, and then dot 257
 raises-same : (s e : Screen) → Flags s e → raises_overflow e ≡ raises_overflow s
 unfolding raises_overflow
-raises-same s e h = ap (λ x. is_rendering x.mask && (x.position.dot == 257 && overflows x.oam x.control x.position.line)) h.same
+raises-same s e h =
+    ap (λ x. is_rendering x.mask && (x.position.dot == 257 && overflows x.oam x.control x.position.line)) h.same
 
-pub overflow-dot : (p : List ℕ) (s : Screen) → (dot_of p s).sprite_overflow ≡ ((flagged (raised s)).sprite_overflow || raises_overflow s)
+pub overflow-dot : (p : List ℕ) (s : Screen)
+    → (dot_of p s).sprite_overflow ≡ ((flagged (raised s)).sprite_overflow || raises_overflow s)
 unfolding before_move
 overflow-dot p s =
     let moves : Moves (before_move p s) (moved (before_move p s)) = moves-moved (before_move p s) in
@@ -160,9 +172,11 @@ overflow-flagged : (s : Screen) → is_next 261 1 s ≡ false → SameOverflow s
 unfolding flagged
 overflow-flagged s apart = overflow-if _ s _ _ (overflow-begun s) (overflow-else _ s _ _ apart (overflow-refl s))
 
-pub overflow-apart : (p : List ℕ) (s : Screen) → is_next 261 1 s ≡ false → (dot_of p s).sprite_overflow ≡ (s.sprite_overflow || raises_overflow s)
+pub overflow-apart : (p : List ℕ) (s : Screen) → is_next 261 1 s ≡ false
+    → (dot_of p s).sprite_overflow ≡ (s.sprite_overflow || raises_overflow s)
 overflow-apart p s apart =
-    let same : SameOverflow (raised s) (flagged (raised s)) = overflow-flagged (raised s) (raised-next 261 1 s ∙ apart) in
+    let same : SameOverflow (raised s) (flagged (raised s)) =
+    overflow-flagged (raised s) (raised-next 261 1 s ∙ apart) in
     overflow-dot p s ∙ ap (λ b. b || raises_overflow s) (same.overflow ∙ overflow-raised s)
 
 -- the places of the two
@@ -200,7 +214,8 @@ flagged-falls : (s : Screen) → IsNext 261 1 s → (flagged s).sprite_overflow 
 unfolding flagged blank_ended is_next
 flagged-falls s at =
     let first : (s.position.line == 241 && s.position.dot == 1) ≡ false = grind (arith, nat_tests, at.line) in
-    ap (λ e. e.sprite_overflow) (if-false _ _ _ first ∙ if-true (is_next 261 1 s) (blank_ended s) s (is-next 261 1 s at))
+    ap (λ e. e.sprite_overflow) (if-false _ _ _ first
+    ∙ if-true (is_next 261 1 s) (blank_ended s) s (is-next 261 1 s at))
 
 next-raised : (s : Screen) → IsNext 261 1 s → IsNext 261 1 (raised s)
 unfolding raised
@@ -212,13 +227,15 @@ overflow-falls p s at =
     overflow-dot p s
     ∙ ap (λ b. b || raises_overflow s) (flagged-falls (raised s) (next-raised s at)) ∙ none
 
-pub overflow-risen : (p : List ℕ) (s : Screen) → s.sprite_overflow ≡ false → (dot_of p s).sprite_overflow ≡ true → IsOverflow s
+pub overflow-risen : (p : List ℕ) (s : Screen) → s.sprite_overflow ≡ false → (dot_of p s).sprite_overflow ≡ true
+    → IsOverflow s
 overflow-risen p s low high = elim (cases_Bool (is_next 261 1 s)) [
   | inl at ↦ absurd (true≢false (sym high ∙ overflow-falls p s (next-is 261 1 s at)))
   | inr apart ↦ raises-where s (ap (λ b. b || raises_overflow s) (sym low) ∙ sym (overflow-apart p s apart) ∙ high)
 ]
 
-pub overflow-fallen : (p : List ℕ) (s : Screen) → s.sprite_overflow ≡ true → (dot_of p s).sprite_overflow ≡ false → IsNext 261 1 s
+pub overflow-fallen : (p : List ℕ) (s : Screen) → s.sprite_overflow ≡ true → (dot_of p s).sprite_overflow ≡ false
+    → IsNext 261 1 s
 overflow-fallen p s high low = elim (cases_Bool (is_next 261 1 s)) [
   | inl at ↦ next-is 261 1 s at
   | inr apart ↦ absurd (true≢false (ap (λ b. b || raises_overflow s) (sym high) ∙ sym (overflow-apart p s apart) ∙ low))
@@ -241,7 +258,8 @@ pub overflow-read : (reg : ℕ) (p : List ℕ) (s : Screen) → SameOverflow s (
 unfolding after_read
 overflow-read reg p s =
     overflow-if _ s _ _ (overflow-after_status s)
-    (overflow-if _ s _ _ (overflow-after_oam_read s) (overflow-if _ s _ _ (overflow-after_data_read p s) (overflow-refl s)))
+    (overflow-if _ s _ _ (overflow-after_oam_read s)
+    (overflow-if _ s _ _ (overflow-after_data_read p s) (overflow-refl s)))
 
 overflow-put_control : (value : ℕ) (s : Screen) → SameOverflow s (put_control value s)
 unfolding put_control

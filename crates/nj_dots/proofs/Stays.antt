@@ -61,7 +61,8 @@ unfolding prefetched
 stays-prefetched p s = record { same = refl }
 
 -- a choice of two that differ in v
-scroll-v-if : (b : Bool) (c : Scroll) (v : ℕ) → (if b then record c { v = v } else c) ≡ record c { v = (if b then record c { v = v } else c).v }
+scroll-v-if : (b : Bool) (c : Scroll) (v : ℕ)
+    → (if b then record c { v = v } else c) ≡ record c { v = (if b then record c { v = v } else c).v }
 scroll-v-if true c v = refl
 scroll-v-if false c v = refl
 
@@ -69,7 +70,8 @@ scroll-v-if false c v = refl
 vertical_copied-is : (s : Screen) → vertical_copied s ≡ (let c = s.scroll in record c { v = (vertical_copied s).v })
 unfolding vertical_copied
 vertical_copied-is s =
-    scroll-v-if (s.position.line == 261 && nat_le 280 s.position.dot && nat_le s.position.dot 304) s.scroll (with_vertical s.scroll.t s.scroll.v)
+    scroll-v-if (s.position.line == 261 && nat_le 280 s.position.dot && nat_le s.position.dot 304) s.scroll
+    (with_vertical s.scroll.t s.scroll.v)
 
 pub stays-sprites_fetched : (s : Screen) → Stays s (sprites_fetched s)
 unfolding sprites_fetched

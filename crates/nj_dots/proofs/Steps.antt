@@ -37,10 +37,16 @@ across-steps zero q n y x hn hy hx hk = record {
 across-steps (suc k) q n y x hn hy hx hk =
     let before : Across k q n y x = across-steps k q n y x hn hy hx (omega (arith, hk)) in
     record {
-      inside = λ h. ap next_column (before.inside (omega (arith, h))) ∙ column-inside q n y (x + k) hn hy (omega (arith, h)) ∙ ap (across q n y) (omega arith);
+      inside = λ h. ap next_column (before.inside (omega (arith, h)))
+          ∙ column-inside q n y (x + k) hn hy (omega (arith, h)) ∙ ap (across q n y) (omega arith);
       out = λ h. (elim (cases_lt (x + k) 32) [
-        | inl last ↦ ap next_column (before.inside last) ∙ column-out q n y (x + k) hn hy (omega (arith, h, last)) ∙ ap (across q (1 - n) y) (omega (arith, h, last))
-        | inr past ↦ ap next_column (before.out past) ∙ column-inside q (1 - n) y (x + k - 32) (omega (arith, hn)) hy (omega (arith, hx, hk, past)) ∙ ap (across q (1 - n) y) (omega (arith, past))
+        | inl last ↦
+            ap next_column (before.inside last) ∙ column-out q n y (x + k) hn hy (omega (arith, h, last))
+            ∙ ap (across q (1 - n) y) (omega (arith, h, last))
+        | inr past ↦
+            ap next_column (before.out past)
+            ∙ column-inside q (1 - n) y (x + k - 32) (omega (arith, hn)) hy (omega (arith, hx, hk, past))
+            ∙ ap (across q (1 - n) y) (omega (arith, past))
       ]);
     }
 
@@ -61,19 +67,26 @@ down n m x r = r % 8 * 4096 + n * 2048 + m * 1024 + r / 8 * 32 + x
 row-fine : (n m x r : ℕ) → n < 2 → m < 2 → x < 32 → r < 240 → r % 8 < 7 → next_row (down n m x r) ≡ down n m x (suc r)
 unfolding next_row down
 row-fine n m x r hn hm hx hr fine =
-    let high : (r % 8 * 4096 + n * 2048 + m * 1024 + r / 8 * 32 + x) / 4096 % 8 ≡ r % 8 = omega (arith, hn, hm, hx, hr) in
-    let apart : (r % 8 * 4096 + n * 2048 + m * 1024 + r / 8 * 32 + x) / 4096 % 8 ≡ 7 → ⊥ = λ at. (absurd (omega (arith, at, high, fine))) in
+    let high : (r % 8 * 4096 + n * 2048 + m * 1024 + r / 8 * 32 + x) / 4096 % 8 ≡ r % 8 =
+    omega (arith, hn, hm, hx, hr) in
+    let apart : (r % 8 * 4096 + n * 2048 + m * 1024 + r / 8 * 32 + x) / 4096 % 8 ≡ 7 → ⊥ =
+    λ at. (absurd (omega (arith, at, high, fine))) in
     if-false _ _ _ (ne_eqb _ _ apart) ∙ omega (arith, fine)
 
 -- the step to the next tile
 row-coarse : (n m x r : ℕ) → n < 2 → m < 2 → x < 32 → r < 239 → r % 8 ≡ 7 → next_row (down n m x r) ≡ down n m x (suc r)
 unfolding next_row next_tile_row down
 row-coarse n m x r hn hm hx hr fine =
-    let high : (r % 8 * 4096 + n * 2048 + m * 1024 + r / 8 * 32 + x) / 4096 % 8 ≡ 7 = omega (arith, hn, hm, hx, hr, fine) in
-    let coarse : (r % 8 * 4096 + n * 2048 + m * 1024 + r / 8 * 32 + x) / 32 % 32 ≡ r / 8 = omega (arith, hn, hm, hx, hr, fine) in
-    let not_29 : (r % 8 * 4096 + n * 2048 + m * 1024 + r / 8 * 32 + x) / 32 % 32 ≡ 29 → ⊥ = λ at. (absurd (omega (arith, at, coarse, hr, fine))) in
-    let not_31 : (r % 8 * 4096 + n * 2048 + m * 1024 + r / 8 * 32 + x) / 32 % 32 ≡ 31 → ⊥ = λ at. (absurd (omega (arith, at, coarse, hr, fine))) in
-    if-true _ _ _ (eq-eqb _ _ high) ∙ if-false _ _ _ (ne_eqb _ _ not_29) ∙ if-false _ _ _ (ne_eqb _ _ not_31) ∙ omega (arith, hn, hm, hx, hr, fine)
+    let high : (r % 8 * 4096 + n * 2048 + m * 1024 + r / 8 * 32 + x) / 4096 % 8 ≡ 7 =
+    omega (arith, hn, hm, hx, hr, fine) in
+    let coarse : (r % 8 * 4096 + n * 2048 + m * 1024 + r / 8 * 32 + x) / 32 % 32 ≡ r / 8 =
+    omega (arith, hn, hm, hx, hr, fine) in
+    let not_29 : (r % 8 * 4096 + n * 2048 + m * 1024 + r / 8 * 32 + x) / 32 % 32 ≡ 29 → ⊥ =
+    λ at. (absurd (omega (arith, at, coarse, hr, fine))) in
+    let not_31 : (r % 8 * 4096 + n * 2048 + m * 1024 + r / 8 * 32 + x) / 32 % 32 ≡ 31 → ⊥ =
+    λ at. (absurd (omega (arith, at, coarse, hr, fine))) in
+    if-true _ _ _ (eq-eqb _ _ high) ∙ if-false _ _ _ (ne_eqb _ _ not_29) ∙ if-false _ _ _ (ne_eqb _ _ not_31)
+    ∙ omega (arith, hn, hm, hx, hr, fine)
 
 -- the step out of the nametable
 row-out : (n m x r : ℕ) → n < 2 → m < 2 → x < 32 → r ≡ 239 → next_row (down n m x r) ≡ down (1 - n) m x 0
@@ -104,10 +117,16 @@ down-steps zero n m x r hn hm hx hr hk = record {
 down-steps (suc k) n m x r hn hm hx hr hk =
     let before : Down k n m x r = down-steps k n m x r hn hm hx hr (omega (arith, hk)) in
     record {
-      inside = λ h. ap next_row (before.inside (omega (arith, h))) ∙ row-inside n m x (r + k) hn hm hx (omega (arith, h)) ∙ ap (down n m x) (omega arith);
+      inside = λ h. ap next_row (before.inside (omega (arith, h)))
+          ∙ row-inside n m x (r + k) hn hm hx (omega (arith, h)) ∙ ap (down n m x) (omega arith);
       out = λ h. (elim (cases_lt (r + k) 240) [
-        | inl last ↦ ap next_row (before.inside last) ∙ row-out n m x (r + k) hn hm hx (omega (arith, h, last)) ∙ ap (down (1 - n) m x) (omega (arith, h, last))
-        | inr past ↦ ap next_row (before.out past) ∙ row-inside (1 - n) m x (r + k - 240) (omega (arith, hn)) hm hx (omega (arith, hr, hk, past)) ∙ ap (down (1 - n) m x) (omega (arith, past))
+        | inl last ↦
+            ap next_row (before.inside last) ∙ row-out n m x (r + k) hn hm hx (omega (arith, h, last))
+            ∙ ap (down (1 - n) m x) (omega (arith, h, last))
+        | inr past ↦
+            ap next_row (before.out past)
+            ∙ row-inside (1 - n) m x (r + k - 240) (omega (arith, hn)) hm hx (omega (arith, hr, hk, past))
+            ∙ ap (down (1 - n) m x) (omega (arith, past))
       ]);
     }
 

@@ -14,19 +14,28 @@ unfolding register_bytes
 length-register_bytes s = refl
 
 -- writing the five parts one after another writes the picture
-pub put_is : (s : Screen) (image : List ℕ) → IsScreen s → 4448 ≤ length image → overwritten 4410 (replicate 38 0) (overwritten 4384 (register_bytes s) (overwritten 4352 s.vram.palette (overwritten 4096 s.oam (overwritten 2048 s.vram.cells image)))) ≡ with_picture s image
+pub put_is : (s : Screen) (image : List ℕ) → IsScreen s → 4448 ≤ length image
+    → overwritten 4410 (replicate 38 0)
+    (overwritten 4384 (register_bytes s)
+    (overwritten 4352 s.vram.palette (overwritten 4096 s.oam (overwritten 2048 s.vram.cells image))))
+    ≡ with_picture s image
 unfolding with_picture picture_bytes
 put_is s image fits long =
-    overwritten-five 2048 4096 4352 4384 4410 4448 s.vram.cells s.oam s.vram.palette (register_bytes s) (replicate 38 0) image
+    overwritten-five 2048 4096 4352 4384 4410 4448 s.vram.cells s.oam s.vram.palette (register_bytes s) (replicate 38 0)
+    image
     (omega (arith, fits.vram.cells)) (omega (arith, fits.oam)) (omega (arith, fits.vram.palette))
     (omega (arith, length-register_bytes s)) (omega (arith, length-replicate {A = ℕ} 38 0)) (omega arith)
 
 -- where a picture stands in an image, each part does
-pub stored_pieces : (s : Screen) (image : List ℕ) → IsScreen s → 4448 ≤ length image → picture_part image ≡ picture_bytes s → Pieces 2048 4096 4352 4384 2048 256 32 26 s.vram.cells s.oam s.vram.palette (register_bytes s) image
+pub stored_pieces : (s : Screen) (image : List ℕ) → IsScreen s → 4448 ≤ length image
+    → picture_part image ≡ picture_bytes s
+    → Pieces 2048 4096 4352 4384 2048 256 32 26 s.vram.cells s.oam s.vram.palette (register_bytes s) image
 unfolding picture_part picture_bytes
 stored_pieces s image fits long known =
-    take-pieces 2048 4096 4352 4384 2048 256 32 26 38 s.vram.cells s.oam s.vram.palette (register_bytes s) (replicate 38 0) image
-    fits.vram.cells fits.oam fits.vram.palette (length-register_bytes s) (omega arith) (omega arith) (omega arith) long known
+    take-pieces 2048 4096 4352 4384 2048 256 32 26 38 s.vram.cells s.oam s.vram.palette (register_bytes s)
+    (replicate 38 0) image
+    fits.vram.cells fits.oam fits.vram.palette (length-register_bytes s) (omega arith) (omega arith) (omega arith) long
+    known
 
 -- a word, a flag and a sprite row are read again as they were written
 word-back : (n : ℕ) → n % 256 + 256 * (n / 256) ≡ n
@@ -36,17 +45,23 @@ flag-back : (b : Bool) → not (flag_byte b == 0) ≡ b
 flag-back true = refl
 flag-back false = refl
 
-row-back : (row : Option SpriteRow) → (if not (row_flag row == 0) then Some (record { x = row_left row; bits = row_pixels row }) else None) ≡ row
+row-back : (row : Option SpriteRow)
+    → (if not (row_flag row == 0) then Some (record { x = row_left row; bits = row_pixels row }) else None) ≡ row
 row-back None = refl
 row-back (Some row) = refl
 
 -- the registers that were written are read again
-pub with_registers-back : (s e : Screen) → e.ended ≡ false → s.oam ≡ e.oam → s.vram ≡ e.vram → with_registers (register_bytes e) s ≡ e
+pub with_registers-back : (s e : Screen) → e.ended ≡ false → s.oam ≡ e.oam → s.vram ≡ e.vram
+    → with_registers (register_bytes e) s ≡ e
 unfolding with_registers register_bytes
 with_registers-back s e unmarked oam vram = simp (word-back, flag-back, row-back, oam, vram, sym unmarked)
 
 -- the whole picture that stands in an image is read again
-pub get_is : (s old : Screen) (cells oam palette registers image : List ℕ) → Holds image s → s.vram.vertical ≡ old.vram.vertical → 4448 ≤ length image → cells ≡ take 2048 (drop 2048 image) → oam ≡ take 256 (drop 4096 image) → palette ≡ take 32 (drop 4352 image) → registers ≡ take 26 (drop 4384 image) → with_registers registers (record old { oam = oam; vram = record { vertical = old.vram.vertical; cells = cells; palette = palette } }) ≡ s
+pub get_is : (s old : Screen) (cells oam palette registers image : List ℕ) → Holds image s
+    → s.vram.vertical ≡ old.vram.vertical → 4448 ≤ length image → cells ≡ take 2048 (drop 2048 image)
+    → oam ≡ take 256 (drop 4096 image) → palette ≡ take 32 (drop 4352 image) → registers ≡ take 26 (drop 4384 image)
+    → with_registers registers
+    (record old { oam = oam; vram = record { vertical = old.vram.vertical; cells = cells; palette = palette } }) ≡ s
 get_is s old cells oam palette registers image holds mirroring long is_cells is_oam is_palette is_registers =
     let pieces : Pieces 2048 4096 4352 4384 2048 256 32 26 s.vram.cells s.oam s.vram.palette (register_bytes s) image =
     stored_pieces s image holds.fits long holds.bytes in
@@ -61,11 +76,16 @@ get_is s old cells oam palette registers image holds mirroring long is_cells is_
     ∙ with_registers-back (record old { oam = oam; vram = m }) s holds.unmarked (is_oam ∙ pieces.second) same_vram
 
 -- the same, over what each step left
-pub put_chain : (s : Screen) (image i1 i2 i3 i4 i5 registers : List ℕ) → IsScreen s → 4448 ≤ length image → i1 ≡ overwritten 2048 s.vram.cells image → i2 ≡ overwritten 4096 s.oam i1 → i3 ≡ overwritten 4352 s.vram.palette i2 → registers ≡ register_bytes s → i4 ≡ overwritten 4384 registers i3 → i5 ≡ overwritten 4410 (replicate 38 0) i4 → i5 ≡ with_picture s image
+pub put_chain : (s : Screen) (image i1 i2 i3 i4 i5 registers : List ℕ) → IsScreen s → 4448 ≤ length image
+    → i1 ≡ overwritten 2048 s.vram.cells image → i2 ≡ overwritten 4096 s.oam i1
+    → i3 ≡ overwritten 4352 s.vram.palette i2 → registers ≡ register_bytes s → i4 ≡ overwritten 4384 registers i3
+    → i5 ≡ overwritten 4410 (replicate 38 0) i4 → i5 ≡ with_picture s image
 put_chain s image i1 i2 i3 i4 i5 registers fits long e1 e2 e3 er e4 e5 =
     let two : i2 ≡ overwritten 4096 s.oam (overwritten 2048 s.vram.cells image) = e2 ∙ ap (overwritten 4096 s.oam) e1 in
     let three : i3 ≡ overwritten 4352 s.vram.palette (overwritten 4096 s.oam (overwritten 2048 s.vram.cells image)) =
     e3 ∙ ap (overwritten 4352 s.vram.palette) two in
-    let four : i4 ≡ overwritten 4384 (register_bytes s) (overwritten 4352 s.vram.palette (overwritten 4096 s.oam (overwritten 2048 s.vram.cells image))) =
+    let four : i4
+    ≡ overwritten 4384 (register_bytes s)
+    (overwritten 4352 s.vram.palette (overwritten 4096 s.oam (overwritten 2048 s.vram.cells image))) =
     e4 ∙ ap (λ bytes. overwritten 4384 bytes i3) er ∙ ap (overwritten 4384 (register_bytes s)) three in
     e5 ∙ ap (overwritten 4410 (replicate 38 0)) four ∙ put_is s image fits long

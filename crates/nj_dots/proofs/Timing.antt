@@ -108,7 +108,8 @@ unfolding moved
 moves-moved s = moves-if _ s _ _ (moves-begun s) (moves-advanced s)
 
 -- with rendering off the line's work may empty the sprite row and nothing else
-timing-if : (b : Bool) (s x y : Screen) → ChangesTimingAlone s x → ChangesTimingAlone s y → ChangesTimingAlone s (if b then x else y)
+timing-if : (b : Bool) (s x y : Screen) → ChangesTimingAlone s x → ChangesTimingAlone s y
+    → ChangesTimingAlone s (if b then x else y)
 timing-if true s x y h k = h
 timing-if false s x y h k = k
 
@@ -126,14 +127,16 @@ timing-hidden : (s : Screen) → ChangesTimingAlone s (hidden s)
 unfolding hidden
 timing-hidden s = timing-if _ s _ _ (timing-emptied s) (timing-refl s)
 
-timing-choice : (b : Bool) (s x y : Screen) → b ≡ false → ChangesTimingAlone s y → ChangesTimingAlone s (if b then x else y)
+timing-choice : (b : Bool) (s x y : Screen) → b ≡ false → ChangesTimingAlone s y
+    → ChangesTimingAlone s (if b then x else y)
 timing-choice true s x y off h = absurd (true≢false off)
 timing-choice false s x y off h = h
 
 timing-drawn : (p : List ℕ) (s : Screen) → is_rendering s.mask ≡ false → ChangesTimingAlone s (drawn p s)
 unfolding drawn
 timing-drawn p s off =
-    timing-if _ s _ _ (timing-choice (is_rendering s.mask) s (shown p s) (hidden s) off (timing-hidden s)) (timing-refl s)
+    timing-if _ s _ _ (timing-choice (is_rendering s.mask) s (shown p s) (hidden s) off (timing-hidden s))
+    (timing-refl s)
 
 timing-flags : (s e : Screen) → Flags s e → ChangesTimingAlone s e
 timing-flags s e h = record { same = h.same ∙ ap (λ m. with_timing s m) (sym h.same) }

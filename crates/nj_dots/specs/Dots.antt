@@ -90,7 +90,8 @@ latched pattern s =
       scroll = (let c = s.scroll in record c { v = with_horizontal c.t c.v });
       oam_address = 0;
       sprite_overflow = s.sprite_overflow || overflows s.oam s.control s.position.line;
-      sprite_row = sprite_row_of (first_sprite s.oam) s.position.line (has_bit s.control 5) (has_bit s.control 3) pattern;
+      sprite_row =
+          sprite_row_of (first_sprite s.oam) s.position.line (has_bit s.control 5) (has_bit s.control 3) pattern;
     }
 
 -- the vertical bits are copied at dots 280 to 304 of the pre-render line

@@ -25,12 +25,16 @@ pub fn frames_have_their_dots()
 /// Of all dots and accesses only dot (241,1) raises the vertical blank flag, unless it is held, and only dot (261,1)
 /// and a read of $2002 lower it (NESdev Wiki, "PPU registers", $2002).
 pub fn vertical_blank_is_timed()
-    ensures risen { (p : List ℕ) (s : Screen) → s.vertical_blank ≡ false → (dot_of p s).vertical_blank ≡ true → IsNext 241 1 s }
-    ensures fallen { (p : List ℕ) (s : Screen) → s.vertical_blank ≡ true → (dot_of p s).vertical_blank ≡ false → IsNext 261 1 s }
+    ensures risen { (p : List ℕ) (s : Screen) → s.vertical_blank ≡ false → (dot_of p s).vertical_blank ≡ true
+        → IsNext 241 1 s }
+    ensures fallen { (p : List ℕ) (s : Screen) → s.vertical_blank ≡ true → (dot_of p s).vertical_blank ≡ false
+        → IsNext 261 1 s }
     ensures rises { (p : List ℕ) (s : Screen) → IsNext 241 1 s → s.hold ≡ false → (dot_of p s).vertical_blank ≡ true }
     ensures falls { (p : List ℕ) (s : Screen) → IsNext 261 1 s → (dot_of p s).vertical_blank ≡ false }
-    ensures read_raises_none { (reg : ℕ) (p : List ℕ) (s : Screen) → s.vertical_blank ≡ false → (after_read reg p s).vertical_blank ≡ false }
-    ensures read_lowers { (reg : ℕ) (p : List ℕ) (s : Screen) → s.vertical_blank ≡ true → (after_read reg p s).vertical_blank ≡ false
+    ensures read_raises_none { (reg : ℕ) (p : List ℕ) (s : Screen) → s.vertical_blank ≡ false
+        → (after_read reg p s).vertical_blank ≡ false }
+    ensures read_lowers { (reg : ℕ) (p : List ℕ) (s : Screen) → s.vertical_blank ≡ true
+        → (after_read reg p s).vertical_blank ≡ false
         → reg ≡ 2 }
     ensures read_of_status { (p : List ℕ) (s : Screen) → (after_read 2 p s).vertical_blank ≡ false }
     ensures write { (reg value : ℕ) (s : Screen) → (after_write reg value s).vertical_blank ≡ s.vertical_blank }
@@ -59,7 +63,8 @@ pub fn steps_come_round()
 pub fn scroll_registers_keep_their_bits()
     ensures dot { (p : List ℕ) (s : Screen) → IsScroll s.scroll → IsScroll (dot_of p s).scroll }
     ensures read { (reg : ℕ) (p : List ℕ) (s : Screen) → IsScroll s.scroll → IsScroll (after_read reg p s).scroll }
-    ensures write { (reg value : ℕ) (s : Screen) → value < 256 → IsScroll s.scroll → IsScroll (after_write reg value s).scroll }
+    ensures write { (reg value : ℕ) (s : Screen) → value < 256 → IsScroll s.scroll
+        → IsScroll (after_write reg value s).scroll }
 {}
 
 /// No dot and no access changes the mirroring.
@@ -72,16 +77,19 @@ pub fn mirroring_stays()
 /// The hit flag rises only by the dot after a hit pixel, which is never pixel 255 nor one of hidden left columns
 /// (NESdev Wiki, "PPU OAM", "Sprite zero hits").
 pub fn sprite_zero_hits_are_timed()
-    ensures risen { (p : List ℕ) (s : Screen) → s.sprite_zero_hit ≡ false → (dot_of p s).sprite_zero_hit ≡ true → s.near ≡ true }
+    ensures risen { (p : List ℕ) (s : Screen) → s.sprite_zero_hit ≡ false → (dot_of p s).sprite_zero_hit ≡ true
+        → s.near ≡ true }
     ensures near { (p : List ℕ) (s : Screen) → (dot_of p s).near ≡ true → IsHitPlace s }
 {}
 
 /// Of all dots and accesses only dot 257 of a visible line with rendering on raises the overflow flag, where at least
 /// nine sprites have the line as one of theirs, and only dot (261,1) lowers it.
 pub fn sprite_overflow_is_timed()
-    ensures risen { (p : List ℕ) (s : Screen) → s.sprite_overflow ≡ false → (dot_of p s).sprite_overflow ≡ true → IsOverflow s }
+    ensures risen { (p : List ℕ) (s : Screen) → s.sprite_overflow ≡ false → (dot_of p s).sprite_overflow ≡ true
+        → IsOverflow s }
     ensures rises { (p : List ℕ) (s : Screen) → IsOverflow s → (dot_of p s).sprite_overflow ≡ true }
-    ensures fallen { (p : List ℕ) (s : Screen) → s.sprite_overflow ≡ true → (dot_of p s).sprite_overflow ≡ false → IsNext 261 1 s }
+    ensures fallen { (p : List ℕ) (s : Screen) → s.sprite_overflow ≡ true → (dot_of p s).sprite_overflow ≡ false
+        → IsNext 261 1 s }
     ensures falls { (p : List ℕ) (s : Screen) → IsNext 261 1 s → (dot_of p s).sprite_overflow ≡ false }
     ensures read { (reg : ℕ) (p : List ℕ) (s : Screen) → (after_read reg p s).sprite_overflow ≡ s.sprite_overflow }
     ensures write { (reg value : ℕ) (s : Screen) → (after_write reg value s).sprite_overflow ≡ s.sprite_overflow }
@@ -90,7 +98,8 @@ pub fn sprite_overflow_is_timed()
 /// `to_event` counts the dots up to the next one at which the vertical blank flag changes.
 pub fn events_are_counted()
     ensures event { (p : List ℕ) (s : Screen) → IsScreen s → IsEvent (after_dots (to_event s - 1) p s) }
-    ensures no_earlier { (p : List ℕ) (s : Screen) (k : ℕ) → IsScreen s → k + 1 < to_event s → IsEvent (after_dots k p s) → ⊥ }
+    ensures no_earlier { (p : List ℕ) (s : Screen) (k : ℕ) → IsScreen s → k + 1 < to_event s
+        → IsEvent (after_dots k p s) → ⊥ }
     ensures some { (s : Screen) → IsScreen s → 0 < to_event s }
 {}
 
@@ -101,7 +110,8 @@ pub fn images_hold_pictures()
         → s.vram.vertical ≡ e.vram.vertical → picture_bytes s ≡ picture_bytes e → s ≡ e }
     ensures stored { (s : Screen) (image : List ℕ) → IsScreen s → s.ended ≡ false → 4448 ≤ length image
         → Holds (with_picture s image) s }
-    ensures before { (s : Screen) (image : List ℕ) → 4448 ≤ length image → take 2048 (with_picture s image) ≡ take 2048 image }
+    ensures before { (s : Screen) (image : List ℕ) → 4448 ≤ length image
+        → take 2048 (with_picture s image) ≡ take 2048 image }
     ensures behind { (s : Screen) (image : List ℕ) → IsScreen s → 4448 ≤ length image
         → drop 4448 (with_picture s image) ≡ drop 4448 image }
     ensures size { (s : Screen) (image : List ℕ) → IsScreen s → 4448 ≤ length image

@@ -6,7 +6,7 @@ use crate::position::Position;
 /// the next; registers are numbered 0 to 7, for $2000 to $2007. A read of $2002 may leave dots pending: after it the
 /// caller hands in the same pattern until another register was accessed or the picture was settled.
 pub trait Picture {
-    ghost use Rattle.std.specs.Prelude.{◌≡◌, ◌≤◌, ◌<◌, ℕ, List, false, length};
+    ghost use Rattle.std.specs.Prelude.{◌≡◌, ◌≤◌, ◌<◌, ℕ, List, true, false, length};
     ghost use Rattle.nj_dots.specs.declared.screen.Screen.{Screen};
     ghost use Rattle.nj_dots.specs.Screen.{IsScreen, nmi_line_of, power_on};
     ghost use Rattle.nj_dots.specs.Dots.{after_dots, to_event};
@@ -28,6 +28,12 @@ pub trait Picture {
         requires { length pattern.now ≡ 8192 }
         ensures { meaning self.new pattern.now ≡ after_dots dots pattern.now (meaning self.old pattern.now) };
 
+    /// Leaves the next dots pending, if no one has to know yet what they do: a run that needs no pattern memory. Tells
+    /// whether they are due instead: then nothing has changed, and they are still to be run.
+    fn defer(&mut self, dots: u32) -> bool
+        ensures pending { (p : List ℕ) → result ≡ false → meaning self.new p ≡ after_dots dots p (meaning self.old p) }
+        ensures due { (p : List ℕ) → result ≡ true → meaning self.new p ≡ meaning self.old p };
+
     /// Reads a register.
     fn read(&mut self, reg: u8, pattern: &[u8]) -> u8
         requires reg { reg < 8 }
@@ -46,6 +52,10 @@ pub trait Picture {
     /// The level of the NMI line.
     fn nmi_line(&self) -> bool
         ensures { (p : List ℕ) → result ≡ nmi_line_of (meaning self.now p) };
+
+    /// Whether dot (241,1) was run since its mark was last taken.
+    fn has_ended(&self) -> bool
+        ensures { (p : List ℕ) → result ≡ (meaning self.now p).ended };
 
     /// Tells whether dot (241,1) was run since the last such call.
     fn take_end(&mut self) -> bool
@@ -77,7 +87,8 @@ pub trait Picture {
         requires long { 4448 ≤ length image.now }
         requires stored { (p : List ℕ) × IsStored (meaning self.old p).vram.vertical image.now }
         ensures pending { settled self.new }
-        ensures state { (p : List ℕ) (s : Screen) → Holds image.now s → s.vram.vertical ≡ (meaning self.old p).vram.vertical
+        ensures state { (p : List ℕ) (s : Screen) → Holds image.now s
+            → s.vram.vertical ≡ (meaning self.old p).vram.vertical
             → meaning self.new p ≡ s };
 
     // Position and registers stay in their ranges, the memories keep their sizes.

@@ -205,7 +205,8 @@ impl Screen {
     #[tactic(auto, unfolding(crate::specs::Registers::put_data))]
     fn write_data(&mut self, value: u8) -> Option<(u16, u8)>
         ensures after { self.new ≡ put_data value self.old }
-        ensures left { result ≡ (if nat_lt (data_address self.old) 0x2000 then Some (data_address self.old, value) else None) }
+        ensures left { result
+            ≡ (if nat_lt (data_address self.old) 0x2000 then Some (data_address self.old, value) else None) }
     {
         let at = self.data_address();
         self.latch = value;

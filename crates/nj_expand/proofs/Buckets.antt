@@ -1,5 +1,5 @@
 -- Buckets: those of rows are the same where those of their words are.
-use Rattle.std.proofs.Common.{◌≡◌, ℕ, zero, suc, ℤ, pos, ◌+◌, ◌-◌, ◌≤◌, Bool, true, false, ◌&&◌, List, [], ◌∷◌, ◌++◌, length, map, replicate, get_or, refl, sym, ap, ◌∙◌, arith}
+use Rattle.std.proofs.Common.{◌≡◌, ℕ, zero, suc, ℤ, pos, ◌-◌, ◌≤◌, true, ◌&&◌, List, [], ◌∷◌, ◌++◌, length, replicate, get_or, refl, sym, ap, ◌∙◌, arith}
 use Rattle.std.specs.Ordering.{int_eq}
 use Rattle.std.proofs.lemmas.List.{length-map}
 use Rattle.nj_search_defs.specs.Game.{Word, Game}
@@ -17,7 +17,8 @@ same_zeros zero = refl
 same_zeros (suc n) = same_zeros n
 
 -- and behind as many values they change nothing
-same_behind : (a b : List ℤ) (n : ℕ) → length a ≡ length b → same_values (a ++ replicate n (pos 0)) (b ++ replicate n (pos 0)) ≡ same_values a b
+same_behind : (a b : List ℤ) (n : ℕ) → length a ≡ length b
+    → same_values (a ++ replicate n (pos 0)) (b ++ replicate n (pos 0)) ≡ same_values a b
 same_behind [] [] n long = same_zeros n
 same_behind [] (y ∷ ys) n long = absurd (omega (arith, long))
 same_behind (x ∷ xs) [] n long = absurd (omega (arith, long))
@@ -44,7 +45,8 @@ even_buckets plan v w =
 -- ---- the four places
 
 four : (values : List ℤ) → length values ≤ 4
-    → (get_or values 0 (pos 0) ∷ get_or values 1 (pos 0) ∷ get_or values 2 (pos 0) ∷ get_or values 3 (pos 0) ∷ []) ≡ row_bucket values
+    → (get_or values 0 (pos 0) ∷ get_or values 1 (pos 0) ∷ get_or values 2 (pos 0) ∷ get_or values 3 (pos 0) ∷ [])
+    ≡ row_bucket values
 unfolding row_bucket
 four [] few = refl
 four (a ∷ []) few = refl
@@ -59,5 +61,6 @@ pub bucket_is : (script : Record) (s : State) (a b c d : ℤ) → length script.
     → c ≡ get_or (values_at script s) 2 (pos 0) → d ≡ get_or (values_at script s) 3 (pos 0)
     → (a ∷ b ∷ c ∷ d ∷ []) ≡ row_bucket (values_at script s)
 bucket_is script s a b c d few first second third fourth =
-    let count : length (values_at script s) ≡ length script.bucket = length-map script.bucket (λ property. value_of property (ram_of s)) in
+    let count : length (values_at script s) ≡ length script.bucket =
+    length-map script.bucket (λ property. value_of property (ram_of s)) in
     (λ i. first i ∷ second i ∷ third i ∷ fourth i ∷ []) ∙ four (values_at script s) (omega (arith, count, few))

@@ -15,13 +15,21 @@ length-extensions number word [] = refl
 length-extensions number word (pad ∷ pads) = ap suc (length-extensions (number + 1) word pads)
 
 -- words after each of which at most so many pads may follow
-candidate_count : (game : Game) (n i : ℕ) (words : List Word) → ((word : Word) → length (game.allowed word) ≤ n) → length (candidates_from game i words) ≤ length words * n
+candidate_count : (game : Game) (n i : ℕ) (words : List Word) → ((word : Word) → length (game.allowed word) ≤ n)
+    → length (candidates_from game i words) ≤ length words * n
 candidate_count game n i [] few = omega (arith, zero-mul n)
 candidate_count game n i (word ∷ words) few =
     let here : length (game.allowed word) ≤ n = few word in
     let rest = candidate_count game n (i + 1) words few in
     let all : suc (length words) * n ≡ length words * n + n = suc-mul (length words) n in
-    omega (arith, length-append (extensions (256 * i) word (game.allowed word)) (candidates_from game (i + 1) words), length-extensions (256 * i) word (game.allowed word), here, rest, all)
+    omega (
+      arith,
+      length-append (extensions (256 * i) word (game.allowed word)) (candidates_from game (i + 1) words),
+      length-extensions (256 * i) word (game.allowed word),
+      here,
+      rest,
+      all,
+    )
 
 -- the law that no more pads are allowed than named
 abbrev pub AreNamed : Type 0
@@ -32,13 +40,21 @@ pub candidates_few : AreNamed → (held : Held) → held.bounds.inputs ≡ lengt
 unfolding candidates_in candidates
 candidates_few law held inputs =
     candidate_count (game_of held.plan) held.bounds.inputs 0 held.state.front
-    (λ word. omega (arith, ap length (told_allowed held.plan word), law held.plan.script.inputs.sets (ram_of (state_of held.plan word)), inputs))
+    (λ word. omega (
+      arith,
+      ap length (told_allowed held.plan word),
+      law held.plan.script.inputs.sets (ram_of (state_of held.plan word)),
+      inputs,
+    ))
 
-pub step_few : AreNamed → (held : Held) → held.bounds.inputs ≡ length (named_pads held.plan.script.inputs.sets) → length held.state.front ≤ held.bounds.most
+pub step_few : AreNamed → (held : Held) → held.bounds.inputs ≡ length (named_pads held.plan.script.inputs.sets)
+    → length held.state.front ≤ held.bounds.most
     → length (candidates_in held) + length (kept_in held) ≤ held.bounds.most * (held.bounds.inputs + 1)
 step_few law held inputs within =
     let many = candidates_few law held inputs in
-    let most : length held.state.front * held.bounds.inputs ≤ held.bounds.most * held.bounds.inputs = mul-le-mul_right held.bounds.inputs within in
+    let most : length held.state.front * held.bounds.inputs ≤ held.bounds.most * held.bounds.inputs =
+    mul-le-mul_right held.bounds.inputs within in
     let kept = kept_few held in
-    let all : held.bounds.most * (held.bounds.inputs + 1) ≡ held.bounds.most * held.bounds.inputs + held.bounds.most * 1 = mul-add held.bounds.most held.bounds.inputs 1 in
+    let all : held.bounds.most * (held.bounds.inputs + 1) ≡ held.bounds.most * held.bounds.inputs
+    + held.bounds.most * 1 = mul-add held.bounds.most held.bounds.inputs 1 in
     omega (arith, many, most, kept, all, mul-one held.bounds.most)

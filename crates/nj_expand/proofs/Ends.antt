@@ -1,5 +1,5 @@
 -- The end of a step: what is decided of the rows is what the search decides of its candidates.
-use Rattle.std.proofs.Common.{◌≡◌, ℕ, ◌+◌, ◌*◌, ◌<◌, ◌≤◌, List, [], ◌∷◌, ◌++◌, length, map, drop, refl, ap, sym, subst, ◌∙◌, arith, true, false, ◌==◌, eq-eqb}
+use Rattle.std.proofs.Common.{◌≡◌, ℕ, ◌+◌, ◌*◌, ◌<◌, ◌≤◌, List, [], ◌∷◌, length, map, refl, ap, sym, subst, ◌∙◌, arith, true, false, ◌==◌, eq-eqb}
 use Rattle.std.specs.Prelude.{Option, Some, None, option_map, filter, slice_get}
 use Rattle.std.proofs.lemmas.Bool.{eqb-true, both_ways}
 use Rattle.std.proofs.lemmas.List.{length-map}
@@ -27,17 +27,21 @@ use Rattle.nj_expand.proofs.Lifts.{Prefers, winner-map, fresh-map, kept-map, gen
 pub live_rows_rise : (held : Held) → AreFew held → IsRising (live_rows held)
 unfolding live_rows
 live_rows_rise held few =
-    rows_rise (game_of held.plan) (lives_of (game_of held.plan) held.state) (lives_rise (game_of held.plan) held.state few)
+    rows_rise (game_of held.plan) (lives_of (game_of held.plan) held.state)
+    (lives_rise (game_of held.plan) held.state few)
 
 fresh_rise : (held : Held) → AreFew held → AreRising (fresh_of (game_of held.plan) held.bounds held.state)
 unfolding fresh_of fresh
-fresh_rise held few = filter_rises _ (lives_of (game_of held.plan) held.state) (lives_rise (game_of held.plan) held.state few)
+fresh_rise held few =
+    filter_rises _ (lives_of (game_of held.plan) held.state) (lives_rise (game_of held.plan) held.state few)
 
 -- the winner among the rows is the winner's row
-pub winner_in : (held : Held) → AreFew held → Prefers → winner_row (live_rows held) ≡ option_map (row_of (game_of held.plan)) (winner (game_of held.plan) (lives_of (game_of held.plan) held.state))
+pub winner_in : (held : Held) → AreFew held → Prefers → winner_row (live_rows held)
+    ≡ option_map (row_of (game_of held.plan)) (winner (game_of held.plan) (lives_of (game_of held.plan) held.state))
 unfolding live_rows
 winner_in held few law =
-    winner-map (game_of held.plan) law (lives_of (game_of held.plan) held.state) (lives_rise (game_of held.plan) held.state few)
+    winner-map (game_of held.plan) law (lives_of (game_of held.plan) held.state)
+    (lives_rise (game_of held.plan) held.state few)
 
 -- the fresh rows are the rows of the fresh
 fresh_in : (held : Held) → fresh_rows (seen_of held.bounds held.state) (live_rows held)
@@ -47,62 +51,76 @@ fresh_in held =
     fresh-map (game_of held.plan) (seen_of held.bounds held.state) (lives_of (game_of held.plan) held.state)
 
 -- the kept rows are the rows of the kept
-pub kept_rows_in : (held : Held) → AreFew held → Prefers → kept_rows held.bounds.most held.bounds.quota (fresh_rows (seen_of held.bounds held.state) (live_rows held))
+pub kept_rows_in : (held : Held) → AreFew held → Prefers
+    → kept_rows held.bounds.most held.bounds.quota (fresh_rows (seen_of held.bounds held.state) (live_rows held))
     ≡ map (row_of (game_of held.plan)) (kept_in held)
 unfolding kept_in kept_of
 kept_rows_in held few law =
     ap (kept_rows held.bounds.most held.bounds.quota) (fresh_in held)
-    ∙ kept-map (game_of held.plan) law (even_buckets held.plan) held.bounds.most held.bounds.quota (fresh_of (game_of held.plan) held.bounds held.state) (fresh_rise held few)
+    ∙ kept-map (game_of held.plan) law (even_buckets held.plan) held.bounds.most held.bounds.quota
+    (fresh_of (game_of held.plan) held.bounds held.state) (fresh_rise held few)
 
 -- the rows' new generation is the candidates'
 pub generation_in : (held : Held) → generation_rows (fresh_rows (seen_of held.bounds held.state) (live_rows held))
     ≡ generation (game_of held.plan) (fresh_of (game_of held.plan) held.bounds held.state)
 generation_in held =
-    ap generation_rows (fresh_in held) ∙ generation-map (game_of held.plan) (fresh_of (game_of held.plan) held.bounds held.state)
+    ap generation_rows (fresh_in held)
+    ∙ generation-map (game_of held.plan) (fresh_of (game_of held.plan) held.bounds held.state)
 
 -- ---- the three ends
 
-won_by : (held : Held) (row : Row) (rest : Next) (w : Option Candidate) → option_map (row_of (game_of held.plan)) w ≡ Some row → IsStepBy (won_or w rest) held (Won row) held
+won_by : (held : Held) (row : Row) (rest : Next) (w : Option Candidate)
+    → option_map (row_of (game_of held.plan)) w ≡ Some row → IsStepBy (won_or w rest) held (Won row) held
 won_by held row rest (Some c) e = (cc, refl)
 won_by held row rest None e = absurd (cc)
 
-pub won_step : (held : Held) (row : Row) → AreFew held → Prefers → winner_row (live_rows held) ≡ Some row → IsStep held (Won row) held
+pub won_step : (held : Held) (row : Row) → AreFew held → Prefers → winner_row (live_rows held) ≡ Some row
+    → IsStep held (Won row) held
 unfolding IsStep next_in next
 won_step held row few law e =
     let game = game_of held.plan in
-    won_by held row (exhausted_or (kept_of game held.bounds held.state) (state_after game held.bounds held.state)) (winner game (lives_of game held.state))
+    won_by held row (exhausted_or (kept_of game held.bounds held.state) (state_after game held.bounds held.state))
+    (winner game (lives_of game held.state))
     (sym (winner_in held few law) ∙ e)
 
-exhausted_by : (held : Held) (goes : List Candidate → State) (w : Option Candidate) (ks : List Candidate) → option_map (row_of (game_of held.plan)) w ≡ None
+exhausted_by : (held : Held) (goes : List Candidate → State) (w : Option Candidate) (ks : List Candidate)
+    → option_map (row_of (game_of held.plan)) w ≡ None
     → map (row_of (game_of held.plan)) ks ≡ [] → IsStepBy (won_or w (exhausted_or ks goes)) held Exhausted held
 exhausted_by held goes (Some c) ks e f = absurd (cc)
 exhausted_by held goes None [] e f = refl
 exhausted_by held goes None (k ∷ ks) e f = absurd (cc)
 
 pub exhausted_step : (held : Held) → AreFew held → Prefers → winner_row (live_rows held) ≡ None
-    → kept_rows held.bounds.most held.bounds.quota (fresh_rows (seen_of held.bounds held.state) (live_rows held)) ≡ [] → IsStep held Exhausted held
+    → kept_rows held.bounds.most held.bounds.quota (fresh_rows (seen_of held.bounds held.state) (live_rows held)) ≡ []
+    → IsStep held Exhausted held
 unfolding IsStep next_in next kept_in
 exhausted_step held few law e f =
     let game = game_of held.plan in
-    exhausted_by held (state_after game held.bounds held.state) (winner game (lives_of game held.state)) (kept_of game held.bounds held.state)
+    exhausted_by held (state_after game held.bounds held.state) (winner game (lives_of game held.state))
+    (kept_of game held.bounds held.state)
     (sym (winner_in held few law) ∙ e) (sym (kept_rows_in held few law) ∙ f)
 
-goes_by : (held new : Held) (goes : List Candidate → State) (w : Option Candidate) (ks : List Candidate) → option_map (row_of (game_of held.plan)) w ≡ None
+goes_by : (held new : Held) (goes : List Candidate → State) (w : Option Candidate) (ks : List Candidate)
+    → option_map (row_of (game_of held.plan)) w ≡ None
     → 0 < length ks → new ≡ record held { state = goes ks } → IsStepBy (won_or w (exhausted_or ks goes)) held Go new
 goes_by held new goes (Some c) ks e some is = absurd (cc)
 goes_by held new goes None [] e some is = absurd (omega (arith, some))
 goes_by held new goes None (k ∷ ks) e some is = is
 
-pub goes_step : (held new : Held) → AreFew held → Prefers → winner_row (live_rows held) ≡ None → 0 < length (kept_in held)
-    → new ≡ record held { state = state_after (game_of held.plan) held.bounds held.state (kept_in held) } → IsStep held Go new
+pub goes_step : (held new : Held) → AreFew held → Prefers → winner_row (live_rows held) ≡ None
+    → 0 < length (kept_in held)
+    → new ≡ record held { state = state_after (game_of held.plan) held.bounds held.state (kept_in held) }
+    → IsStep held Go new
 unfolding IsStep next_in next kept_in
 goes_step held new few law e some is =
     let game = game_of held.plan in
-    goes_by held new (state_after game held.bounds held.state) (winner game (lives_of game held.state)) (kept_of game held.bounds held.state)
+    goes_by held new (state_after game held.bounds held.state) (winner game (lives_of game held.state))
+    (kept_of game held.bounds held.state)
     (sym (winner_in held few law) ∙ e) some is
 
 -- the rows that are kept are as many as the candidates
-pub kept_count : (held : Held) (rows : List Row) → rows ≡ map (row_of (game_of held.plan)) (kept_in held) → length rows ≡ length (kept_in held)
+pub kept_count : (held : Held) (rows : List Row) → rows ≡ map (row_of (game_of held.plan)) (kept_in held)
+    → length rows ≡ length (kept_in held)
 kept_count held rows e = ap length e ∙ length-map (kept_in held) (row_of (game_of held.plan))
 
 -- ---- what is kept
@@ -111,11 +129,13 @@ kept_count held rows e = ap length e ∙ length-map (kept_in held) (row_of (game
 pub kept_few : (h : Held) → length (kept_in h) ≤ h.bounds.most
 unfolding kept_in kept_of kept
 kept_few h =
-    limited_few (is_alike (game_of h.plan)) h.bounds.most h.bounds.quota (in_order (is_before (game_of h.plan)) (fresh_of (game_of h.plan) h.bounds h.state))
+    limited_few (is_alike (game_of h.plan)) h.bounds.most h.bounds.quota
+    (in_order (is_before (game_of h.plan)) (fresh_of (game_of h.plan) h.bounds h.state))
 
 -- the kept of a search are candidates of its front, no more than its bound
 pub are_kept : (h : Held) (rows : List Row) → AreFew h → Prefers
-    → rows ≡ kept_rows h.bounds.most h.bounds.quota (fresh_rows (seen_of h.bounds h.state) (live_rows h)) → AreKept h.plan h.bounds.most h.state.front (kept_in h) rows
+    → rows ≡ kept_rows h.bounds.most h.bounds.quota (fresh_rows (seen_of h.bounds h.state) (live_rows h))
+    → AreKept h.plan h.bounds.most h.state.front (kept_in h) rows
 unfolding kept_in
 are_kept h rows few law is = record {
   placed = kept_are_placed (game_of h.plan) h.bounds h.state few;
@@ -126,7 +146,8 @@ are_kept h rows few law is = record {
 -- ---- what is found of the rows
 
 -- the winner among rows that tell it
-pub winner_found : (h : Held) (rows : List Row) (found : Option Row) → winner_row rows ≡ winner_row (live_rows h) → found ≡ slice_get (in_order is_row_before (filter is_win_row rows)) 0
+pub winner_found : (h : Held) (rows : List Row) (found : Option Row) → winner_row rows ≡ winner_row (live_rows h)
+    → found ≡ slice_get (in_order is_row_before (filter is_win_row rows)) 0
     → winner_row (live_rows h) ≡ found
 unfolding winner_row
 winner_found h rows found same is = sym same ∙ sym is
@@ -134,7 +155,8 @@ winner_found h rows found same is = sym same ∙ sym is
 -- the rows that are kept of those that are fresh in some order
 pub kept_found : (h : Held) (most quota : ℕ) (fresh kept : List Row) → most ≡ h.bounds.most → quota ≡ h.bounds.quota
     → in_order is_row_before fresh ≡ in_order is_row_before (fresh_rows_in h)
-    → kept ≡ limited is_alike_row most quota (in_order is_row_before fresh) → kept ≡ kept_rows h.bounds.most h.bounds.quota (fresh_rows_in h)
+    → kept ≡ limited is_alike_row most quota (in_order is_row_before fresh)
+    → kept ≡ kept_rows h.bounds.most h.bounds.quota (fresh_rows_in h)
 unfolding kept_rows
 kept_found h most quota fresh kept same bound order is = is ∙ (λ i. limited is_alike_row (same i) (bound i) (order i))
 
@@ -150,8 +172,10 @@ some_found [] n is e = absurd (both_ways (n == 0) e (eq-eqb n 0 is))
 some_found (row ∷ rows) n is e = omega arith
 
 -- the frames that were run again, as a bound of the search
-pub frames_held : (h now : Held) (kept rows : List Row) (steps old : ℕ) → h ≡ now → AreFew now → Prefers → IsKeptOf now kept → rows ≡ kept
+pub frames_held : (h now : Held) (kept rows : List Row) (steps old : ℕ) → h ≡ now → AreFew now → Prefers
+    → IsKeptOf now kept → rows ≡ kept
     → steps ≤ old + h.plan.script.hold * length rows → steps ≤ old + now.plan.script.hold * length (kept_in now)
 frames_held h now kept rows steps old same few law is are ran =
     let count : length rows ≡ length (kept_in now) = kept_count now rows (are ∙ is.kept ∙ kept_rows_in now few law) in
-    subst (λ n. steps ≤ old + now.plan.script.hold * n) count (subst (λ (x : Held). steps ≤ old + x.plan.script.hold * length rows) same ran)
+    subst (λ n. steps ≤ old + now.plan.script.hold * n) count
+    (subst (λ (x : Held). steps ≤ old + x.plan.script.hold * length rows) same ran)

@@ -29,10 +29,21 @@ use Rattle.nj_expand.proofs.Lifts.{map-map, top-map}
 -- the front's words, states and judgements, as the run of the kept reads them
 abbrev pub before_of : Plan → List Word → Before
 before_of plan words =
-    record { rom = rom_in plan; script = plan.script; images = map (image_at plan) words; statuses = map (status_of plan) words }
+    record {
+      rom = rom_in plan;
+      script = plan.script;
+      images = map (image_at plan) words;
+      statuses = map (status_of plan) words;
+    }
 
-pub before_is : (plan : Plan) (machine : State) (most : ℕ) (pool : Front) (judged shown : List Judged) → machine ≡ power_on plan.cartridge → IsFront plan most pool judged → shown ≡ judged
-    → (let b : Before = record { rom = rom_of machine; script = plan.script; images = pool.images; statuses = statuses_of shown } in b) ≡ before_of plan pool.words
+pub before_is : (plan : Plan) (machine : State) (most : ℕ) (pool : Front) (judged shown : List Judged)
+    → machine ≡ power_on plan.cartridge → IsFront plan most pool judged → shown ≡ judged
+    → (let b : Before = record {
+      rom = rom_of machine;
+      script = plan.script;
+      images = pool.images;
+      statuses = statuses_of shown;
+    } in b) ≡ before_of plan pool.words
 unfolding rom_in judged_of
 before_is plan machine most pool judged shown on front same =
     let statuses : statuses_of shown ≡ map (status_of plan) pool.words =
@@ -44,39 +55,47 @@ before_is plan machine most pool judged shown on front same =
 -- the laws of words of a plan that the run of the kept stands on
 pub record AreLawful (plan : Plan) : Type 0 where
   pub again : (word : Word) → of_image (rom_in plan) (image_at plan word) ≡ state_of plan word
-  pub state : (word : Word) (pad : ℕ) → state_of plan (word ++ pad ∷ []) ≡ held plan.script.hold pad (state_of plan word)
+  pub state : (word : Word) (pad : ℕ)
+      → state_of plan (word ++ pad ∷ []) ≡ held plan.script.hold pad (state_of plan word)
   pub judged : (word : Word) (pad : ℕ) → judged_of plan (word ++ pad ∷ [])
-      ≡ judged_in plan.script.rules.rules (ram_of (state_of plan (word ++ pad ∷ []))) (status_of plan word) (is_jammed (state_of plan (word ++ pad ∷ [])))
+      ≡ judged_in plan.script.rules.rules (ram_of (state_of plan (word ++ pad ∷ []))) (status_of plan word)
+      (is_jammed (state_of plan (word ++ pad ∷ [])))
 
 pub laws_of : (plan : Plan) → IsCartridge plan.cartridge
     → ((p : Plan) (word : Word) (pad : ℕ) → state_of p (word ++ pad ∷ []) ≡ held p.script.hold pad (state_of p word))
     → ((p : Plan) (word : Word) (pad : ℕ) → judged_of p (word ++ pad ∷ [])
-    ≡ judged_in p.script.rules.rules (ram_of (state_of p (word ++ pad ∷ []))) (status_of p word) (is_jammed (state_of p (word ++ pad ∷ []))))
+    ≡ judged_in p.script.rules.rules (ram_of (state_of p (word ++ pad ∷ []))) (status_of p word)
+    (is_jammed (state_of p (word ++ pad ∷ []))))
     → ((p : Plan) (word : Word) → IsCartridge p.cartridge → of_image (rom_in p) (image_at p word) ≡ state_of p word)
     → AreLawful plan
 laws_of plan nrom state judged again =
     record { again = (λ word. again plan word nrom); state = state plan; judged = judged plan }
 
 module _ (plan : Plan) (laws : AreLawful plan) (words : List Word) where
-  state_here : (c : Candidate) → IsPlaced words c → state_again (before_of plan words) (row_of (game_of plan) c) ≡ state_of plan (word_of c)
+  state_here : (c : Candidate) → IsPlaced words c
+      → state_again (before_of plan words) (row_of (game_of plan) c) ≡ state_of plan (word_of c)
   unfolding state_again row_of
   state_here c placed =
       let st = stands words (c.number / 256) c.parent placed in
-      ap (λ x. held plan.script.hold c.pad (of_image (rom_in plan) x)) (get_or-map (image_at plan) words (c.number / 256) [] [] st.within ∙ ap (image_at plan) st.here)
+      ap (λ x. held plan.script.hold c.pad (of_image (rom_in plan) x))
+      (get_or-map (image_at plan) words (c.number / 256) [] [] st.within ∙ ap (image_at plan) st.here)
       ∙ ap (held plan.script.hold c.pad) (laws.again c.parent)
       ∙ sym (laws.state c.parent c.pad)
 
-  image_here : (c : Candidate) → IsPlaced words c → image_again (before_of plan words) (row_of (game_of plan) c) ≡ image_at plan (word_of c)
+  image_here : (c : Candidate) → IsPlaced words c
+      → image_again (before_of plan words) (row_of (game_of plan) c) ≡ image_at plan (word_of c)
   unfolding image_again image_at
   image_here c placed = ap image_of (state_here c placed)
 
-  status_here : (c : Candidate) → IsPlaced words c → get_or (map (status_of plan) words) (parent_of (row_of (game_of plan) c)) 0 ≡ status_of plan c.parent
+  status_here : (c : Candidate) → IsPlaced words c
+      → get_or (map (status_of plan) words) (parent_of (row_of (game_of plan) c)) 0 ≡ status_of plan c.parent
   unfolding row_of
   status_here c placed =
       let st = stands words (c.number / 256) c.parent placed in
       get_or-map (status_of plan) words (c.number / 256) [] 0 st.within ∙ ap (status_of plan) st.here
 
-  judged_here : (c : Candidate) → IsPlaced words c → judged_again (before_of plan words) (row_of (game_of plan) c) ≡ judged_of plan (word_of c)
+  judged_here : (c : Candidate) → IsPlaced words c
+      → judged_again (before_of plan words) (row_of (game_of plan) c) ≡ judged_of plan (word_of c)
   unfolding judged_again judged_at
   judged_here c placed =
       ap₂ (judged_at plan.script) (status_here c placed) (state_here c placed) ∙ sym (laws.judged c.parent c.pad)
@@ -87,7 +106,8 @@ module _ (plan : Plan) (laws : AreLawful plan) (words : List Word) where
       let st = stands words (c.number / 256) c.parent placed in
       ap (λ w. w ++ c.pad ∷ []) st.here
 
-map_agree : {X Y : Type 0} (f g : X → Y) (P : X → Type 0) → ((x : X) → P x → f x ≡ g x) → (xs : List X) → All P xs → map f xs ≡ map g xs
+map_agree : {X Y : Type 0} (f g : X → Y) (P : X → Type 0) → ((x : X) → P x → f x ≡ g x) → (xs : List X) → All P xs
+    → map f xs ≡ map g xs
 map_agree f g P same [] all = refl
 map_agree f g P same (x ∷ xs) all =
     ap₂ (λ y ys. y ∷ ys) (same x (All-head P x xs all)) (map_agree f g P same xs (All-tail P x xs all))
@@ -100,53 +120,72 @@ pub record AreKept (plan : Plan) (most : ℕ) (words : List Word) (ks : List Can
   pub rows_are : rows ≡ map (row_of (game_of plan)) ks
   pub few : length ks ≤ most
 
-module _ (plan : Plan) (laws : AreLawful plan) (words : List Word) (ks : List Candidate) (placed : All (IsPlaced words) ks) where
-  images_next : map (image_again (before_of plan words)) (map (row_of (game_of plan)) ks) ≡ map (image_at plan) (map word_of ks)
+module _ (plan : Plan) (laws : AreLawful plan) (words : List Word) (ks : List Candidate)
+    (placed : All (IsPlaced words) ks) where
+  images_next : map (image_again (before_of plan words)) (map (row_of (game_of plan)) ks)
+      ≡ map (image_at plan) (map word_of ks)
   images_next =
       map-map (image_again (before_of plan words)) (row_of (game_of plan)) ks
-      ∙ map_agree (λ c. image_again (before_of plan words) (row_of (game_of plan) c)) (λ c. image_at plan (word_of c)) (IsPlaced words) (image_here plan laws words) ks placed
+      ∙ map_agree (λ c. image_again (before_of plan words) (row_of (game_of plan) c)) (λ c. image_at plan (word_of c))
+      (IsPlaced words) (image_here plan laws words) ks placed
       ∙ sym (map-map (image_at plan) word_of ks)
 
-  judged_next : map (judged_again (before_of plan words)) (map (row_of (game_of plan)) ks) ≡ map (judged_of plan) (map word_of ks)
+  judged_next : map (judged_again (before_of plan words)) (map (row_of (game_of plan)) ks)
+      ≡ map (judged_of plan) (map word_of ks)
   judged_next =
       map-map (judged_again (before_of plan words)) (row_of (game_of plan)) ks
-      ∙ map_agree (λ c. judged_again (before_of plan words) (row_of (game_of plan) c)) (λ c. judged_of plan (word_of c)) (IsPlaced words) (judged_here plan laws words) ks placed
+      ∙ map_agree (λ c. judged_again (before_of plan words) (row_of (game_of plan) c)) (λ c. judged_of plan (word_of c))
+      (IsPlaced words) (judged_here plan laws words) ks placed
       ∙ sym (map-map (judged_of plan) word_of ks)
 
   words_next : child_words words (map birth_of (map (row_of (game_of plan)) ks)) ≡ map word_of ks
   words_next =
       ap (map (child_word words)) (map-map birth_of (row_of (game_of plan)) ks)
       ∙ map-map (child_word words) (λ c. birth_of (row_of (game_of plan) c)) ks
-      ∙ map_agree (λ c. child_word words (birth_of (row_of (game_of plan) c))) word_of (IsPlaced words) (word_here plan laws words) ks placed
+      ∙ map_agree (λ c. child_word words (birth_of (row_of (game_of plan) c))) word_of (IsPlaced words)
+      (word_here plan laws words) ks placed
 
 -- the pool of the next front
 abbrev pool_next : Plan → List ℕ → ℕ → ℕ → List Word → Front
 pool_next plan base limit depth words =
     record { base = base; limit = limit; images = map (image_at plan) words; words = words; depth = depth; born = [] }
 
-module _ (plan : Plan) (laws : AreLawful plan) (most : ℕ) (pool : Front) (judged : List Judged) (ks : List Candidate) (rows : List Row)
+module _ (plan : Plan) (laws : AreLawful plan) (most : ℕ) (pool : Front) (judged : List Judged)
+    (ks : List Candidate) (rows : List Row)
     (front : IsFront plan most pool judged) (kept : AreKept plan most pool.words ks rows) where
-  pub new_pool : (before : Before) (limit : ℕ) (other new : Front) → before ≡ before_of plan pool.words → other ≡ pool_again before pool.base limit rows → new ≡ next_front pool other
+  pub new_pool : (before : Before) (limit : ℕ) (other new : Front) → before ≡ before_of plan pool.words
+      → other ≡ pool_again before pool.base limit rows → new ≡ next_front pool other
       → new ≡ pool_next plan pool.base limit (pool.depth + 1) (map word_of ks)
   unfolding pool_again
   new_pool before limit other new was is next =
       next
       ∙ ap (next_front pool) (is ∙ ap₂ (λ b rs. pool_again b pool.base limit rs) was kept.rows_are)
-      ∙ (λ i. record { base = pool.base; limit = limit; images = images_next plan laws pool.words ks kept.placed i; words = words_next plan laws pool.words ks kept.placed i; depth = pool.depth + 1; born = [] })
+      ∙ (λ i. record {
+        base = pool.base;
+        limit = limit;
+        images = images_next plan laws pool.words ks kept.placed i;
+        words = words_next plan laws pool.words ks kept.placed i;
+        depth = pool.depth + 1;
+        born = [];
+      })
 
-  pub new_words : (before : Before) (limit : ℕ) (other new : Front) → before ≡ before_of plan pool.words → other ≡ pool_again before pool.base limit rows → new ≡ next_front pool other
+  pub new_words : (before : Before) (limit : ℕ) (other new : Front) → before ≡ before_of plan pool.words
+      → other ≡ pool_again before pool.base limit rows → new ≡ next_front pool other
       → new.words ≡ map word_of ks
   new_words before limit other new was is next = ap (λ p. p.words) (new_pool before limit other new was is next)
 
-  pub new_front : (before : Before) (len : ℕ) (other new : Front) (told : List Judged) → before ≡ before_of plan pool.words → len ≡ size_in plan → 0 < length ks
-      → other ≡ pool_again before pool.base (most * (len + 16)) rows → new ≡ next_front pool other → told ≡ map (judged_again before) rows → IsFront plan most new told
+  pub new_front : (before : Before) (len : ℕ) (other new : Front) (told : List Judged)
+      → before ≡ before_of plan pool.words → len ≡ size_in plan → 0 < length ks
+      → other ≡ pool_again before pool.base (most * (len + 16)) rows → new ≡ next_front pool other
+      → told ≡ map (judged_again before) rows → IsFront plan most new told
   new_front before len other new told was long some is next are =
       subst (λ p. IsFront plan most p told) (sym (new_pool before (most * (len + 16)) other new was is next))
       (record {
         nrom = front.nrom;
         images = refl;
         judged_are =
-            are ∙ ap₂ (λ b rs. map (judged_again b) rs) was kept.rows_are ∙ judged_next plan laws pool.words ks kept.placed;
+            are ∙ ap₂ (λ b rs. map (judged_again b) rs) was kept.rows_are
+            ∙ judged_next plan laws pool.words ks kept.placed;
         some = omega (arith, length-map ks word_of, some);
         few = omega (arith, length-map ks word_of, kept.few);
         base = front.base;
@@ -165,49 +204,67 @@ module _ (plan : Plan) (laws : AreLawful plan) (most : ℕ) (pool : Front) (judg
   rows_within =
       subst (All (λ row. parent_of row < length pool.words)) (sym kept.rows_are)
       (All-map (λ row. parent_of row < length pool.words) (row_of (game_of plan)) ks
-      (All-weaker (IsPlaced pool.words) (λ c. parent_of (row_of (game_of plan) c) < length pool.words) placed_within ks kept.placed))
+      (All-weaker (IsPlaced pool.words) (λ c. parent_of (row_of (game_of plan) c) < length pool.words)
+      placed_within ks kept.placed))
 
   pub parents_within : All (λ row. parent_of row < length pool.images) rows
   parents_within = subst (λ n. All (λ row. parent_of row < n) rows) (sym image_count) rows_within
 
-  born_within : (before : Before) (limit : ℕ) → HaveParents pool.words (let p : Front = pool_again before pool.base limit rows in p.born)
+  born_within : (before : Before) (limit : ℕ)
+      → HaveParents pool.words (let p : Front = pool_again before pool.base limit rows in p.born)
   unfolding pool_again
   born_within before limit = All-map (λ birth. birth.parent < length pool.words) birth_of rows rows_within
 
-  pub have_parents : (before : Before) (limit : ℕ) (other : Front) → other ≡ pool_again before pool.base limit rows → HaveParents pool.words other.born
-  have_parents before limit other is = subst (λ (p : Front). HaveParents pool.words p.born) (sym is) (born_within before limit)
+  pub have_parents : (before : Before) (limit : ℕ) (other : Front) → other ≡ pool_again before pool.base limit rows
+      → HaveParents pool.words other.born
+  have_parents before limit other is =
+      subst (λ (p : Front). HaveParents pool.words p.born) (sym is) (born_within before limit)
 
   pub room_for : (len : ℕ) → len ≡ size_in plan → length rows * (length pool.base + 16) ≤ most * (len + 16)
   room_for len long =
       let count : length rows ≡ length ks = ap length kept.rows_are ∙ length-map ks (row_of (game_of plan)) in
       let same : length pool.base ≡ len = front.size ∙ sym long in
-      subst (λ n. length rows * (n + 16) ≤ most * (len + 16)) (sym same) (mul-le-mul_right (len + 16) (omega (arith, count, kept.few)))
+      subst (λ n. length rows * (n + 16) ≤ most * (len + 16)) (sym same)
+      (mul-le-mul_right (len + 16) (omega (arith, count, kept.few)))
 
 -- ---- the machine
 
-pub machine_size : (plan : Plan) (machine : State) → machine ≡ power_on plan.cartridge → size_in plan ≡ image_len (rom_of machine)
+pub machine_size : (plan : Plan) (machine : State) → machine ≡ power_on plan.cartridge
+    → size_in plan ≡ image_len (rom_of machine)
 unfolding size_in rom_in
 machine_size plan machine on = ap (λ m. image_len (rom_of m)) (sym on)
 
-pub all_images : (plan : Plan) (machine : State) (most : ℕ) (pool : Front) (judged : List Judged) → machine ≡ power_on plan.cartridge → IsFront plan most pool judged
+pub all_images : (plan : Plan) (machine : State) (most : ℕ) (pool : Front) (judged : List Judged)
+    → machine ≡ power_on plan.cartridge → IsFront plan most pool judged
     → ((word : Word) → IsImage (rom_in plan) (image_at plan word)) → All (IsImage (rom_of machine)) pool.images
 unfolding rom_in
 all_images plan machine most pool judged on front law =
     subst (λ m. All (IsImage (rom_of m)) pool.images) (sym on)
     (subst (All (IsImage (rom_of (power_on plan.cartridge)))) (sym front.images)
-    (All-map (IsImage (rom_of (power_on plan.cartridge))) (image_at plan) pool.words (λ k d lt. law (get_or pool.words k d))))
+    (All-map (IsImage (rom_of (power_on plan.cartridge))) (image_at plan) pool.words
+    (λ k d lt. law (get_or pool.words k d))))
 
 -- ---- the state
 
 -- the mark is raised by the greatest level of the rows
-pub mark_next : (game : Game) (ks : List Candidate) (rows : List Row) (mark : Mark) (step tolerance top level until : ℕ) → rows ≡ map (row_of game) ks → top ≡ top_of_rows rows
-    → level ≡ cond (nat_lt mark.level top) top mark.level → until ≡ cond (nat_lt mark.level top) (step + tolerance) mark.until
+pub mark_next : (game : Game) (ks : List Candidate) (rows : List Row) (mark : Mark) (step tolerance top level until : ℕ)
+    → rows ≡ map (row_of game) ks → top ≡ top_of_rows rows
+    → level ≡ cond (nat_lt mark.level top) top mark.level
+    → until ≡ cond (nat_lt mark.level top) (step + tolerance) mark.until
     → (let m : Mark = record { level = level; until = until } in m) ≡ raised game step tolerance ks mark
 unfolding raised
 mark_next game ks rows mark step tolerance top level until are is levels untils =
     let same : top ≡ top_level game ks = is ∙ ap top_of_rows are ∙ top-map game ks in
-    let made : (t : ℕ) (b : Bool) → (let m : Mark = record { level = cond b t mark.level; until = cond b (step + tolerance) mark.until } in m) ≡ cond b (record { level = t; until = step + tolerance }) mark =
-    λ t b. elim b as (λ b. (let m : Mark = record { level = cond b t mark.level; until = cond b (step + tolerance) mark.until } in m) ≡ cond b (record { level = t; until = step + tolerance }) mark) [
+    let made : (t : ℕ) (b : Bool) → (let m : Mark = record {
+      level = cond b t mark.level;
+      until = cond b (step + tolerance) mark.until;
+    } in m)
+    ≡ cond b (record { level = t; until = step + tolerance }) mark =
+    λ t b. elim b as (λ b. (let m : Mark = record {
+      level = cond b t mark.level;
+      until = cond b (step + tolerance) mark.until;
+    } in m)
+    ≡ cond b (record { level = t; until = step + tolerance }) mark) [
       | true ↦ refl
       | false ↦ refl
     ] in
@@ -217,7 +274,8 @@ mark_next game ks rows mark step tolerance top level until are is levels untils 
 
 -- the state after the step
 pub state_next : (h : Held) (new : Between) → new.step ≡ h.state.step + 1 → new.front ≡ map word_of (kept_in h)
-    → new.seen ≡ seen_of h.bounds h.state ++ generation (game_of h.plan) (fresh_of (game_of h.plan) h.bounds h.state) ∷ []
+    → new.seen ≡ seen_of h.bounds h.state
+    ++ generation (game_of h.plan) (fresh_of (game_of h.plan) h.bounds h.state) ∷ []
     → new.mark ≡ raised (game_of h.plan) (h.state.step + 1) h.bounds.tolerance (kept_in h) h.state.mark
     → new ≡ state_after (game_of h.plan) h.bounds h.state (kept_in h)
 unfolding state_after seen_of

@@ -1,17 +1,17 @@
 -- The words of a saved front, run again from the start's state.
-use Rattle.std.proofs.Common.{◌≡◌, ℕ, suc, ◌+◌, ◌*◌, ◌/◌, ◌<◌, ◌≤◌, List, [], ◌∷◌, ◌++◌, length, map, take, drop, get_or, ap, ap₂, sym, subst, ◌∙◌, arith, refl, mul-suc, suc-mul, mul-le-mul_right, mul-add}
-use Rattle.std.specs.List.{fold, concat, range_with_len}
+use Rattle.std.proofs.Common.{◌≡◌, ℕ, suc, ◌+◌, ◌*◌, ◌<◌, ◌≤◌, List, [], ◌∷◌, ◌++◌, length, map, take, get_or, ap, ap₂, sym, subst, ◌∙◌, arith, mul-suc, suc-mul, mul-le-mul_right, mul-add}
+use Rattle.std.specs.List.{fold, concat}
 use Rattle.std.proofs.lemmas.List.{map_more, take_more, take_all, append-nil, append_assoc}
 use Rattle.std.proofs.lemmas.List.Sums.{fold_more}
 use Rattle.std.proofs.lemmas.List.Folds.{concat-append}
 use Rattle.std.proofs.lemmas.List.FromFn.{length-map-range_with_len, get_or-map-range_with_len}
 use Rattle.nj_search_defs.specs.Game.{Word}
 use Rattle.nj_machine.specs.State.{State, Rom, rom_of}
-use Rattle.nj_machine.specs.Image.{image_of, image_len, of_image}
+use Rattle.nj_machine.specs.Image.{image_of, of_image}
 use Rattle.nj_rules.specs.declared.record.Judged.{Judged}
 use Rattle.nj_script.specs.Script.{Record}
 use Rattle.nj_game.specs.Plan.{Plan}
-use Rattle.nj_game.specs.Words.{state_of, status_of, judged_of, held}
+use Rattle.nj_game.specs.Words.{state_of, judged_of, held}
 use Rattle.nj_pool.specs.Front.{Front, with_word, empty_front, bytes_held}
 use Rattle.nj_saved.specs.declared.saved.Saved.{Saved}
 use Rattle.nj_saved.specs.Ranges.{words_of}
@@ -29,7 +29,8 @@ use Rattle.nj_expand.proofs.Nexts.{AreLawful}
 -- ---- the pads of one word
 
 -- one pad more
-pub reached_more : (script : Record) (from : Reached) (word : Word) (i d hold : ℕ) (s moved : State) (was told : Judged) → i < length word → hold ≡ script.hold
+pub reached_more : (script : Record) (from : Reached) (word : Word) (i d hold : ℕ) (s moved : State) (was told : Judged)
+    → i < length word → hold ≡ script.hold
     → (let r : Reached = record { state = s; judged = was } in r) ≡ replayed script from (take i word)
     → moved ≡ held hold (get_or word i d) s → told ≡ judged_at script was.status.0 moved
     → (let r : Reached = record { state = moved; judged = told } in r) ≡ replayed script from (take (i + 1) word)
@@ -48,8 +49,10 @@ module _ (plan : Plan) (laws : AreLawful plan) where
   one_pad : (word : Word) (pad : ℕ) → stepped plan.script (reached plan word) pad ≡ reached plan (word ++ pad ∷ [])
   unfolding stepped judged_at
   one_pad word pad =
-      let state : held plan.script.hold pad (state_of plan word) ≡ state_of plan (word ++ pad ∷ []) = sym (laws.state word pad) in
-      let judged : judged_at plan.script (let j : Judged = judged_of plan word in j.status.0) (held plan.script.hold pad (state_of plan word)) ≡ judged_of plan (word ++ pad ∷ []) =
+      let state : held plan.script.hold pad (state_of plan word) ≡ state_of plan (word ++ pad ∷ []) =
+      sym (laws.state word pad) in
+      let judged : judged_at plan.script (let j : Judged = judged_of plan word in j.status.0)
+      (held plan.script.hold pad (state_of plan word)) ≡ judged_of plan (word ++ pad ∷ []) =
       ap₂ (judged_at plan.script) (told_status plan word) state ∙ sym (laws.judged word pad) in
       λ i. record { state = state i; judged = judged i }
 
@@ -64,39 +67,58 @@ module _ (plan : Plan) (laws : AreLawful plan) where
   pub replayed_is : (word : Word) → replayed plan.script (reached plan []) word ≡ reached plan word
   replayed_is word = all_pads [] word
 
-  images_are : (words : List Word) → map (image_replayed plan.script (reached plan [])) words ≡ map (image_at plan) words
+  images_are : (words : List Word)
+      → map (image_replayed plan.script (reached plan [])) words ≡ map (image_at plan) words
   unfolding image_replayed image_at
   images_are words = λ i. map (λ word. image_of (let r : Reached = replayed_is word i in r.state)) words
 
-  judged_are : (words : List Word) → map (judged_replayed plan.script (reached plan [])) words ≡ map (judged_of plan) words
+  judged_are : (words : List Word)
+      → map (judged_replayed plan.script (reached plan [])) words ≡ map (judged_of plan) words
   unfolding judged_replayed
   judged_are words = λ i. map (λ word. (let r : Reached = replayed_is word i in r.judged)) words
 
   -- so the pool of a front that is run again has the words' states
-  pub pool_is : (from : Reached) (base : List ℕ) (limit room : ℕ) (words : List Word) (pool : Front) → from ≡ reached plan [] → base ≡ image_at plan [] → limit ≡ room
+  pub pool_is : (from : Reached) (base : List ℕ) (limit room : ℕ) (words : List Word) (pool : Front)
+      → from ≡ reached plan [] → base ≡ image_at plan [] → limit ≡ room
       → pool ≡ pool_replayed plan.script from base limit words → pool ≡ pool_at plan room words
   unfolding pool_replayed pool_at
   pool_is from base limit room words pool start same room_is is =
       is
       ∙ (λ i. pool_replayed plan.script (start i) (same i) (room_is i) words)
-      ∙ (λ i. record { base = image_at plan []; limit = room; images = images_are words i; words = words; depth = 0; born = [] })
+      ∙ (λ i. record {
+        base = image_at plan [];
+        limit = room;
+        images = images_are words i;
+        words = words;
+        depth = 0;
+        born = [];
+      })
 
   -- and its judgements are theirs
   pub judged_is : (from : Reached) (words : List Word) (judged : List Judged) → from ≡ reached plan []
       → judged ≡ map (judged_replayed plan.script from) words → judged ≡ map (judged_of plan) words
-  judged_is from words judged start is = is ∙ ap (λ r. map (judged_replayed plan.script r) words) start ∙ judged_are words
+  judged_is from words judged start is =
+      is ∙ ap (λ r. map (judged_replayed plan.script r) words) start ∙ judged_are words
 
   -- all in one
-  pub run_again_is : (from : Reached) (base : List ℕ) (limit room : ℕ) (words : List Word) (again : Again) → from ≡ reached plan [] → base ≡ image_at plan [] → limit ≡ room
+  pub run_again_is : (from : Reached) (base : List ℕ) (limit room : ℕ) (words : List Word) (again : Again)
+      → from ≡ reached plan [] → base ≡ image_at plan [] → limit ≡ room
       → AreReplayed plan.script from base limit words again → AreRunAgain plan room words again
   run_again_is from base limit room words again start same room_is are =
-      record { pool = pool_is from base limit room words again.pool start same room_is are.pool; judged = judged_is from words again.judged.items start are.judged }
+      record {
+        pool = pool_is from base limit room words again.pool start same room_is are.pool;
+        judged = judged_is from words again.judged.items start are.judged;
+      }
 
   -- the state and judgement of the start
   pub start_reached : (begun : Begun) → IsBegun plan begun
-      → (let r : Reached = record { state = of_image (rom_of begun.machine) begun.image.items; judged = begun.judged } in r) ≡ reached plan []
+      → (let r : Reached = record {
+        state = of_image (rom_of begun.machine) begun.image.items;
+        judged = begun.judged;
+      } in r) ≡ reached plan []
   start_reached begun is =
-      let state : of_image (rom_of begun.machine) begun.image.items ≡ state_of plan [] = ap₂ of_image is.cartridge is.image ∙ laws.again [] in
+      let state : of_image (rom_of begun.machine) begun.image.items ≡ state_of plan [] =
+      ap₂ of_image is.cartridge is.image ∙ laws.again [] in
       λ i. record { state = state i; judged = is.judged i }
 
 -- ---- the words of a saved front
@@ -105,9 +127,11 @@ pub front_count : (saved : Saved) → length (front_in saved) ≡ words_of saved
 unfolding front_in
 front_count saved = length-map-range_with_len (word_at saved.words saved.step) 0 (words_of saved)
 
-pub front_at : (saved : Saved) (place : ℕ) → place < words_of saved → get_or (front_in saved) place [] ≡ word_at saved.words saved.step place
+pub front_at : (saved : Saved) (place : ℕ) → place < words_of saved
+    → get_or (front_in saved) place [] ≡ word_at saved.words saved.step place
 unfolding front_in
-front_at saved place lt = get_or-map-range_with_len (word_at saved.words saved.step) 0 (words_of saved) place place [] lt (omega arith)
+front_at saved place lt =
+    get_or-map-range_with_len (word_at saved.words saved.step) 0 (words_of saved) place place [] lt (omega arith)
 
 -- the word at a place ends within the pads
 pub word_within : (place count step long : ℕ) → place < count → count * step ≡ long → place * step + step ≤ long
@@ -127,7 +151,8 @@ pub record Task : Type 0 where
   pub steps : ℕ
 
 -- the words before a place are run again
-pub record AreRunTo (task : Task) (place : ℕ) (pool : Front) (judged : List Judged) (room : ℕ) (machine : State) (steps : ℕ) : Type 0 where
+pub record AreRunTo (task : Task) (place : ℕ) (pool : Front) (judged : List Judged) (room : ℕ) (machine : State)
+    (steps : ℕ) : Type 0 where
   pub held : pool ≡ pool_replayed task.script task.from task.base task.limit (take place (front_in task.saved))
   pub told : judged ≡ map (judged_replayed task.script task.from) (take place (front_in task.saved))
   pub bytes : bytes_held pool ≤ place * (length task.base + 16)
@@ -137,7 +162,8 @@ pub record AreRunTo (task : Task) (place : ℕ) (pool : Front) (judged : List Ju
   pub never_falls : task.steps ≤ steps
 
 -- before the first word
-pub first_pool : (script : Record) (from : Reached) (base given : List ℕ) (limit : ℕ) (pool : Front) → given ≡ base → pool ≡ empty_front given limit
+pub first_pool : (script : Record) (from : Reached) (base given : List ℕ) (limit : ℕ) (pool : Front) → given ≡ base
+    → pool ≡ empty_front given limit
     → pool ≡ pool_replayed script from base limit []
 unfolding pool_replayed
 first_pool script from base given limit pool same is = is ∙ ap (λ b. empty_front b limit) same
@@ -155,34 +181,43 @@ has_parts script from base limit words pool is =
     record { over = ap (λ p. p.base) is; most = ap (λ p. p.limit) is; first = ap (λ p. p.depth) is }
 
 -- all words are run again
-pub all_words : (task : Task) (place : ℕ) (again : Again) (room : ℕ) (machine : State) (steps : ℕ) → words_of task.saved ≤ place
-    → AreRunTo task place again.pool again.judged.items room machine steps → AreReplayed task.script task.from task.base task.limit (front_in task.saved) again
+pub all_words : (task : Task) (place : ℕ) (again : Again) (room : ℕ) (machine : State) (steps : ℕ)
+    → words_of task.saved ≤ place
+    → AreRunTo task place again.pool again.judged.items room machine steps
+    → AreReplayed task.script task.from task.base task.limit (front_in task.saved) again
 all_words task place again room machine steps le run =
-    let all : take place (front_in task.saved) ≡ front_in task.saved = take_all place (front_in task.saved) (omega (arith, le, front_count task.saved)) in
+    let all : take place (front_in task.saved) ≡ front_in task.saved =
+    take_all place (front_in task.saved) (omega (arith, le, front_count task.saved)) in
     record {
       pool = run.held ∙ ap (pool_replayed task.script task.from task.base task.limit) all;
       judged = run.told ∙ ap (map (judged_replayed task.script task.from)) all;
     }
 
 -- one state more in the pool
-pool_push : (script : Record) (from : Reached) (base : List ℕ) (limit i : ℕ) (words : List Word) (word image : List ℕ) (old new : Front) → i < length words
+pool_push : (script : Record) (from : Reached) (base : List ℕ) (limit i : ℕ) (words : List Word) (word image : List ℕ)
+    (old new : Front) → i < length words
     → word ≡ get_or words i [] → image ≡ image_replayed script from word
     → old ≡ pool_replayed script from base limit (take i words) → new ≡ with_word image word old
     → new ≡ pool_replayed script from base limit (take (i + 1) words)
 unfolding pool_replayed
 pool_push script from base limit i words word image old new lt here shown was pushed =
-    let images : map (image_replayed script from) (take i words) ++ image ∷ [] ≡ map (image_replayed script from) (take (i + 1) words) =
-    ap (λ x. map (image_replayed script from) (take i words) ++ x ∷ []) (shown ∙ ap (image_replayed script from) here) ∙ sym (map_more (image_replayed script from) words i [] lt) in
-    let all : take i words ++ word ∷ [] ≡ take (i + 1) words = ap (λ w. take i words ++ w ∷ []) here ∙ sym (take_more words i [] lt) in
+    let images : map (image_replayed script from) (take i words) ++ image ∷ []
+    ≡ map (image_replayed script from) (take (i + 1) words) =
+    ap (λ x. map (image_replayed script from) (take i words) ++ x ∷ []) (shown ∙ ap (image_replayed script from) here)
+    ∙ sym (map_more (image_replayed script from) words i [] lt) in
+    let all : take i words ++ word ∷ [] ≡ take (i + 1) words =
+    ap (λ w. take i words ++ w ∷ []) here ∙ sym (take_more words i [] lt) in
     pushed ∙ ap (with_word image word) was
     ∙ (λ j. record { base = base; limit = limit; images = images j; words = all j; depth = 0; born = [] })
 
-judged_push : (f : Word → Judged) (words : List Word) (i : ℕ) (word : Word) (told : Judged) (old new : List Judged) → i < length words → word ≡ get_or words i []
+judged_push : (f : Word → Judged) (words : List Word) (i : ℕ) (word : Word) (told : Judged) (old new : List Judged)
+    → i < length words → word ≡ get_or words i []
     → told ≡ f word → old ≡ map f (take i words) → new ≡ old ++ told ∷ [] → new ≡ map f (take (i + 1) words)
 judged_push f words i word told old new lt here is was pushed =
     pushed ∙ ap₂ (λ xs x. xs ++ x ∷ []) was (is ∙ ap f here) ∙ sym (map_more f words i [] lt)
 
-frames_push : (hold long i since steps after : ℕ) → steps ≤ since + hold * (long * i) → after ≤ steps + hold * long → after ≤ since + hold * (long * (i + 1))
+frames_push : (hold long i since steps after : ℕ) → steps ≤ since + hold * (long * i) → after ≤ steps + hold * long
+    → after ≤ since + hold * (long * (i + 1))
 frames_push hold long i since steps after before one =
     let next : long * suc i ≡ long * i + long = mul-suc long i in
     let both : hold * (long * i + long) ≡ hold * (long * i) + hold * long = mul-add hold (long * i) long in
@@ -190,25 +225,35 @@ frames_push hold long i since steps after before one =
     rw (e, next) (omega (arith, before, one, both))
 
 -- one word more
-pub one_word : (task : Task) (place : ℕ) (pool pushed : Front) (judged more : List Judged) (room long : ℕ) (machine moved : State) (steps after : ℕ) (word image : List ℕ) (told : Judged)
+pub one_word : (task : Task) (place : ℕ) (pool pushed : Front) (judged more : List Judged) (room long : ℕ)
+    (machine moved : State) (steps after : ℕ) (word image : List ℕ) (told : Judged)
     → place < words_of task.saved → AreRunTo task place pool judged room machine steps
     → word ≡ word_at task.saved.words task.saved.step place → length word ≡ task.saved.step
-    → (let r : Reached = record { state = moved; judged = told } in r) ≡ replayed task.script task.from word → image ≡ image_of moved → length image ≡ length task.base
-    → pushed ≡ with_word image word pool → bytes_held pushed ≤ bytes_held pool + (length image + 16) → more ≡ judged ++ told ∷ []
-    → long ≡ length image → rom_of moved ≡ rom_of machine → after ≤ steps + task.script.hold * length word → steps ≤ after
+    → (let r : Reached = record { state = moved; judged = told } in r) ≡ replayed task.script task.from word
+    → image ≡ image_of moved → length image ≡ length task.base
+    → pushed ≡ with_word image word pool → bytes_held pushed ≤ bytes_held pool + (length image + 16)
+    → more ≡ judged ++ told ∷ []
+    → long ≡ length image → rom_of moved ≡ rom_of machine → after ≤ steps + task.script.hold * length word
+    → steps ≤ after
     → AreRunTo task (place + 1) pushed more long moved after
 unfolding image_replayed judged_replayed
-one_word task place pool pushed judged more room long machine moved steps after word image told lt run is len reaches shown size pushes bytes adds same keeps takes later =
+one_word task place pool pushed judged more room long machine moved steps after word image told lt run is len reaches
+    shown size pushes bytes adds same keeps takes later =
     let within : place < length (front_in task.saved) = omega (arith, lt, front_count task.saved) in
     let here : word ≡ get_or (front_in task.saved) place [] = is ∙ sym (front_at task.saved place lt) in
-    let one : after ≤ steps + task.script.hold * task.saved.step = subst (λ n. after ≤ steps + task.script.hold * n) len takes in record {
+    let one : after ≤ steps + task.script.hold * task.saved.step =
+    subst (λ n. after ≤ steps + task.script.hold * n) len takes in
+    record {
       held =
-          pool_push task.script task.from task.base task.limit place (front_in task.saved) word image pool pushed within here
+          pool_push task.script task.from task.base task.limit place (front_in task.saved) word
+          image pool pushed within here
           (shown ∙ ap (λ (r : Reached). image_of r.state) reaches) run.held pushes;
       told =
-          judged_push (judged_replayed task.script task.from) (front_in task.saved) place word told judged more within here
+          judged_push (judged_replayed task.script task.from) (front_in task.saved) place word
+          told judged more within here
           (ap (λ (r : Reached). r.judged) reaches) run.told adds;
-      bytes = bytes_more place (length task.base) (length image) (bytes_held pool) (bytes_held pushed) bytes run.bytes size;
+      bytes = bytes_more place (length task.base) (length image) (bytes_held pool)
+          (bytes_held pushed) bytes run.bytes size;
       long = same ∙ size;
       cartridge = keeps ∙ run.cartridge;
       frames = frames_push task.script.hold task.saved.step place task.steps steps after run.frames one;
@@ -218,7 +263,8 @@ one_word task place pool pushed judged more room long machine moved steps after 
 -- ---- the words of a front, one behind the other
 
 -- one word more
-pub concat_more : (words : List Word) (i : ℕ) (word done all : List ℕ) → i < length words → word ≡ get_or words i [] → done ≡ concat (take i words)
+pub concat_more : (words : List Word) (i : ℕ) (word done all : List ℕ) → i < length words → word ≡ get_or words i []
+    → done ≡ concat (take i words)
     → all ≡ done ++ word → all ≡ concat (take (i + 1) words)
 concat_more words i word done all lt here was more =
     more

@@ -17,12 +17,15 @@ use Rattle.nj_expand.specs.Rows.{judged_at, key_at}
 use Rattle.nj_expand.specs.Held.{Held, opened}
 use Rattle.nj_expand.specs.Front.{size_in, image_at, one_state, IsFront}
 
-pub start_state : (cart : Cartridge) (script : Record) (start pads : List ℕ) (begun s : State) → begun ≡ power_on cart → pads ≡ start → s ≡ frames begun pads
+pub start_state : (cart : Cartridge) (script : Record) (start pads : List ℕ) (begun s : State) → begun ≡ power_on cart
+    → pads ≡ start → s ≡ frames begun pads
     → state_of (plan_of cart script start) [] ≡ play cart start → s ≡ state_of (plan_of cart script start) []
 start_state cart script start pads begun s on same ran law = ran ∙ ap₂ frames on same ∙ sym law
 
-pub start_judged : (plan : Plan) (s : State) (judged : Judged) → s ≡ state_of plan [] → judged ≡ judged_at plan.script 0 s
-    → judged_of plan [] ≡ judged_in plan.script.rules.rules (ram_of (state_of plan [])) 0 (is_jammed (state_of plan [])) → judged ≡ judged_of plan []
+pub start_judged : (plan : Plan) (s : State) (judged : Judged) → s ≡ state_of plan []
+    → judged ≡ judged_at plan.script 0 s
+    → judged_of plan [] ≡ judged_in plan.script.rules.rules (ram_of (state_of plan [])) 0 (is_jammed (state_of plan []))
+    → judged ≡ judged_of plan []
 unfolding judged_at
 start_judged plan s judged is told law =
     told ∙ ap (λ t. judged_in plan.script.rules.rules (ram_of t) 0 (is_jammed t)) is ∙ sym law
@@ -31,31 +34,64 @@ status_in : (plan : Plan) (judged : Judged) → judged ≡ judged_of plan [] →
 unfolding judged_of
 status_in plan judged e = ap (λ j. j.status.0) e
 
-pub start_key : (plan : Plan) (s : State) (judged : Judged) (key : ℕ) → s ≡ state_of plan [] → judged ≡ judged_of plan [] → key ≡ key_at plan.script s judged
+pub start_key : (plan : Plan) (s : State) (judged : Judged) (key : ℕ) → s ≡ state_of plan []
+    → judged ≡ judged_of plan [] → key ≡ key_at plan.script s judged
     → key ≡ key_of plan []
 unfolding key_at key_of judged_of
 start_key plan s judged key is told e = e ∙ ap₂ (key_at plan.script) is told
 
-pub start_image : (plan : Plan) (s : State) (image : List ℕ) → s ≡ state_of plan [] → image ≡ image_of s → image ≡ image_at plan []
+pub start_image : (plan : Plan) (s : State) (image : List ℕ) → s ≡ state_of plan [] → image ≡ image_of s
+    → image ≡ image_at plan []
 unfolding image_at
 start_image plan s image is e = e ∙ ap image_of is
 
-pub start_pool : (plan : Plan) (most : ℕ) (image : List ℕ) (pool : Front) → image ≡ image_at plan [] → length (image_at plan []) ≡ size_in plan
-    → pool ≡ one_state (most * (length image + 16)) image → pool ≡ one_state (most * (size_in plan + 16)) (image_at plan [])
+pub start_pool : (plan : Plan) (most : ℕ) (image : List ℕ) (pool : Front) → image ≡ image_at plan []
+    → length (image_at plan []) ≡ size_in plan
+    → pool ≡ one_state (most * (length image + 16)) image
+    → pool ≡ one_state (most * (size_in plan + 16)) (image_at plan [])
 start_pool plan most image pool is long e =
-    e ∙ ap (λ x. one_state (most * (length x + 16)) x) is ∙ ap (λ n. one_state (most * (n + 16)) (image_at plan [])) long
+    e ∙ ap (λ x. one_state (most * (length x + 16)) x) is
+    ∙ ap (λ n. one_state (most * (n + 16)) (image_at plan [])) long
 
 -- the front of one state
-pub first_front : (plan : Plan) (most : ℕ) (pool : Front) (judged : List Judged) → IsCartridge plan.cartridge → 1 ≤ most → length (image_at plan []) ≡ size_in plan
-    → pool ≡ one_state (most * (size_in plan + 16)) (image_at plan []) → judged ≡ judged_of plan [] ∷ [] → IsFront plan most pool judged
+pub first_front : (plan : Plan) (most : ℕ) (pool : Front) (judged : List Judged) → IsCartridge plan.cartridge → 1 ≤ most
+    → length (image_at plan []) ≡ size_in plan
+    → pool ≡ one_state (most * (size_in plan + 16)) (image_at plan []) → judged ≡ judged_of plan [] ∷ []
+    → IsFront plan most pool judged
 unfolding one_state
 first_front plan most pool judged nrom some long is are =
-    subst (λ (p : Front). IsFront plan most p judged) (sym is) (record { nrom = nrom; images = refl; judged_are = are; some = omega arith; few = some; base = refl; size = long; limit = refl })
+    subst (λ (p : Front). IsFront plan most p judged) (sym is)
+    (record {
+      nrom = nrom;
+      images = refl;
+      judged_are = are;
+      some = omega arith;
+      few = some;
+      base = refl;
+      size = long;
+      limit = refl;
+    })
 
 -- the search before its first step
-pub opened_is : (plan : Plan) (bounds : Bounds) (pool : Front) (seen : Seen) (level limit : ℕ) → pool ≡ one_state limit (image_at plan [])
+pub opened_is : (plan : Plan) (bounds : Bounds) (pool : Front) (seen : Seen) (level limit : ℕ)
+    → pool ≡ one_state limit (image_at plan [])
     → seen ≡ (key_of plan [] ∷ []) ∷ [] → level ≡ (let j = judged_of plan [] in j.level)
-    → (let h : Held = record { plan = plan; bounds = bounds; state = record { step = 0; front = pool.words; seen = seen; mark = record { level = level; until = 0 } }; spent = false } in h) ≡ opened plan bounds
+    → (let h : Held = record {
+      plan = plan;
+      bounds = bounds;
+      state = record { step = 0; front = pool.words; seen = seen; mark = record { level = level; until = 0 } };
+      spent = false;
+    } in h) ≡ opened plan bounds
 unfolding opened opening game_of one_state
 opened_is plan bounds pool seen level limit is told levels =
-    λ i. record { plan = plan; bounds = bounds; state = record { step = 0; front = (let p : Front = is i in p.words); seen = told i; mark = record { level = levels i; until = 0 } }; spent = false }
+    λ i. record {
+      plan = plan;
+      bounds = bounds;
+      state = record {
+        step = 0;
+        front = (let p : Front = is i in p.words);
+        seen = told i;
+        mark = record { level = levels i; until = 0 };
+      };
+      spent = false;
+    }

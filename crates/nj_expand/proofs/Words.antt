@@ -22,20 +22,25 @@ use Rattle.nj_pool.specs.Front.{need}
 use Rattle.nj_expand.specs.Rows.{row_verdict, told_verdict, row_bucket, row_of, judged_at, key_at, row_told, row_at}
 use Rattle.nj_expand.specs.Front.{rom_in, size_in, image_at, need_at}
 
-pub is_image : (plan : Plan) (word : Word) → IsReady (state_of plan word) → rom_of (state_of plan word) ≡ rom_of (power_on plan.cartridge)
+pub is_image : (plan : Plan) (word : Word) → IsReady (state_of plan word)
+    → rom_of (state_of plan word) ≡ rom_of (power_on plan.cartridge)
     → ((s : State) → IsReady s → IsImage (rom_of s) (image_of s)) → IsImage (rom_in plan) (image_at plan word)
 unfolding rom_in image_at
 is_image plan word ready rom saved =
     subst (λ r. IsImage r (image_of (state_of plan word))) rom (saved (state_of plan word) ready)
 
-pub state_again : (plan : Plan) (word : Word) → IsReady (state_of plan word) → rom_of (state_of plan word) ≡ rom_of (power_on plan.cartridge)
-    → ((s : State) → IsReady s → of_image (rom_of s) (image_of s) ≡ s) → of_image (rom_in plan) (image_at plan word) ≡ state_of plan word
+pub state_again : (plan : Plan) (word : Word) → IsReady (state_of plan word)
+    → rom_of (state_of plan word) ≡ rom_of (power_on plan.cartridge)
+    → ((s : State) → IsReady s → of_image (rom_of s) (image_of s) ≡ s)
+    → of_image (rom_in plan) (image_at plan word) ≡ state_of plan word
 unfolding rom_in image_at
 state_again plan word ready rom again =
     ap (λ r. of_image r (image_of (state_of plan word))) (sym rom) ∙ again (state_of plan word) ready
 
-pub image_length : (plan : Plan) (word : Word) → IsReady (state_of plan word) → rom_of (state_of plan word) ≡ rom_of (power_on plan.cartridge)
-    → ((s : State) → IsReady s → length (image_of s) ≡ image_len (rom_of s)) → length (image_at plan word) ≡ size_in plan
+pub image_length : (plan : Plan) (word : Word) → IsReady (state_of plan word)
+    → rom_of (state_of plan word) ≡ rom_of (power_on plan.cartridge)
+    → ((s : State) → IsReady s → length (image_of s) ≡ image_len (rom_of s))
+    → length (image_at plan word) ≡ size_in plan
 unfolding rom_in size_in image_at
 image_length plan word ready rom len = len (state_of plan word) ready ∙ ap image_len rom
 
@@ -51,7 +56,8 @@ pub told_status : (plan : Plan) (word : Word) → (let j = judged_of plan word i
 unfolding judged_of
 told_status plan word = refl
 
-pub told_allowed : (plan : Plan) (word : Word) → (let g : Game = game_of plan in g.allowed word) ≡ allowed_pads plan.script.inputs.sets (ram_of (state_of plan word))
+pub told_allowed : (plan : Plan) (word : Word) → (let g : Game = game_of plan in g.allowed word)
+    ≡ allowed_pads plan.script.inputs.sets (ram_of (state_of plan word))
 unfolding game_of allowed_of
 told_allowed plan word = refl
 
@@ -68,14 +74,16 @@ row_told_word plan word number pad = row_told plan.script number pad (state_of p
 -- the row of a word by the rules' judgement is its row in the game
 same_row : (plan : Plan) (parent : Word) (number pad : ℕ) →
     let c : Candidate = record { number = number; parent = parent; pad = pad } in
-    row_told plan.script number pad (state_of plan (parent ++ pad ∷ [])) (judged_of plan (parent ++ pad ∷ [])) ≡ row_of (game_of plan) c
+    row_told plan.script number pad (state_of plan (parent ++ pad ∷ [])) (judged_of plan (parent ++ pad ∷ []))
+    ≡ row_of (game_of plan) c
 unfolding row_told row_of game_of key_at key_of judged_of bucket_of
 same_row plan parent number pad =
     let word = parent ++ pad ∷ [] in
     let e = same_verdict (let j = judged_of plan word in j.verdict) in
     λ i. record {
       number = number;
-      key = key_in plan.script.hash.items (length plan.script.rules.rules) (ram_of (state_of plan word)) (status_of plan word);
+      key = key_in plan.script.hash.items (length plan.script.rules.rules)
+          (ram_of (state_of plan word)) (status_of plan word);
       reward = (let j = judged_of plan word in j.reward);
       level = (let j = judged_of plan word in j.level);
       verdict = e i;
@@ -86,9 +94,12 @@ same_row plan parent number pad =
 -- the row of a child, from its parent's state and status
 pub told_row : (plan : Plan) (word : Word) (pad number : ℕ) →
     state_of plan (word ++ pad ∷ []) ≡ held plan.script.hold pad (state_of plan word) →
-    status_of plan (word ++ pad ∷ []) ≡ status_after plan.script.rules.rules (ram_of (state_of plan (word ++ pad ∷ []))) (status_of plan word) →
-    judged_of plan (word ++ pad ∷ []) ≡ judged_in plan.script.rules.rules (ram_of (state_of plan (word ++ pad ∷ []))) (status_of plan word) (is_jammed (state_of plan (word ++ pad ∷ []))) →
-    row_at plan.script (status_of plan word) (state_of plan word) pad number ≡ row_of (game_of plan) (record { number = number; parent = word; pad = pad })
+    status_of plan (word ++ pad ∷ [])
+    ≡ status_after plan.script.rules.rules (ram_of (state_of plan (word ++ pad ∷ []))) (status_of plan word) →
+    judged_of plan (word ++ pad ∷ []) ≡ judged_in plan.script.rules.rules (ram_of (state_of plan (word ++ pad ∷ [])))
+    (status_of plan word) (is_jammed (state_of plan (word ++ pad ∷ []))) →
+    row_at plan.script (status_of plan word) (state_of plan word) pad number
+    ≡ row_of (game_of plan) (record { number = number; parent = word; pad = pad })
 unfolding row_at judged_at
 told_row plan word pad number state status judged =
     ap (λ s. row_told plan.script number pad s (judged_at plan.script (status_of plan word) s)) (sym state)
@@ -98,30 +109,38 @@ told_row plan word pad number state status judged =
 -- ---- the images of a front
 
 -- the image at a place is that of the word there
-pub image_here : (plan : Plan) (images words : List (List ℕ)) (place : ℕ) (image : List ℕ) → images ≡ map (image_at plan) words → place < length words
+pub image_here : (plan : Plan) (images words : List (List ℕ)) (place : ℕ) (image : List ℕ)
+    → images ≡ map (image_at plan) words → place < length words
     → image ≡ get_or images place [] → image ≡ image_at plan (get_or words place [])
 image_here plan images words place image are within is =
     is ∙ ap (λ xs. get_or xs place []) are ∙ get_or-map (image_at plan) words place [] [] within
 
-sum_map : (f : List ℕ → ℕ) (g : Word → List ℕ) (words : List Word) → sum_by f (map g words) ≡ sum_by (λ word. f (g word)) words
+sum_map : (f : List ℕ → ℕ) (g : Word → List ℕ) (words : List Word)
+    → sum_by f (map g words) ≡ sum_by (λ word. f (g word)) words
 sum_map f g [] = refl
 sum_map f g (word ∷ words) =
-    sum_by-cons f (g word) (map g words) ∙ (ap (λ n. f (g word) + n) (sum_map f g words) ∙ sym (sum_by-cons (λ w. f (g w)) word words))
+    sum_by-cons f (g word) (map g words)
+    ∙ (ap (λ n. f (g word) + n) (sum_map f g words) ∙ sym (sum_by-cons (λ w. f (g w)) word words))
 
 -- what the states of a front need
-pub front_needs : (plan : Plan) (base : List ℕ) (images words : List (List ℕ)) → images ≡ map (image_at plan) words → base ≡ image_at plan []
+pub front_needs : (plan : Plan) (base : List ℕ) (images words : List (List ℕ)) → images ≡ map (image_at plan) words
+    → base ≡ image_at plan []
     → sum_by (need base) images ≡ sum_by (need_at plan) words
 unfolding need_at
 front_needs plan base images words are is =
     (λ i. sum_by (need (is i)) (are i)) ∙ sum_map (need (image_at plan [])) (image_at plan) words
 
 -- the state of a word needs no more than its whole image and 16
-need_bound : (plan : Plan) (word : Word) → IsImageSize (image_at plan []) → ((word : Word) → length (image_at plan word) ≡ size_in plan)
-    → ((base image : List ℕ) → IsImageSize base → length image ≡ length base → need base image ≤ length base + 16) → need_at plan word ≤ size_in plan + 16
+need_bound : (plan : Plan) (word : Word) → IsImageSize (image_at plan [])
+    → ((word : Word) → length (image_at plan word) ≡ size_in plan)
+    → ((base image : List ℕ) → IsImageSize base → length image ≡ length base → need base image ≤ length base + 16)
+    → need_at plan word ≤ size_in plan + 16
 unfolding need_at
-need_bound plan word size long law = omega (arith, law (image_at plan []) (image_at plan word) size (long word ∙ sym (long [])), long [])
+need_bound plan word size long law =
+    omega (arith, law (image_at plan []) (image_at plan word) size (long word ∙ sym (long [])), long [])
 
-pub needs_bound : (plan : Plan) (words : List Word) → IsImageSize (image_at plan []) → ((word : Word) → length (image_at plan word) ≡ size_in plan)
+pub needs_bound : (plan : Plan) (words : List Word) → IsImageSize (image_at plan [])
+    → ((word : Word) → length (image_at plan word) ≡ size_in plan)
     → ((base image : List ℕ) → IsImageSize base → length image ≡ length base → need base image ≤ length base + 16)
     → sum_by (need_at plan) words ≤ length words * (size_in plan + 16)
 needs_bound plan words size long law =

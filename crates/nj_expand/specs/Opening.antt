@@ -1,5 +1,5 @@
 -- What the run of the start movie gives. All of it is this project's own.
-use Rattle.std.specs.Prelude.{◌≡◌, ℕ, ◌+◌, ◌*◌, ◌^◌, List, [], ◌∷◌}
+use Rattle.std.specs.Prelude.{◌≡◌, ◌+◌, ◌*◌, ◌^◌, [], ◌∷◌}
 use Rattle.nj_machine.specs.State.{rom_of}
 use Rattle.nj_rules.specs.declared.record.Judged.{Judged}
 use Rattle.nj_claims.specs.Tables.{IsTable, slot_count}

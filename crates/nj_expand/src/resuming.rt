@@ -46,7 +46,8 @@ fn replay<L: Ledger>(
     steps: &mut Steps<L>,
 ) -> Judged
     requires image { IsImage (rom_of machine.old) image.now }
-    ensures reached { let from : Reached = record { state = of_image (rom_of machine.old) image.now; judged = judged } in
+    ensures reached { let from : Reached =
+        record { state = of_image (rom_of machine.old) image.now; judged = judged } in
         let to : Reached = record { state = machine.new; judged = result } in
         to ≡ replayed script.now from word.now }
     ensures cartridge { rom_of machine.new ≡ rom_of machine.old }
@@ -165,7 +166,8 @@ fn run_front<L: Ledger>(
     requires within { words_of saved.now ≤ most }
     ensures front { let plan = plan_of cart.now script.now start.now in
         IfOk result (AreRunAgain plan (most * (size_in plan + 16)) (front_in saved.now)) }
-    ensures frames { steps.new ≤ steps.old + (length start.now + script.now.hold * (saved.now.step * words_of saved.now)) }
+    ensures frames { steps.new
+        ≤ steps.old + (length start.now + script.now.hold * (saved.now.step * words_of saved.now)) }
     ensures never_falls { steps.old ≤ steps.new }
 {
     a_word_goes_on();
@@ -247,7 +249,8 @@ impl Search {
         requires few { words_of saved.now ≤ bounds.front }
         requires front { let plan = plan_of cart script start in
             AreRunAgain plan (bounds.front * (size_in plan + 16)) (front_in saved.now) front }
-        requires table { let seen = forgotten (2 ^ bounds.exponent) (words_of saved.now * bounds.inputs) saved.now.generations in
+        requires table { let seen =
+            forgotten (2 ^ bounds.exponent) (words_of saved.now * bounds.inputs) saved.now.generations in
             IsSeenTable table.0.items table.1 seen saved.now.step bounds.exponent }
         ensures { result ≡ resumed (plan_of cart script start) (bounds_of bounds script) saved.now }
     {

@@ -26,30 +26,40 @@ pub status_start : (plan : Plan) → status_of plan [] ≡ status_after plan.scr
 unfolding status_of
 status_start plan = refl
 
-pub judged_start : (plan : Plan) → judged_of plan [] ≡ judged_in plan.script.rules.rules (ram_after plan []) 0 (is_jammed (state_of plan []))
+pub judged_start :
+    (plan : Plan) →
+    judged_of plan [] ≡ judged_in plan.script.rules.rules (ram_after plan []) 0 (is_jammed (state_of plan []))
 unfolding judged_of judged_in status_of
 judged_start plan = refl
 
 -- ---- one more pad
 
-held_pads-push : (hold : ℕ) (word : Word) (pad : ℕ) → held_pads hold (word ++ pad ∷ []) ≡ held_pads hold word ++ replicate hold pad
+held_pads-push :
+    (hold : ℕ) (word : Word) (pad : ℕ) → held_pads hold (word ++ pad ∷ []) ≡ held_pads hold word ++ replicate hold pad
 held_pads-push hold word pad =
-    flat_map-append (λ p. replicate hold p) word (pad ∷ []) ∙ ap (λ m. held_pads hold word ++ m) (append-nil (replicate hold pad))
+    flat_map-append (λ p. replicate hold p) word (pad ∷ [])
+    ∙ ap (λ m. held_pads hold word ++ m) (append-nil (replicate hold pad))
 
 -- the movie goes on with the pad
-pub movie_child : (plan : Plan) (word : Word) (pad : ℕ) → movie_of plan (word ++ pad ∷ []) ≡ movie_of plan word ++ replicate plan.script.hold pad
+pub movie_child :
+    (plan : Plan) (word : Word) (pad : ℕ) →
+    movie_of plan (word ++ pad ∷ []) ≡ movie_of plan word ++ replicate plan.script.hold pad
 unfolding movie_of
 movie_child plan word pad =
     ap (λ m. plan.start ++ m) (held_pads-push plan.script.hold word pad)
     ∙ sym (append_assoc plan.start (held_pads plan.script.hold word) (replicate plan.script.hold pad))
 
-pub frames_child : (plan : Plan) (word : Word) (pad : ℕ) → length (movie_of plan (word ++ pad ∷ [])) ≡ length (movie_of plan word) + plan.script.hold
+pub frames_child :
+    (plan : Plan) (word : Word) (pad : ℕ) →
+    length (movie_of plan (word ++ pad ∷ [])) ≡ length (movie_of plan word) + plan.script.hold
 frames_child plan word pad =
     ap length (movie_child plan word pad)
     ∙ length-append (movie_of plan word) (replicate plan.script.hold pad)
     ∙ ap (λ n. length (movie_of plan word) + n) (length-replicate plan.script.hold pad)
 
-pub state_child : (plan : Plan) (word : Word) (pad : ℕ) → state_of plan (word ++ pad ∷ []) ≡ held plan.script.hold pad (state_of plan word)
+pub state_child :
+    (plan : Plan) (word : Word) (pad : ℕ) →
+    state_of plan (word ++ pad ∷ []) ≡ held plan.script.hold pad (state_of plan word)
 unfolding state_of
 state_child plan word pad =
     ap (play plan.cartridge) (movie_child plan word pad)
@@ -60,7 +70,8 @@ reverse-push : (word : Word) (pad : ℕ) → reverse (word ++ pad ∷ []) ≡ pa
 reverse-push word pad = reverse-append word (pad ∷ [])
 
 pub status_child : (plan : Plan) (word : Word) (pad : ℕ) →
-    status_of plan (word ++ pad ∷ []) ≡ status_after plan.script.rules.rules (ram_after plan (word ++ pad ∷ [])) (status_of plan word)
+    status_of plan (word ++ pad ∷ [])
+    ≡ status_after plan.script.rules.rules (ram_after plan (word ++ pad ∷ [])) (status_of plan word)
 unfolding status_of
 status_child plan word pad =
     let same : reverse (pad ∷ reverse word) ≡ word ++ pad ∷ [] =
@@ -70,6 +81,7 @@ status_child plan word pad =
 
 pub judged_child : (plan : Plan) (word : Word) (pad : ℕ) →
     judged_of plan (word ++ pad ∷ [])
-    ≡ judged_in plan.script.rules.rules (ram_after plan (word ++ pad ∷ [])) (status_of plan word) (is_jammed (state_of plan (word ++ pad ∷ [])))
+    ≡ judged_in plan.script.rules.rules (ram_after plan (word ++ pad ∷ [])) (status_of plan word)
+    (is_jammed (state_of plan (word ++ pad ∷ [])))
 unfolding judged_of judged_in
 judged_child plan word pad = rw (status_child plan word pad) refl

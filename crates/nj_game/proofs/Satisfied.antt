@@ -28,7 +28,9 @@ or_right true b e = refl
 or_right false b e = e
 
 -- the satisfied rules after a state
-in_after : Naming → (rules : List Rule) (ram : List ℕ) (old k : ℕ) → k < 128 → is_in (status_after rules ram old) k ≡ (is_in old k || is_met rules ram k)
+in_after :
+    Naming → (rules : List Rule) (ram : List ℕ) (old k : ℕ) → k < 128 →
+    is_in (status_after rules ram old) k ≡ (is_in old k || is_met rules ram k)
 unfolding is_met
 in_after law rules ram old k h = law rules ram old k h
 
@@ -57,9 +59,12 @@ kept_now law plan pad back k h e =
 kept_back : Naming → (plan : Plan) (more back : Word) (k : ℕ) → k < 128 →
     is_in (status_back plan back) k ≡ true → is_in (status_back plan (more ++ back)) k ≡ true
 kept_back law plan [] back k h e = e
-kept_back law plan (pad ∷ more) back k h e = kept_now law plan pad (more ++ back) k h (kept_back law plan more back k h e)
+kept_back law plan (pad ∷ more) back k h e =
+    kept_now law plan pad (more ++ back) k h (kept_back law plan more back k h e)
 
-pub stays : Naming → (plan : Plan) (word more : Word) (k : ℕ) → k < 128 → is_in (status_of plan word) k ≡ true → is_in (status_of plan (word ++ more)) k ≡ true
+pub stays :
+    Naming → (plan : Plan) (word more : Word) (k : ℕ) → k < 128 → is_in (status_of plan word) k ≡ true →
+    is_in (status_of plan (word ++ more)) k ≡ true
 unfolding status_of
 stays law plan word more k h e =
     ap (λ back. is_in (status_back plan back) k) (reverse-append word more)
@@ -78,11 +83,16 @@ further plan word pad k m = record {
 }
 
 -- a rule that memory meets now is met along the word
-at_its_end : (plan : Plan) (word : Word) (k : ℕ) → is_met plan.script.rules.rules (ram_after plan word) k ≡ true → IsMetAlong plan word k
+at_its_end :
+    (plan : Plan) (word : Word) (k : ℕ) → is_met plan.script.rules.rules (ram_after plan word) k ≡ true →
+    IsMetAlong plan word k
 at_its_end plan word k e = record { before = word; behind = []; whole = sym (append-nil word); met = e }
 
-met_by : (plan : Plan) (pad : ℕ) (back : Word) (k : ℕ) → (is_in (status_back plan back) k ≡ true → IsMetAlong plan (reverse back) k) →
-    (is_in (status_back plan back) k ≡ true) ⊎ (is_met plan.script.rules.rules (ram_after plan (reverse (pad ∷ back))) k ≡ true)
+met_by :
+    (plan : Plan) (pad : ℕ) (back : Word) (k : ℕ) →
+    (is_in (status_back plan back) k ≡ true → IsMetAlong plan (reverse back) k) →
+    (is_in (status_back plan back) k ≡ true)
+    ⊎ (is_met plan.script.rules.rules (ram_after plan (reverse (pad ∷ back))) k ≡ true)
     → IsMetAlong plan (reverse (pad ∷ back)) k
 met_by plan pad back k before (inl e) =
     let P : Word → Type 0 = λ w. IsMetAlong plan w k in
@@ -90,17 +100,24 @@ met_by plan pad back k before (inl e) =
 met_by plan pad back k before (inr e) = at_its_end plan (reverse (pad ∷ back)) k e
 
 -- a rule that is satisfied was met, by the word's last pads back
-met_back : Naming → (plan : Plan) (back : Word) (k : ℕ) → k < 128 → is_in (status_back plan back) k ≡ true → IsMetAlong plan (reverse back) k
+met_back :
+    Naming → (plan : Plan) (back : Word) (k : ℕ) → k < 128 → is_in (status_back plan back) k ≡ true →
+    IsMetAlong plan (reverse back) k
 met_back law plan [] k h e =
     at_its_end plan [] k
-    (sym (in_after law plan.script.rules.rules (ram_after plan []) 0 k h ∙ ap (λ b. b || is_met plan.script.rules.rules (ram_after plan []) k) (in_none k)) ∙ e)
+    (sym (in_after law plan.script.rules.rules (ram_after plan []) 0 k h
+    ∙ ap (λ b. b || is_met plan.script.rules.rules (ram_after plan []) k) (in_none k)) ∙ e)
 met_back law plan (pad ∷ back) k h e =
     met_by plan pad back k (met_back law plan back k h)
-    (or_cases (is_in (status_back plan back) k) (is_met plan.script.rules.rules (ram_after plan (reverse (pad ∷ back))) k)
-    (sym (in_after law plan.script.rules.rules (ram_after plan (reverse (pad ∷ back))) (status_back plan back) k h) ∙ e))
+    (or_cases (is_in (status_back plan back) k)
+    (is_met plan.script.rules.rules (ram_after plan (reverse (pad ∷ back))) k)
+    (sym (in_after law plan.script.rules.rules (ram_after plan (reverse (pad ∷ back))) (status_back plan back) k h)
+    ∙ e))
 
 -- a rule that was met is satisfied
-met_before : Naming → (plan : Plan) (word : Word) (k : ℕ) → k < 128 → IsMetAlong plan word k → is_in (status_of plan word) k ≡ true
+met_before :
+    Naming → (plan : Plan) (word : Word) (k : ℕ) → k < 128 → IsMetAlong plan word k →
+    is_in (status_of plan word) k ≡ true
 unfolding status_of
 met_before law plan word k h m =
     ap (λ w. is_in (status_of plan w) k) m.whole
@@ -108,9 +125,13 @@ met_before law plan word k h m =
     (met_now law plan (reverse m.before) k h
     (ap (λ w. is_met plan.script.rules.rules (ram_after plan w) k) (reverse-reverse m.before) ∙ m.met))
 
-pub met_along : Naming → (plan : Plan) (word : Word) (k : ℕ) → k < 128 → (is_in (status_of plan word) k ≡ true) ↔ IsMetAlong plan word k
+pub met_along :
+    Naming → (plan : Plan) (word : Word) (k : ℕ) → k < 128 →
+    (is_in (status_of plan word) k ≡ true) ↔ IsMetAlong plan word k
 unfolding status_of
 met_along law plan word k h = (
-  λ e. (let P : Word → Type 0 = λ w. IsMetAlong plan w k in subst P (reverse-reverse word) (met_back law plan (reverse word) k h e)),
+  λ e.
+      (let P : Word → Type 0 = λ w. IsMetAlong plan w k in
+      subst P (reverse-reverse word) (met_back law plan (reverse word) k h e)),
   met_before law plan word k h,
 )

@@ -36,10 +36,14 @@ none-other (x ∷ xs) (y ∷ ys) same = first-other (nat_eq x y) _ _ (none-other
 
 -- the comparison of two pages of 64 lanes
 pub lanes-differ : (xs ys : List ℕ) → length xs ≡ 64 → length ys ≡ 64 →
-    not (nat_eq (mask_l (map (top 7) (zip2 (λ a b. cond (other a b) (2 ^ 8 - 1) 0) (take 64 xs) (take 64 ys))) % 2 ^ 64) 0) ≡ not (bytes_eq xs ys)
+    not (nat_eq (mask_l (map (top 7) (zip2 (λ a b. cond (other a b) (2 ^ 8 - 1) 0) (take 64 xs) (take 64 ys))) % 2
+    ^ 64) 0) ≡ not (bytes_eq xs ys)
 lanes-differ xs ys first second =
-    ap (λ (l : List ℕ). not (nat_eq (mask_l (map (top 7) (zip2 (λ a b. cond (other a b) (2 ^ 8 - 1) 0) l (take 64 ys))) % 2 ^ 64) 0)) (take_all 64 xs (omega (arith, first)))
-    ∙ (ap (λ (l : List ℕ). not (nat_eq (mask_l (map (top 7) (zip2 (λ a b. cond (other a b) (2 ^ 8 - 1) 0) xs l)) % 2 ^ 64) 0)) (take_all 64 ys (omega (arith, second)))
+    ap (λ (l : List ℕ). not (nat_eq (mask_l (map (top 7) (zip2 (λ a b. cond (other a b) (2 ^ 8 - 1) 0) l (take 64 ys)))
+    % 2 ^ 64) 0)) (take_all 64 xs (omega (arith, first)))
+    ∙ (ap (λ (l : List ℕ). not (nat_eq (mask_l (map (top 7) (zip2 (λ a b. cond (other a b) (2 ^ 8 - 1) 0) xs l)) % 2
+    ^ 64) 0)) (take_all 64 ys (omega (arith, second)))
     ∙ (ap (λ (l : List Bool). not (nat_eq (mask_l l % 2 ^ 64) 0)) (tops_compared w8 other xs ys)
-    ∙ (ap (λ n. not (nat_eq n 0)) (mask_l-mod (zip2 other xs ys) 64 (omega (arith, length-zip2 other xs ys (first ∙ sym second), first)))
+    ∙ (ap (λ n. not (nat_eq n 0))
+    (mask_l-mod (zip2 other xs ys) 64 (omega (arith, length-zip2 other xs ys (first ∙ sym second), first)))
     ∙ ap not (none-other xs ys (first ∙ sym second)))))

@@ -15,10 +15,12 @@ use Rattle.nj_image.proofs.Sizes.{whole}
 
 -- bytes that are those of the flags are the mask
 pub mask-made : (image base mask : List ℕ) → length mask ≡ mask_size base →
-    ((k : ℕ) → k < mask_size base → get_or mask k 0 ≡ mask_l (take 8 (drop (8 * k) (flags_of image base)))) → mask ≡ mask_of image base
+    ((k : ℕ) → k < mask_size base → get_or mask k 0 ≡ mask_l (take 8 (drop (8 * k) (flags_of image base))))
+    → mask ≡ mask_of image base
 unfolding mask_of
 mask-made image base mask size done =
-    same_number_lists mask (mask_bytes (mask_size base) (flags_of image base)) (size ∙ sym (count-bytes (mask_size base) (flags_of image base)))
+    same_number_lists mask (mask_bytes (mask_size base) (flags_of image base)) (size
+    ∙ sym (count-bytes (mask_size base) (flags_of image base)))
     (λ k below.
     let under : k < mask_size base = omega (arith, below, size) in
     done k under ∙ sym (byte-at (mask_size base) k (flags_of image base) under))
@@ -37,7 +39,8 @@ pub mask-tells : (image base : List ℕ) (p : ℕ) → IsImageSize base → leng
 unfolding mask_of
 mask-tells image base p size same below =
     let sized = whole base size in
-    let is : flag_in (mask_bytes (mask_size base) (flags_of image base)) p ≡ not (bytes_eq (page_at image p) (page_at base p)) =
+    let is : flag_in (mask_bytes (mask_size base) (flags_of image base)) p ≡ not
+    (bytes_eq (page_at image p) (page_at base p)) =
     flag-of-bytes (mask_size base) p (flags_of image base) (omega (arith, sized.mask))
     ∙ flag-is image base p same (omega (arith, sized.pages)) in
     subst (λ b. (b ≡ true) ↔ (page_at image p ≢ page_at base p)) (sym is) (not-same (page_at image p) (page_at base p))
@@ -54,16 +57,19 @@ every-more n p mask below before is =
 
 pub not-every : (n p : ℕ) (mask : List ℕ) → p < n → flag_in mask p ≡ false → false ≡ all_of (flags_in n mask)
 not-every n p mask below is =
-    sym (list_all_at (λ f. f) (flags_in n mask) p false (omega (arith, count-flags_in n mask)) (flags-get n p mask below ∙ is))
+    sym (list_all_at (λ f. f) (flags_in n mask) p false (omega (arith, count-flags_in n mask))
+    (flags-get n p mask below ∙ is))
 
-pub every-end : (n p : ℕ) (mask : List ℕ) → n ≤ p → all_of (take p (flags_in n mask)) ≡ true → true ≡ all_of (flags_in n mask)
+pub every-end : (n p : ℕ) (mask : List ℕ) → n ≤ p → all_of (take p (flags_in n mask)) ≡ true
+    → true ≡ all_of (flags_in n mask)
 every-end n p mask past before =
     sym before ∙ ap all_of (take_all p (flags_in n mask) (omega (arith, count-flags_in n mask)))
 
 -- bytes 255 flag every page
 pub flags-full : (n m : ℕ) → n ≤ 8 * m → flags_in n (replicate m 255) ≡ replicate n true
 flags-full n m few =
-    same_lists (flags_in n (replicate m 255)) (replicate n true) (count-flags_in n (replicate m 255) ∙ sym (length-replicate {A = Bool} n true))
+    same_lists (flags_in n (replicate m 255)) (replicate n true) (count-flags_in n (replicate m 255)
+    ∙ sym (length-replicate {A = Bool} n true))
     (λ k d below.
     let under : k < n = omega (arith, below, count-flags_in n (replicate m 255)) in
     get_or_default (flags_in n (replicate m 255)) k d false below

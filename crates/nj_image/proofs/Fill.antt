@@ -17,8 +17,10 @@ AreWhole (page ∷ pages) = (length page ≡ 64) × AreWhole pages
 
 pub whole-pages : (n : ℕ) (memory : List ℕ) → 64 * n ≤ length memory → AreWhole (first_pages n memory)
 whole-pages zero memory long = tt
-whole-pages (suc n) memory long =
-    (omega (arith, length-take {A = ℕ} 64 memory), whole-pages n (drop 64 memory) (omega (arith, length-drop {A = ℕ} 64 memory)))
+whole-pages (suc n) memory long = (
+  omega (arith, length-take {A = ℕ} 64 memory),
+  whole-pages n (drop 64 memory) (omega (arith, length-drop {A = ℕ} 64 memory)),
+)
 
 pub count-pages : (n : ℕ) (memory : List ℕ) → length (first_pages n memory) ≡ n
 count-pages zero memory = refl
@@ -40,16 +42,20 @@ same-page : (page : List ℕ) → bytes_eq page page ≡ true
 same-page page = (bytes_eq-Decides page page).1 refl
 
 -- a page that differs is passed over
-pub stop-page : (flags : List Bool) (base : List ℕ) (bases : List (List ℕ)) (page rest : List ℕ) → length page ≡ 64 → bytes_eq page base ≡ false →
+pub stop-page : (flags : List Bool) (base : List ℕ) (bases : List (List ℕ)) (page rest : List ℕ) → length page ≡ 64
+    → bytes_eq page base ≡ false →
     stop (true ∷ flags) (base ∷ bases) (page ++ rest) ≡ later 64 (stop flags bases rest)
 stop-page flags base bases page rest size other =
     long-enough (page ++ rest) (omega (arith, length-append page rest, size))
-    ∙ (ap (λ b. cond b (Some 63) (later 64 (stop flags bases (drop 64 (page ++ rest))))) (ap (λ p. bytes_eq p base) (take-page page rest size) ∙ other)
+    ∙ (ap (λ b. cond b (Some 63) (later 64 (stop flags bases (drop 64 (page ++ rest)))))
+    (ap (λ p. bytes_eq p base) (take-page page rest size) ∙ other)
     ∙ ap (λ r. later 64 (stop flags bases r)) (drop-page page rest size))
   where
     long-enough : (bytes : List ℕ) → 64 ≤ length bytes →
-        stop (true ∷ flags) (base ∷ bases) bytes ≡ cond (bytes_eq (take 64 bytes) base) (Some 63) (later 64 (stop flags bases (drop 64 bytes)))
-    long-enough bytes long = ap (λ b. cond b (Some (length bytes)) (cond (bytes_eq (take 64 bytes) base) (Some 63) (later 64 (stop flags bases (drop 64 bytes))))) (le-ltb (length bytes) 64 long)
+        stop (true ∷ flags) (base ∷ bases) bytes
+        ≡ cond (bytes_eq (take 64 bytes) base) (Some 63) (later 64 (stop flags bases (drop 64 bytes)))
+    long-enough bytes long = ap (λ b. cond b (Some (length bytes)) (cond (bytes_eq (take 64 bytes) base) (Some 63)
+        (later 64 (stop flags bases (drop 64 bytes))))) (le-ltb (length bytes) 64 long)
 
 -- what it means that a flagged page does not stop the reading
 pub record Passes (flags : List Bool) (base : List ℕ) (bases : List (List ℕ)) (bytes : List ℕ) : Type 0 where
@@ -61,14 +67,20 @@ pub later-none : (n : ℕ) (at : Option ℕ) → later n at ≡ None → at ≡ 
 later-none n None is = refl
 later-none n (Some at) is = cc
 
-pub passes : (flags : List Bool) (base : List ℕ) (bases : List (List ℕ)) (bytes : List ℕ) → stop (true ∷ flags) (base ∷ bases) bytes ≡ None → Passes flags base bases bytes
+pub passes : (flags : List Bool) (base : List ℕ) (bases : List (List ℕ)) (bytes : List ℕ)
+    → stop (true ∷ flags) (base ∷ bases) bytes ≡ None → Passes flags base bases bytes
 passes flags base bases bytes is = go (nat_lt (length bytes) 64) refl (bytes_eq (take 64 bytes) base) refl is
   where
     go : (b : Bool) → nat_lt (length bytes) 64 ≡ b → (d : Bool) → bytes_eq (take 64 bytes) base ≡ d →
-        cond b (Some (length bytes)) (cond d (Some 63) (later 64 (stop flags bases (drop 64 bytes)))) ≡ None → Passes flags base bases bytes
+        cond b (Some (length bytes)) (cond d (Some 63) (later 64 (stop flags bases (drop 64 bytes)))) ≡ None
+        → Passes flags base bases bytes
     go true e d f is = cc
     go false e true f is = cc
-    go false e false f is = record { long = ltb-false (length bytes) 64 e; other = f; rest = later-none 64 (stop flags bases (drop 64 bytes)) is }
+    go false e false f is = record {
+      long = ltb-false (length bytes) 64 e;
+      other = f;
+      rest = later-none 64 (stop flags bases (drop 64 bytes)) is;
+    }
 
 -- nothing is left behind the last page
 none-left : (bytes : List ℕ) → cond {A = Option ℕ} (length bytes == 0) None (Some 0) ≡ None → bytes ≡ []
@@ -85,7 +97,8 @@ pub record Gives (flags : List Bool) (bases : List (List ℕ)) (bytes : List ℕ
   pub bytes_are : flagged flags (first_pages (length bases) (merged flags bases bytes)) ≡ bytes
   pub size : length (merged flags bases bytes) ≡ 64 * length bases
 
-pub gives : (flags : List Bool) (bases : List (List ℕ)) (bytes : List ℕ) → length flags ≡ length bases → AreWhole bases →
+pub gives : (flags : List Bool) (bases : List (List ℕ)) (bytes : List ℕ) → length flags ≡ length bases
+    → AreWhole bases →
     stop flags bases bytes ≡ None → Gives flags bases bytes
 gives [] [] bytes same whole is = record { flags_are = refl; bytes_are = sym (none-left bytes is); size = refl }
 gives [] (base ∷ bases) bytes same whole is = absurd (omega (arith, same))
@@ -118,21 +131,29 @@ gives (false ∷ flags) (base ∷ bases) bytes same whole is =
 
 -- the pages of an image that differ are read back
 pub record Reads (bases : List (List ℕ)) (image : List ℕ) : Type 0 where
-  pub none : stop (differences (first_pages (length bases) image) bases) bases (flagged (differences (first_pages (length bases) image) bases) (first_pages (length bases) image)) ≡ None
-  pub image_is : merged (differences (first_pages (length bases) image) bases) bases (flagged (differences (first_pages (length bases) image) bases) (first_pages (length bases) image)) ≡ image
+  pub none : stop (differences (first_pages (length bases) image) bases) bases
+      (flagged (differences (first_pages (length bases) image) bases) (first_pages (length bases) image)) ≡ None
+  pub image_is : merged (differences (first_pages (length bases) image) bases) bases
+      (flagged (differences (first_pages (length bases) image) bases) (first_pages (length bases) image)) ≡ image
 
-reads-more : (b : Bool) (page base rest_image : List ℕ) (bases : List (List ℕ)) (flags : List Bool) (rest : List ℕ) → bytes_eq page base ≡ b → length page ≡ 64 →
+reads-more : (b : Bool) (page base rest_image : List ℕ) (bases : List (List ℕ)) (flags : List Bool) (rest : List ℕ)
+    → bytes_eq page base ≡ b → length page ≡ 64 →
     stop flags bases rest ≡ None → merged flags bases rest ≡ rest_image →
-    (stop (not b ∷ flags) (base ∷ bases) (cond (not b) (page ++ rest) rest) ≡ None) × (merged (not b ∷ flags) (base ∷ bases) (cond (not b) (page ++ rest) rest) ≡ page ++ rest_image)
-reads-more true page base rest_image bases flags rest is size none image_is =
-    (none, ap (λ p. p ++ merged flags bases rest) (sym ((bytes_eq-Decides page base).0 is)) ∙ ap (λ r. page ++ r) image_is)
+    (stop (not b ∷ flags) (base ∷ bases) (cond (not b) (page ++ rest) rest) ≡ None)
+    × (merged (not b ∷ flags) (base ∷ bases) (cond (not b) (page ++ rest) rest) ≡ page ++ rest_image)
+reads-more true page base rest_image bases flags rest is size none image_is = (
+  none,
+  ap (λ p. p ++ merged flags bases rest) (sym ((bytes_eq-Decides page base).0 is))
+      ∙ ap (λ r. page ++ r) image_is,
+)
 reads-more false page base rest_image bases flags rest is size none image_is = (
   stop-page flags base bases page rest size is ∙ ap (later 64) none,
   ap (λ p. p ++ merged flags bases (drop 64 (page ++ rest))) (take-page page rest size)
       ∙ (ap (λ r. page ++ merged flags bases r) (drop-page page rest size) ∙ ap (λ r. page ++ r) image_is),
 )
 
-pub reads : (bases : List (List ℕ)) (image : List ℕ) → length image ≡ 64 * length bases → AreWhole bases → Reads bases image
+pub reads : (bases : List (List ℕ)) (image : List ℕ) → length image ≡ 64 * length bases → AreWhole bases
+    → Reads bases image
 reads [] image size whole = record { none = refl; image_is = sym (empty image size) }
   where
     empty : (image : List ℕ) → length image ≡ 0 → image ≡ []
@@ -142,7 +163,8 @@ reads (base ∷ bases) image size whole =
     let rest = reads bases (drop 64 image) (omega (arith, size, length-drop {A = ℕ} 64 image)) whole.1 in
     let more = reads-more (bytes_eq (take 64 image) base) (take 64 image) base (drop 64 image) bases
     (differences (first_pages (length bases) (drop 64 image)) bases)
-    (flagged (differences (first_pages (length bases) (drop 64 image)) bases) (first_pages (length bases) (drop 64 image)))
+    (flagged (differences (first_pages (length bases) (drop 64 image)) bases)
+    (first_pages (length bases) (drop 64 image)))
     refl (omega (arith, size, length-take {A = ℕ} 64 image)) rest.none rest.image_is in
     record { none = more.0; image_is = more.1 ∙ take-append-drop 64 image }
 

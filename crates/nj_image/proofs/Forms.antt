@@ -29,7 +29,8 @@ pub record IsOf (flags : List Bool) (base bytes image : List ℕ) : Type 0 where
   pub flags_are : flags_of image base ≡ flags
   pub bytes_are : flagged flags (pages image) ≡ bytes
 
-pub image-of : (flags : List Bool) (base bytes : List ℕ) → IsImageSize base → length flags ≡ page_count base → stop flags (pages base) bytes ≡ None →
+pub image-of : (flags : List Bool) (base bytes : List ℕ) → IsImageSize base → length flags ≡ page_count base
+    → stop flags (pages base) bytes ≡ None →
     IsOf flags base bytes (merged flags (pages base) bytes)
 image-of flags base bytes size count none =
     let n = page_count base in
@@ -45,8 +46,10 @@ image-of flags base bytes size count none =
     }
 
 -- bytes that have the form of a packing are one
-pub whole-packing : (base bytes : List ℕ) → IsImageSize base → stop (replicate (page_count base) true) (pages base) bytes ≡ None →
-    (length (merged (replicate (page_count base) true) (pages base) bytes) ≡ length base) × (packing (merged (replicate (page_count base) true) (pages base) bytes) base ≡ 0 ∷ bytes)
+pub whole-packing : (base bytes : List ℕ) → IsImageSize base
+    → stop (replicate (page_count base) true) (pages base) bytes ≡ None →
+    (length (merged (replicate (page_count base) true) (pages base) bytes) ≡ length base)
+    × (packing (merged (replicate (page_count base) true) (pages base) bytes) base ≡ 0 ∷ bytes)
 whole-packing base bytes size none =
     let n = page_count base in
     let of = image-of (replicate n true) base bytes size (length-replicate {A = Bool} n true) none in
@@ -54,11 +57,14 @@ whole-packing base bytes size none =
       of.size,
       packing-all (merged (replicate n true) (pages base) bytes) base (ap all_of of.flags_are ∙ all-replicate n)
           ∙ ap (λ image. 0 ∷ image) (ap (λ k. merged (replicate k true) (pages base) bytes) counted
-          ∙ merged-every (pages base) bytes (ap (λ k. stop (replicate k true) (pages base) bytes) (sym counted) ∙ none)),
+          ∙ merged-every (pages base) bytes (ap (λ k. stop (replicate k true) (pages base) bytes) (sym counted)
+          ∙ none)),
     )
 
-pub mask-packing : (flags : List Bool) (base bytes : List ℕ) → IsImageSize base → length flags ≡ page_count base → all_of flags ≡ false → stop flags (pages base) bytes ≡ None →
-    (length (merged flags (pages base) bytes) ≡ length base) × (packing (merged flags (pages base) bytes) base ≡ 1 ∷ (mask_bytes (mask_size base) flags ++ bytes))
+pub mask-packing : (flags : List Bool) (base bytes : List ℕ) → IsImageSize base → length flags ≡ page_count base
+    → all_of flags ≡ false → stop flags (pages base) bytes ≡ None →
+    (length (merged flags (pages base) bytes) ≡ length base)
+    × (packing (merged flags (pages base) bytes) base ≡ 1 ∷ (mask_bytes (mask_size base) flags ++ bytes))
 unfolding mask_of
 mask-packing flags base bytes size count some none =
     let of = image-of flags base bytes size count none in
@@ -84,15 +90,21 @@ pub record MaskForm (base bytes : List ℕ) : Type 0 where
   pub none : stop flags (pages base) rest ≡ None
 
 pub image-reads : (image base : List ℕ) → IsImageSize base → length image ≡ length base →
-    (stop (flags_of image base) (pages base) (flagged (flags_of image base) (pages image)) ≡ None) × (merged (flags_of image base) (pages base) (flagged (flags_of image base) (pages image)) ≡ image)
+    (stop (flags_of image base) (pages base) (flagged (flags_of image base) (pages image)) ≡ None)
+    × (merged (flags_of image base) (pages base) (flagged (flags_of image base) (pages image)) ≡ image)
 image-reads image base size same =
-    let number : length (pages base) ≡ page_count image = count-pages (page_count base) base ∙ ap (λ k. k / 64) (sym same) in
-    let read = reads (pages base) image (omega (arith, same, count-pages (page_count base) base, (whole base size).pages)) (base-whole base size) in (
-      subst (λ k. stop (differences (first_pages k image) (pages base)) (pages base) (flagged (differences (first_pages k image) (pages base)) (first_pages k image)) ≡ None) number read.none,
-      subst (λ k. merged (differences (first_pages k image) (pages base)) (pages base) (flagged (differences (first_pages k image) (pages base)) (first_pages k image)) ≡ image) number read.image_is,
+    let number : length (pages base) ≡ page_count image = count-pages (page_count base) base
+    ∙ ap (λ k. k / 64) (sym same) in
+    let read = reads (pages base) image
+    (omega (arith, same, count-pages (page_count base) base, (whole base size).pages)) (base-whole base size) in (
+      subst (λ k. stop (differences (first_pages k image) (pages base)) (pages base)
+          (flagged (differences (first_pages k image) (pages base)) (first_pages k image)) ≡ None) number read.none,
+      subst (λ k. merged (differences (first_pages k image) (pages base)) (pages base) (flagged
+          (differences (first_pages k image) (pages base)) (first_pages k image)) ≡ image) number read.image_is,
     )
 
-pub form-of : (base bytes : List ℕ) → IsImageSize base → IsPacking base bytes → WholeForm base bytes ⊎ MaskForm base bytes
+pub form-of : (base bytes : List ℕ) → IsImageSize base → IsPacking base bytes
+    → WholeForm base bytes ⊎ MaskForm base bytes
 unfolding IsPacking mask_of
 form-of base bytes size is = go (all_of (flags_of is.0 base)) refl
   where
@@ -102,11 +114,15 @@ form-of base bytes size is = go (all_of (flags_of is.0 base)) refl
         let flags : flags_of is.0 base ≡ replicate (page_count base) true =
         replicate-all (flags_of is.0 base) all ∙ ap (λ k. replicate k true) (count-flags is.0 base same) in
         let read = image-reads is.0 base size same in
-        let none : stop (replicate (page_count base) true) (pages base) (flagged (replicate (page_count base) true) (pages is.0)) ≡ None =
+        let none : stop (replicate (page_count base) true) (pages base)
+        (flagged (replicate (page_count base) true) (pages is.0)) ≡ None =
         subst (λ f. stop f (pages base) (flagged f (pages is.0)) ≡ None) flags read.0 in
         let image : flagged (replicate (page_count base) true) (pages is.0) ≡ is.0 =
-        sym (ap (λ k. merged (replicate k true) (pages base) (flagged (replicate (page_count base) true) (pages is.0))) (sym (count-pages (page_count base) base))
-        ∙ merged-every (pages base) (flagged (replicate (page_count base) true) (pages is.0)) (ap (λ k. stop (replicate k true) (pages base) (flagged (replicate (page_count base) true) (pages is.0))) (count-pages (page_count base) base) ∙ none))
+        sym (ap (λ k. merged (replicate k true) (pages base) (flagged (replicate (page_count base) true) (pages is.0)))
+        (sym (count-pages (page_count base) base))
+        ∙ merged-every (pages base) (flagged (replicate (page_count base) true) (pages is.0))
+        (ap (λ k. stop (replicate k true) (pages base) (flagged (replicate (page_count base) true) (pages is.0)))
+        (count-pages (page_count base) base) ∙ none))
         ∙ subst (λ f. merged f (pages base) (flagged f (pages is.0)) ≡ is.0) flags read.1 in
         inl (record {
           rest = is.0;

@@ -31,7 +31,8 @@ pub byte-pages : (n : ℕ) (memory : List ℕ) → AreBytes memory → AreBytePa
 byte-pages zero memory is = tt
 byte-pages (suc n) memory is = (bytes-take 64 memory is, byte-pages n (drop 64 memory) (bytes-drop 64 memory is))
 
-pub merged-bytes : (flags : List Bool) (bases : List (List ℕ)) (bytes : List ℕ) → AreBytePages bases → AreBytes bytes → AreBytes (merged flags bases bytes)
+pub merged-bytes : (flags : List Bool) (bases : List (List ℕ)) (bytes : List ℕ) → AreBytePages bases → AreBytes bytes
+    → AreBytes (merged flags bases bytes)
 merged-bytes flags [] bytes pages is = none flags
   where
     none : (flags : List Bool) → AreBytes (merged flags [] bytes)
@@ -39,5 +40,7 @@ merged-bytes flags [] bytes pages is = none flags
     none (flag ∷ flags) = tt
 merged-bytes [] (base ∷ bases) bytes pages is = tt
 merged-bytes (true ∷ flags) (base ∷ bases) bytes pages is =
-    bytes-append (take 64 bytes) (merged flags bases (drop 64 bytes)) (bytes-take 64 bytes is) (merged-bytes flags bases (drop 64 bytes) pages.1 (bytes-drop 64 bytes is))
-merged-bytes (false ∷ flags) (base ∷ bases) bytes pages is = bytes-append base (merged flags bases bytes) pages.0 (merged-bytes flags bases bytes pages.1 is)
+    bytes-append (take 64 bytes) (merged flags bases (drop 64 bytes)) (bytes-take 64 bytes is)
+    (merged-bytes flags bases (drop 64 bytes) pages.1 (bytes-drop 64 bytes is))
+merged-bytes (false ∷ flags) (base ∷ bases) bytes pages is =
+    bytes-append base (merged flags bases bytes) pages.0 (merged-bytes flags bases bytes pages.1 is)

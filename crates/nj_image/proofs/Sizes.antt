@@ -12,10 +12,34 @@ pub record IsSized (base : List ℕ) (n q : ℕ) : Type 0 where
   pub some : 1 ≤ q
 
 pub sized : (base : List ℕ) → IsImageSize base → (n : ℕ) × ((q : ℕ) × IsSized base n q)
-sized base (inl e) =
-    (70, (8, record { count = ap (λ k. k / 64) e; whole = e; last = refl; mask = ap (λ k. (k / 64 + 7) / 8) e; few = omega arith; some = omega arith }))
-sized base (inr e) =
-    (198, (24, record { count = ap (λ k. k / 64) e; whole = e; last = refl; mask = ap (λ k. (k / 64 + 7) / 8) e; few = omega arith; some = omega arith }))
+sized base (inl e) = (
+  70,
+  (
+    8,
+    record {
+      count = ap (λ k. k / 64) e;
+      whole = e;
+      last = refl;
+      mask = ap (λ k. (k / 64 + 7) / 8) e;
+      few = omega arith;
+      some = omega arith;
+    },
+  ),
+)
+sized base (inr e) = (
+  198,
+  (
+    24,
+    record {
+      count = ap (λ k. k / 64) e;
+      whole = e;
+      last = refl;
+      mask = ap (λ k. (k / 64 + 7) / 8) e;
+      few = omega arith;
+      some = omega arith;
+    },
+  ),
+)
 
 -- what follows for its pages and its mask
 pub record IsWhole (base : List ℕ) : Type 0 where

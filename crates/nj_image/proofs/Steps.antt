@@ -19,16 +19,19 @@ page-get (suc n) (suc p) memory below =
     ∙ (ap (take 64) (drop-drop (64 * p) 64 memory) ∙ ap (λ k. take 64 (drop k memory)) next)
 
 -- the pages from page p on
-pub pages-from : (n p : ℕ) (memory : List ℕ) → p < n → drop p (first_pages n memory) ≡ take 64 (drop (64 * p) memory) ∷ drop (p + 1) (first_pages n memory)
+pub pages-from : (n p : ℕ) (memory : List ℕ) → p < n
+    → drop p (first_pages n memory) ≡ take 64 (drop (64 * p) memory) ∷ drop (p + 1) (first_pages n memory)
 pages-from n p memory below =
     drop_more (first_pages n memory) p [] (omega (arith, count-pages n memory))
     ∙ ap (λ page. page ∷ drop (p + 1) (first_pages n memory)) (page-get n p memory below)
 
-pub flags-from : (flags : List Bool) (p : ℕ) (flag : Bool) → p < length flags → get_or flags p false ≡ flag → drop p flags ≡ flag ∷ drop (p + 1) flags
+pub flags-from : (flags : List Bool) (p : ℕ) (flag : Bool) → p < length flags → get_or flags p false ≡ flag
+    → drop p flags ≡ flag ∷ drop (p + 1) flags
 flags-from flags p flag below is = drop_more flags p false below ∙ ap (λ f. f ∷ drop (p + 1) flags) is
 
 -- bytes that were copied to a place, up to their end
-pub copied : (at : ℕ) (part before after : List ℕ) → at + length part ≤ length before → after ≡ overwritten at part before →
+pub copied : (at : ℕ) (part before after : List ℕ) → at + length part ≤ length before
+    → after ≡ overwritten at part before →
     take (at + length part) after ≡ take at before ++ part
 copied at part before after fits is =
     let size : length (take at before ++ part) ≡ at + length part =
@@ -37,7 +40,8 @@ copied at part before after fits is =
     ∙ (ap (λ k. take k ((take at before ++ part) ++ drop (at + length part) before)) (sym size)
     ∙ take-append_seam (take at before ++ part) (drop (at + length part) before))
 
-pub copied-size : (at : ℕ) (part before after : List ℕ) → at + length part ≤ length before → after ≡ overwritten at part before → length after ≡ length before
+pub copied-size : (at : ℕ) (part before after : List ℕ) → at + length part ≤ length before
+    → after ≡ overwritten at part before → length after ≡ length before
 copied-size at part before after fits is =
     ap length is
     ∙ omega (
@@ -49,22 +53,33 @@ copied-size at part before after fits is =
     )
 
 -- flagged pages that were written, and those from page p on that are left, are all the flagged pages
-pub record IsWritten (flags : List Bool) (pages : List (List ℕ)) (start : ℕ) (before : List ℕ) (p at : ℕ) (into : List ℕ) : Type 0 where
+pub record IsWritten (flags : List Bool) (pages : List (List ℕ)) (start : ℕ) (before : List ℕ) (p at : ℕ)
+    (into : List ℕ) : Type 0 where
   pub size : length into ≡ length before
   pub room : at + length (flagged (drop p flags) (drop p pages)) ≡ start + length (flagged flags pages)
   pub bytes : take at into ++ flagged (drop p flags) (drop p pages) ≡ take start before ++ flagged flags pages
 
 -- a flagged page has room
-pub page-room : (flags : List Bool) (pages : List (List ℕ)) (start : ℕ) (before : List ℕ) (p at : ℕ) (into page : List ℕ) → IsWritten flags pages start before p at into →
-    drop p flags ≡ true ∷ drop (p + 1) flags → drop p pages ≡ page ∷ drop (p + 1) pages → start + length (flagged flags pages) ≤ length before → at + length page ≤ length into
+pub page-room : (flags : List Bool) (pages : List (List ℕ)) (start : ℕ) (before : List ℕ) (p at : ℕ)
+    (into page : List ℕ) → IsWritten flags pages start before p at into →
+    drop p flags ≡ true ∷ drop (p + 1) flags → drop p pages ≡ page ∷ drop (p + 1) pages
+    → start + length (flagged flags pages) ≤ length before → at + length page ≤ length into
 page-room flags pages start before p at into page is f q fits =
     let left : flagged (drop p flags) (drop p pages) ≡ page ++ flagged (drop (p + 1) flags) (drop (p + 1) pages) =
     ap (λ l. flagged l (drop p pages)) f ∙ ap (flagged (true ∷ drop (p + 1) flags)) q in
-    omega (arith, is.room, is.size, ap length left, length-append page (flagged (drop (p + 1) flags) (drop (p + 1) pages)))
+    omega (
+      arith,
+      is.room,
+      is.size,
+      ap length left,
+      length-append page (flagged (drop (p + 1) flags) (drop (p + 1) pages)),
+    )
 
 -- and is written
-pub page-written : (flags : List Bool) (pages : List (List ℕ)) (start : ℕ) (before : List ℕ) (p at : ℕ) (into page after : List ℕ) → IsWritten flags pages start before p at into →
-    drop p flags ≡ true ∷ drop (p + 1) flags → drop p pages ≡ page ∷ drop (p + 1) pages → start + length (flagged flags pages) ≤ length before →
+pub page-written : (flags : List Bool) (pages : List (List ℕ)) (start : ℕ) (before : List ℕ) (p at : ℕ)
+    (into page after : List ℕ) → IsWritten flags pages start before p at into →
+    drop p flags ≡ true ∷ drop (p + 1) flags → drop p pages ≡ page ∷ drop (p + 1) pages
+    → start + length (flagged flags pages) ≤ length before →
     after ≡ overwritten at page into → IsWritten flags pages start before (p + 1) (at + length page) after
 page-written flags pages start before p at into page after is f q fits written =
     let left : flagged (drop p flags) (drop p pages) ≡ page ++ flagged (drop (p + 1) flags) (drop (p + 1) pages) =
@@ -72,7 +87,12 @@ page-written flags pages start before p at into page after is f q fits written =
     let room = page-room flags pages start before p at into page is f q fits in
     record {
       size = copied-size at page into after room written ∙ is.size;
-      room = omega (arith, is.room, ap length left, length-append page (flagged (drop (p + 1) flags) (drop (p + 1) pages)));
+      room = omega (
+        arith,
+        is.room,
+        ap length left,
+        length-append page (flagged (drop (p + 1) flags) (drop (p + 1) pages)),
+      );
       bytes =
           ap (λ l. l ++ flagged (drop (p + 1) flags) (drop (p + 1) pages)) (copied at page into after room written)
           ∙ (append_assoc (take at into) page (flagged (drop (p + 1) flags) (drop (p + 1) pages))
@@ -80,8 +100,10 @@ page-written flags pages start before p at into page after is f q fits written =
     }
 
 -- a page that is not flagged is passed over
-pub page-skipped : (flags : List Bool) (pages : List (List ℕ)) (start : ℕ) (before : List ℕ) (p at : ℕ) (into page : List ℕ) → IsWritten flags pages start before p at into →
-    drop p flags ≡ false ∷ drop (p + 1) flags → drop p pages ≡ page ∷ drop (p + 1) pages → IsWritten flags pages start before (p + 1) at into
+pub page-skipped : (flags : List Bool) (pages : List (List ℕ)) (start : ℕ) (before : List ℕ) (p at : ℕ)
+    (into page : List ℕ) → IsWritten flags pages start before p at into →
+    drop p flags ≡ false ∷ drop (p + 1) flags → drop p pages ≡ page ∷ drop (p + 1) pages
+    → IsWritten flags pages start before (p + 1) at into
 page-skipped flags pages start before p at into page is f q =
     let left : flagged (drop p flags) (drop p pages) ≡ flagged (drop (p + 1) flags) (drop (p + 1) pages) =
     ap (λ l. flagged l (drop p pages)) f ∙ ap (flagged (false ∷ drop (p + 1) flags)) q in
@@ -96,19 +118,27 @@ none-flagged : (flags : List Bool) → flagged flags [] ≡ []
 none-flagged [] = refl
 none-flagged (flag ∷ flags) = refl
 
-pub all-written : (flags : List Bool) (pages : List (List ℕ)) (start : ℕ) (before : List ℕ) (p at : ℕ) (into : List ℕ) → IsWritten flags pages start before p at into →
-    length pages ≤ p → (take at into ≡ take start before ++ flagged flags pages) × (at ≡ start + length (flagged flags pages))
+pub all-written : (flags : List Bool) (pages : List (List ℕ)) (start : ℕ) (before : List ℕ) (p at : ℕ) (into : List ℕ)
+    → IsWritten flags pages start before p at into →
+    length pages ≤ p → (take at into ≡ take start before ++ flagged flags pages)
+    × (at ≡ start + length (flagged flags pages))
 all-written flags pages start before p at into is past =
-    let left : flagged (drop p flags) (drop p pages) ≡ [] = ap (flagged (drop p flags)) (drop_all p pages past) ∙ none-flagged (drop p flags) in
-    (sym (ap (λ l. take at into ++ l) left ∙ append-nil (take at into)) ∙ is.bytes, omega (arith, is.room, ap length left))
+    let left : flagged (drop p flags) (drop p pages) ≡ [] = ap (flagged (drop p flags)) (drop_all p pages past)
+    ∙ none-flagged (drop p flags) in (
+      sym (ap (λ l. take at into ++ l) left ∙ append-nil (take at into)) ∙ is.bytes,
+      omega (arith, is.room, ap length left),
+    )
 
 -- the state of a reading: what is left of the pages and the bytes gives the rest
-pub record IsFilled (flags : List Bool) (bases : List (List ℕ)) (bytes : List ℕ) (first : ℕ) (p from : ℕ) (into : List ℕ) : Type 0 where
+pub record IsFilled (flags : List Bool) (bases : List (List ℕ)) (bytes : List ℕ) (first : ℕ) (p from : ℕ)
+    (into : List ℕ) : Type 0 where
   pub start : first ≤ from
   pub within : from ≤ length bytes
   pub size : length into ≡ 64 * length bases
-  pub stops : stop flags bases (drop first bytes) ≡ later (from - first) (stop (drop p flags) (drop p bases) (drop from bytes))
-  pub image : merged flags bases (drop first bytes) ≡ take (64 * p) into ++ merged (drop p flags) (drop p bases) (drop from bytes)
+  pub stops : stop flags bases (drop first bytes)
+      ≡ later (from - first) (stop (drop p flags) (drop p bases) (drop from bytes))
+  pub image : merged flags bases (drop first bytes)
+      ≡ take (64 * p) into ++ merged (drop p flags) (drop p bases) (drop from bytes)
 
 -- bytes end within a flagged page
 cond-is : {A : Type 0} (b : Bool) (x y : A) → b ≡ true → cond b x y ≡ x
@@ -125,46 +155,61 @@ later-twice m n None = refl
 later-twice m n (Some at) = ap Some (omega arith)
 
 -- the rest of a reading at a flagged page, and at another
-pub at-flagged : (flags : List Bool) (bases : List (List ℕ)) (bytes : List ℕ) (first p from : ℕ) (into base : List ℕ) → IsFilled flags bases bytes first p from into →
+pub at-flagged : (flags : List Bool) (bases : List (List ℕ)) (bytes : List ℕ) (first p from : ℕ) (into base : List ℕ)
+    → IsFilled flags bases bytes first p from into →
     drop p flags ≡ true ∷ drop (p + 1) flags → drop p bases ≡ base ∷ drop (p + 1) bases →
-    stop flags bases (drop first bytes) ≡ later (from - first) (stop (true ∷ drop (p + 1) flags) (base ∷ drop (p + 1) bases) (drop from bytes))
+    stop flags bases (drop first bytes)
+    ≡ later (from - first) (stop (true ∷ drop (p + 1) flags) (base ∷ drop (p + 1) bases) (drop from bytes))
 at-flagged flags bases bytes first p from into base is f q =
-    is.stops ∙ (ap (λ l. later (from - first) (stop l (drop p bases) (drop from bytes))) f ∙ ap (λ l. later (from - first) (stop (true ∷ drop (p + 1) flags) l (drop from bytes))) q)
+    is.stops ∙ (ap (λ l. later (from - first) (stop l (drop p bases) (drop from bytes))) f
+    ∙ ap (λ l. later (from - first) (stop (true ∷ drop (p + 1) flags) l (drop from bytes))) q)
 
-pub ends-short : (flags : List Bool) (bases : List (List ℕ)) (bytes : List ℕ) (first p from : ℕ) (into base : List ℕ) → IsFilled flags bases bytes first p from into →
+pub ends-short : (flags : List Bool) (bases : List (List ℕ)) (bytes : List ℕ) (first p from : ℕ) (into base : List ℕ)
+    → IsFilled flags bases bytes first p from into →
     drop p flags ≡ true ∷ drop (p + 1) flags → drop p bases ≡ base ∷ drop (p + 1) bases → length bytes - from < 64 →
     stop flags bases (drop first bytes) ≡ Some (length bytes - first)
 ends-short flags bases bytes first p from into base is f q short =
-    let sum : from - first + length (drop from bytes) ≡ length bytes - first = omega (arith, is.start, is.within, length-drop {A = ℕ} from bytes) in
+    let sum : from - first + length (drop from bytes) ≡ length bytes - first =
+    omega (arith, is.start, is.within, length-drop {A = ℕ} from bytes) in
     at-flagged flags bases bytes first p from into base is f q
-    ∙ (later-some (from - first) (length (drop from bytes)) _ (cond-is _ _ _ (lt-ltb (length (drop from bytes)) 64 (omega (arith, length-drop {A = ℕ} from bytes, short))))
+    ∙ (later-some (from - first) (length (drop from bytes)) _
+    (cond-is _ _ _ (lt-ltb (length (drop from bytes)) 64 (omega (arith, length-drop {A = ℕ} from bytes, short))))
     ∙ ap Some sum)
 
 -- a flagged page is the base's
-pub ends-same : (flags : List Bool) (bases : List (List ℕ)) (bytes : List ℕ) (first p from : ℕ) (into base : List ℕ) → IsFilled flags bases bytes first p from into →
+pub ends-same : (flags : List Bool) (bases : List (List ℕ)) (bytes : List ℕ) (first p from : ℕ) (into base : List ℕ)
+    → IsFilled flags bases bytes first p from into →
     drop p flags ≡ true ∷ drop (p + 1) flags → drop p bases ≡ base ∷ drop (p + 1) bases → 64 ≤ length bytes - from →
-    bytes_eq (take 64 (drop from bytes)) base ≡ true → stop flags bases (drop first bytes) ≡ Some (from + 64 - 1 - first)
+    bytes_eq (take 64 (drop from bytes)) base ≡ true
+    → stop flags bases (drop first bytes) ≡ Some (from + 64 - 1 - first)
 ends-same flags bases bytes first p from into base is f q long same =
     let sum : from - first + 63 ≡ from + 64 - 1 - first = omega (arith, is.start) in
     at-flagged flags bases bytes first p from into base is f q
-    ∙ (later-some (from - first) 63 _ (cond-not _ _ _ (le-ltb (length (drop from bytes)) 64 (omega (arith, length-drop {A = ℕ} from bytes, long))) ∙ cond-is _ _ _ same)
+    ∙ (later-some (from - first) 63 _ (cond-not _ _ _ (le-ltb (length (drop from bytes)) 64
+    (omega (arith, length-drop {A = ℕ} from bytes, long))) ∙ cond-is _ _ _ same)
     ∙ ap Some sum)
 
 -- what is copied to page p
-pub page-copied : (p n : ℕ) (page into after : List ℕ) → length page ≡ 64 → length into ≡ 64 * n → p < n → after ≡ overwritten (64 * p) page into →
+pub page-copied : (p n : ℕ) (page into after : List ℕ) → length page ≡ 64 → length into ≡ 64 * n → p < n
+    → after ≡ overwritten (64 * p) page into →
     (take (64 * (p + 1)) after ≡ take (64 * p) into ++ page) × (length after ≡ 64 * n)
 page-copied p n page into after wide size below is =
     let fits : 64 * p + length page ≤ length into = omega (arith, wide, size) in
-    let end : 64 * (p + 1) ≡ 64 * p + length page = omega (arith, wide) in
-    (ap (λ k. take k after) end ∙ copied (64 * p) page into after fits is, copied-size (64 * p) page into after fits is ∙ size)
+    let end : 64 * (p + 1) ≡ 64 * p + length page = omega (arith, wide) in (
+      ap (λ k. take k after) end ∙ copied (64 * p) page into after fits is,
+      copied-size (64 * p) page into after fits is ∙ size,
+    )
 
 -- a flagged page is taken
-pub page-taken : (flags : List Bool) (bases : List (List ℕ)) (bytes : List ℕ) (first p from : ℕ) (into base after : List ℕ) → IsFilled flags bases bytes first p from into →
-    drop p flags ≡ true ∷ drop (p + 1) flags → drop p bases ≡ base ∷ drop (p + 1) bases → 64 ≤ length bytes - from → p < length bases →
+pub page-taken : (flags : List Bool) (bases : List (List ℕ)) (bytes : List ℕ) (first p from : ℕ)
+    (into base after : List ℕ) → IsFilled flags bases bytes first p from into →
+    drop p flags ≡ true ∷ drop (p + 1) flags → drop p bases ≡ base ∷ drop (p + 1) bases → 64 ≤ length bytes - from
+    → p < length bases →
     bytes_eq (take 64 (drop from bytes)) base ≡ false → after ≡ overwritten (64 * p) (take 64 (drop from bytes)) into →
     IsFilled flags bases bytes first (p + 1) (from + 64) after
 page-taken flags bases bytes first p from into base after is f q long below other put =
-    let wide : length (take 64 (drop from bytes)) ≡ 64 = omega (arith, length-take {A = ℕ} 64 (drop from bytes), length-drop {A = ℕ} from bytes, long) in
+    let wide : length (take 64 (drop from bytes)) ≡ 64 =
+    omega (arith, length-take {A = ℕ} 64 (drop from bytes), length-drop {A = ℕ} from bytes, long) in
     let copy = page-copied p (length bases) (take 64 (drop from bytes)) into after wide is.size below put in
     let further : from - first + 64 ≡ from + 64 - first = omega (arith, is.start) in
     record {
@@ -173,22 +218,28 @@ page-taken flags bases bytes first p from into base after is f q long below othe
       size = copy.1;
       stops =
           at-flagged flags bases bytes first p from into base is f q
-          ∙ (ap (later (from - first)) (cond-not _ _ _ (le-ltb (length (drop from bytes)) 64 (omega (arith, length-drop {A = ℕ} from bytes, long))) ∙ cond-not _ _ _ other)
+          ∙ (ap (later (from - first)) (cond-not _ _ _ (le-ltb (length (drop from bytes)) 64
+          (omega (arith, length-drop {A = ℕ} from bytes, long))) ∙ cond-not _ _ _ other)
           ∙ (later-twice (from - first) 64 (stop (drop (p + 1) flags) (drop (p + 1) bases) (drop 64 (drop from bytes)))
           ∙ (ap (λ k. later k (stop (drop (p + 1) flags) (drop (p + 1) bases) (drop 64 (drop from bytes)))) further
-          ∙ ap (λ l. later (from + 64 - first) (stop (drop (p + 1) flags) (drop (p + 1) bases) l)) (drop-drop 64 from bytes))));
+          ∙ ap (λ l. later (from + 64 - first) (stop (drop (p + 1) flags) (drop (p + 1) bases) l))
+          (drop-drop 64 from bytes))));
       image =
           is.image
           ∙ (ap (λ l. take (64 * p) into ++ merged l (drop p bases) (drop from bytes)) f
           ∙ (ap (λ l. take (64 * p) into ++ merged (true ∷ drop (p + 1) flags) l (drop from bytes)) q
-          ∙ (sym (append_assoc (take (64 * p) into) (take 64 (drop from bytes)) (merged (drop (p + 1) flags) (drop (p + 1) bases) (drop 64 (drop from bytes))))
+          ∙ (sym (append_assoc (take (64 * p) into) (take 64 (drop from bytes))
+          (merged (drop (p + 1) flags) (drop (p + 1) bases) (drop 64 (drop from bytes))))
           ∙ (ap (λ l. l ++ merged (drop (p + 1) flags) (drop (p + 1) bases) (drop 64 (drop from bytes))) (sym copy.0)
-          ∙ ap (λ l. take (64 * (p + 1)) after ++ merged (drop (p + 1) flags) (drop (p + 1) bases) l) (drop-drop 64 from bytes)))));
+          ∙ ap (λ l. take (64 * (p + 1)) after ++ merged (drop (p + 1) flags) (drop (p + 1) bases) l)
+          (drop-drop 64 from bytes)))));
     }
 
 -- another page is the base's
-pub page-kept : (flags : List Bool) (bases : List (List ℕ)) (bytes : List ℕ) (first p from : ℕ) (into base after : List ℕ) → IsFilled flags bases bytes first p from into →
-    drop p flags ≡ false ∷ drop (p + 1) flags → drop p bases ≡ base ∷ drop (p + 1) bases → p < length bases → length base ≡ 64 →
+pub page-kept : (flags : List Bool) (bases : List (List ℕ)) (bytes : List ℕ) (first p from : ℕ)
+    (into base after : List ℕ) → IsFilled flags bases bytes first p from into →
+    drop p flags ≡ false ∷ drop (p + 1) flags → drop p bases ≡ base ∷ drop (p + 1) bases → p < length bases
+    → length base ≡ 64 →
     after ≡ overwritten (64 * p) base into → IsFilled flags bases bytes first (p + 1) from after
 page-kept flags bases bytes first p from into base after is f q below wide put =
     let copy = page-copied p (length bases) base into after wide is.size below put in
@@ -196,12 +247,14 @@ page-kept flags bases bytes first p from into base after is f q below wide put =
       start = is.start;
       within = is.within;
       size = copy.1;
-      stops = is.stops ∙ (ap (λ l. later (from - first) (stop l (drop p bases) (drop from bytes))) f ∙ ap (λ l. later (from - first) (stop (false ∷ drop (p + 1) flags) l (drop from bytes))) q);
+      stops = is.stops ∙ (ap (λ l. later (from - first) (stop l (drop p bases) (drop from bytes))) f
+          ∙ ap (λ l. later (from - first) (stop (false ∷ drop (p + 1) flags) l (drop from bytes))) q);
       image =
           is.image
           ∙ (ap (λ l. take (64 * p) into ++ merged l (drop p bases) (drop from bytes)) f
           ∙ (ap (λ l. take (64 * p) into ++ merged (false ∷ drop (p + 1) flags) l (drop from bytes)) q
-          ∙ (sym (append_assoc (take (64 * p) into) base (merged (drop (p + 1) flags) (drop (p + 1) bases) (drop from bytes)))
+          ∙ (sym (append_assoc (take (64 * p) into) base
+          (merged (drop (p + 1) flags) (drop (p + 1) bases) (drop from bytes)))
           ∙ ap (λ l. l ++ merged (drop (p + 1) flags) (drop (p + 1) bases) (drop from bytes)) (sym copy.0))));
     }
 
@@ -214,23 +267,31 @@ last-merged : (flags : List Bool) (bytes : List ℕ) → merged flags [] bytes �
 last-merged [] bytes = refl
 last-merged (flag ∷ flags) bytes = refl
 
-at-last : (flags : List Bool) (bases : List (List ℕ)) (bytes : List ℕ) (first p from : ℕ) (into : List ℕ) → IsFilled flags bases bytes first p from into →
-    length bases ≤ p → stop flags bases (drop first bytes) ≡ later (from - first) (cond (length (drop from bytes) == 0) None (Some 0))
+at-last : (flags : List Bool) (bases : List (List ℕ)) (bytes : List ℕ) (first p from : ℕ) (into : List ℕ)
+    → IsFilled flags bases bytes first p from into →
+    length bases ≤ p → stop flags bases (drop first bytes)
+    ≡ later (from - first) (cond (length (drop from bytes) == 0) None (Some 0))
 at-last flags bases bytes first p from into is past =
-    is.stops ∙ ap (later (from - first)) (ap (λ l. stop (drop p flags) l (drop from bytes)) (drop_all p bases past) ∙ last-stop (drop p flags) (drop from bytes))
+    is.stops ∙ ap (later (from - first)) (ap (λ l. stop (drop p flags) l (drop from bytes)) (drop_all p bases past)
+    ∙ last-stop (drop p flags) (drop from bytes))
 
-pub ends-behind : (flags : List Bool) (bases : List (List ℕ)) (bytes : List ℕ) (first p from : ℕ) (into : List ℕ) → IsFilled flags bases bytes first p from into →
+pub ends-behind : (flags : List Bool) (bases : List (List ℕ)) (bytes : List ℕ) (first p from : ℕ) (into : List ℕ)
+    → IsFilled flags bases bytes first p from into →
     length bases ≤ p → from < length bytes → stop flags bases (drop first bytes) ≡ Some (from - first)
 ends-behind flags bases bytes first p from into is past more =
     let sum : from - first + 0 ≡ from - first = omega arith in
     at-last flags bases bytes first p from into is past
-    ∙ (later-some (from - first) 0 _ (cond-not _ _ _ (ne_eqb (length (drop from bytes)) 0 (λ h. omega (arith, h, length-drop {A = ℕ} from bytes, more)))) ∙ ap Some sum)
+    ∙ (later-some (from - first) 0 _ (cond-not _ _ _ (ne_eqb (length (drop from bytes)) 0
+    (λ h. omega (arith, h, length-drop {A = ℕ} from bytes, more)))) ∙ ap Some sum)
 
-pub ends-well : (flags : List Bool) (bases : List (List ℕ)) (bytes : List ℕ) (first p from : ℕ) (into : List ℕ) → IsFilled flags bases bytes first p from into →
-    length bases ≤ p → length bytes ≤ from → (stop flags bases (drop first bytes) ≡ None) × (into ≡ merged flags bases (drop first bytes))
+pub ends-well : (flags : List Bool) (bases : List (List ℕ)) (bytes : List ℕ) (first p from : ℕ) (into : List ℕ)
+    → IsFilled flags bases bytes first p from into →
+    length bases ≤ p → length bytes ≤ from → (stop flags bases (drop first bytes) ≡ None)
+    × (into ≡ merged flags bases (drop first bytes))
 ends-well flags bases bytes first p from into is past all = (
   at-last flags bases bytes first p from into is past
-      ∙ ap (later (from - first)) (cond-is _ _ _ (eq-eqb (length (drop from bytes)) 0 (omega (arith, length-drop {A = ℕ} from bytes, all)))),
+      ∙ ap (later (from - first))
+      (cond-is _ _ _ (eq-eqb (length (drop from bytes)) 0 (omega (arith, length-drop {A = ℕ} from bytes, all)))),
   sym (is.image
       ∙ (ap (λ l. take (64 * p) into ++ merged (drop p flags) l (drop from bytes)) (drop_all p bases past)
       ∙ (ap (λ l. take (64 * p) into ++ l) (last-merged (drop p flags) (drop from bytes))
@@ -242,7 +303,8 @@ pub slice-page : (memory : List ℕ) (at : ℕ) → take (at + 64 - at) (drop at
 slice-page memory at = let width : at + 64 - at ≡ 64 = omega arith in ap (λ k. take k (drop at memory)) width
 
 -- what a comparison of two such parts tells
-pub compared : (r b : Bool) (one two : List ℕ) (from at : ℕ) → r ≡ not (bytes_eq (take (from + 64 - from) (drop from one)) (take (at + 64 - at) (drop at two))) → r ≡ not b →
+pub compared : (r b : Bool) (one two : List ℕ) (from at : ℕ)
+    → r ≡ not (bytes_eq (take (from + 64 - from) (drop from one)) (take (at + 64 - at) (drop at two))) → r ≡ not b →
     bytes_eq (take 64 (drop from one)) (take 64 (drop at two)) ≡ b
 compared r b one two from at is told =
     ap (λ l. bytes_eq l (take 64 (drop at two))) (sym (slice-page one from))
@@ -255,7 +317,8 @@ compared r b one two from at is told =
     back false false e = refl
 
 -- before the first page
-pub begun-filled : (flags : List Bool) (bases : List (List ℕ)) (bytes : List ℕ) (first : ℕ) (into : List ℕ) → first ≤ length bytes → length into ≡ 64 * length bases →
+pub begun-filled : (flags : List Bool) (bases : List (List ℕ)) (bytes : List ℕ) (first : ℕ) (into : List ℕ)
+    → first ≤ length bytes → length into ≡ 64 * length bases →
     IsFilled flags bases bytes first 0 first into
 begun-filled flags bases bytes first into within size =
     let none : 0 ≡ first - first = omega arith in
@@ -263,7 +326,8 @@ begun-filled flags bases bytes first into within size =
       start = omega arith;
       within = within;
       size = size;
-      stops = sym (later-zero (stop flags bases (drop first bytes))) ∙ ap (λ k. later k (stop flags bases (drop first bytes))) none;
+      stops = sym (later-zero (stop flags bases (drop first bytes)))
+          ∙ ap (λ k. later k (stop flags bases (drop first bytes))) none;
       image = refl;
     }
   where

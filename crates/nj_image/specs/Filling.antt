@@ -14,8 +14,8 @@ abbrev pub later : ℕ → Option ℕ → Option ℕ
 later n None = None
 later n (Some at) = Some (n + at)
 
--- where bytes cease to be flagged pages that differ from the base's: where they end too early, at the last byte of a page
--- that is the base's, or behind the last page
+-- where bytes cease to be flagged pages that differ from the base's: where they end too early, at the last byte of a
+-- page that is the base's, or behind the last page
 abbrev pub stop : List Bool → List (List ℕ) → List ℕ → Option ℕ
 stop flags [] bytes = if length bytes == 0 then None else Some 0
 stop [] (base ∷ bases) bytes = if length bytes == 0 then None else Some 0

@@ -20,8 +20,8 @@ packing image base =
     if all_of (flags_of image base) then 0 ∷ image
     else 1 ∷ (mask_of image base ++ flagged (flags_of image base) (pages image))
 
--- the image that a packing tells: behind a 0 it stands itself; else the pages that the mask flags stand behind the mask, in
--- their order, and the others are the base's
+-- the image that a packing tells: behind a 0 it stands itself; else the pages that the mask flags stand behind the
+-- mask, in their order, and the others are the base's
 unfoldable pub unpacked : List ℕ → List ℕ → List ℕ
 unpacked base [] = []
 unpacked base (first ∷ rest) =
@@ -35,7 +35,8 @@ AreBytes (byte ∷ bytes) = (byte < 256) × AreBytes bytes
 
 -- bytes are the packing of some image over a base
 unfoldable pub IsPacking : List ℕ → List ℕ → Type 0
-IsPacking base bytes = (image : List ℕ) × ((length image ≡ length base) × (AreBytes image × (packing image base ≡ bytes)))
+IsPacking base bytes =
+    (image : List ℕ) × ((length image ≡ length base) × (AreBytes image × (packing image base ≡ bytes)))
 
 -- bytes with which some packing begins
 unfoldable pub IsBeginning : List ℕ → List ℕ → Type 0

@@ -14,10 +14,11 @@ abbrev pub first_pages : ℕ → List ℕ → List (List ℕ)
 first_pages zero memory = []
 first_pages (suc n) memory = take 64 memory ∷ first_pages n (drop 64 memory)
 
--- the number of pages of a memory, and the pages
+-- the number of pages of a memory
 abbrev pub page_count : List ℕ → ℕ
 page_count memory = length memory / 64
 
+-- the pages of a memory, in order
 abbrev pub pages : List ℕ → List (List ℕ)
 pages memory = first_pages (page_count memory) memory
 
@@ -36,10 +37,11 @@ mask_bytes (suc n) flags = mask_l (take 8 flags) ∷ mask_bytes n (drop 8 flags)
 abbrev pub mask_size : List ℕ → ℕ
 mask_size base = (page_count base + 7) / 8
 
--- the flags of an image's pages, and the mask that they make
+-- the flags of an image's pages: which of them differ from the base's
 abbrev pub flags_of : List ℕ → List ℕ → List Bool
 flags_of image base = differences (pages image) (pages base)
 
+-- the mask that the flags of an image's pages make
 unfoldable pub mask_of : List ℕ → List ℕ → List ℕ
 mask_of image base = mask_bytes (mask_size base) (flags_of image base)
 

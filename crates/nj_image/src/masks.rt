@@ -74,7 +74,8 @@ pub fn page_mask(image: &[u8], base: &[u8], mask: &mut [u8])
     requires image { length image.now ≡ length base.now }
     requires mask { length mask.old ≡ mask_size base.now }
     ensures mask { mask.new ≡ mask_of image.now base.now }
-    ensures pages { (p : ℕ) → p < page_count base.now → (flag_in mask.new p ≡ true) ↔ (page_at image.now p ≢ page_at base.now p) }
+    ensures pages { (p : ℕ) → p < page_count base.now
+        → (flag_in mask.new p ≡ true) ↔ (page_at image.now p ≢ page_at base.now p) }
 {
     for place in 0..mask.len() {
         mask[place] = mask_byte(image, base, 8 * place);

@@ -27,8 +27,10 @@ fn place(into: &mut [u8], at: usize, bytes: &[u8])
 // Writes the flagged pages of an image, one behind the other, and tells where they end.
 fn put_flagged(image: &[u8], mask: &[u8], start: usize, into: &mut [u8]) -> usize
     requires mask { page_count image.now ≤ 8 * length mask.now }
-    requires room { start + length (flagged (flags_in (page_count image.now) mask.now) (pages image.now)) ≤ length into.old }
-    ensures bytes { take result into.new ≡ take start into.old ++ flagged (flags_in (page_count image.now) mask.now) (pages image.now) }
+    requires room { start + length (flagged (flags_in (page_count image.now) mask.now) (pages image.now))
+        ≤ length into.old }
+    ensures bytes { take result into.new
+        ≡ take start into.old ++ flagged (flags_in (page_count image.now) mask.now) (pages image.now) }
     ensures len { length into.new ≡ length into.old }
     ensures end { result ≡ start + length (flagged (flags_in (page_count image.now) mask.now) (pages image.now)) }
 {
@@ -77,7 +79,11 @@ fn fill(
     requires mask { page_count base.now ≤ 8 * length mask.now }
     requires pages { 64 * page_count base.now ≡ length base.now }
     requires image { length into.old ≡ length base.now }
-    ensures { MatchResult result (λ _. (stop (flags_in (page_count base.now) mask.now) (pages base.now) (drop start bytes.now) ≡ None) × (into.new ≡ merged (flags_in (page_count base.now) mask.now) (pages base.now) (drop start bytes.now))) (λ damaged. stop (flags_in (page_count base.now) mask.now) (pages base.now) (drop start bytes.now) ≡ Some (damaged.at - start) × (start ≤ damaged.at)) }
+    ensures { MatchResult result
+        (λ _. (stop (flags_in (page_count base.now) mask.now) (pages base.now) (drop start bytes.now) ≡ None)
+        × (into.new ≡ merged (flags_in (page_count base.now) mask.now) (pages base.now) (drop start bytes.now)))
+        (λ damaged. stop (flags_in (page_count base.now) mask.now) (pages base.now) (drop start bytes.now)
+        ≡ Some (damaged.at - start) × (start ≤ damaged.at)) }
 {
     let mut from = start;
     for page in 0..base.len() / PAGE {
@@ -110,7 +116,8 @@ fn fill(
 pub fn unpack(bytes: &[u8], base: &[u8], into: &mut [u8]) -> Result<(), Damaged>
     requires base { IsImageSize base.now }
     requires image { length into.old ≡ length base.now }
-    ensures { MatchResult result (λ _. (length into.new ≡ length base.now) × (packing into.new base.now ≡ bytes.now)) (λ damaged. IsDamagedAt base.now bytes.now damaged.at) }
+    ensures { MatchResult result (λ _. (length into.new ≡ length base.now)
+        × (packing into.new base.now ≡ bytes.now)) (λ damaged. IsDamagedAt base.now bytes.now damaged.at) }
 {
     let pages = base.len() / PAGE;
     let size = (pages + 7) / 8;

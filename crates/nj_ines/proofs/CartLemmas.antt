@@ -8,7 +8,8 @@ use Rattle.nj_ines.specs.Header.{mapper_of, chr_units_of, prg_units_of, prg_end}
 use Rattle.nj_ines.specs.Reading.{is_board, has_prg, has_chr, contents_of, IsReadable}
 
 -- a piece of the file is as long as its places are apart
-length-piece : (file : List ℕ) (from to size : ℕ) → to ≤ length file → from + size ≡ to → length (slice_range file from to) ≡ size
+length-piece : (file : List ℕ) (from to size : ℕ) → to ≤ length file → from + size ≡ to
+    → length (slice_range file from to) ≡ size
 length-piece file from to size fits ends = grind (arith, length-drop {A = ℕ}, length-take {A = ℕ})
 
 -- a test of two or more values tells the last or the others
@@ -29,7 +30,10 @@ three-of a m n o is =
 four-of : (a m n o p : ℕ) → (a == m || a == n || a == o || a == p) ≡ true → (a ≡ m) ⊎ ((a ≡ n) ⊎ ((a ≡ o) ⊎ (a ≡ p)))
 four-of a m n o p is =
     elim (last-of (a == m || a == n || a == o) a p is) [
-      | inl h ↦ elim (three-of a m n o h) [ inl e ↦ inl e | inr other ↦ elim other [ inl e ↦ inr (inl e) | inr e ↦ inr (inr (inl e)) ] ]
+      | inl h ↦ elim (three-of a m n o h) [
+        | inl e ↦ inl e
+        | inr other ↦ elim other [ inl e ↦ inr (inl e) | inr e ↦ inr (inr (inl e)) ]
+      ]
       | inr e ↦ inr (inr (inr e))
     ]
 
@@ -57,25 +61,31 @@ many-chr n is = three-of n 1 2 4 is
 
 -- the program memory has whole units
 length-prg : (file : List ℕ) → IsReadable file → length (slice_range file 16 (prg_end file)) ≡ 16384 * prg_units_of file
-length-prg file readable = length-piece file 16 (prg_end file) (16384 * prg_units_of file) (omega (arith, readable.whole)) refl
+length-prg file readable =
+    length-piece file 16 (prg_end file) (16384 * prg_units_of file) (omega (arith, readable.whole)) refl
 
 -- pattern RAM has 8 KiB, pattern ROM whole units
 length-ram : (file : List ℕ) → IsReadable file → chr_units_of file ≡ 0 → length (contents_of file).chr ≡ 8192
 unfolding contents_of
 length-ram file readable none = rw none refl
 
-length-rom : (file : List ℕ) (n : ℕ) → IsReadable file → chr_units_of file ≡ n → (n == 0) ≡ false → length (contents_of file).chr ≡ 8192 * n
+length-rom : (file : List ℕ) (n : ℕ) → IsReadable file → chr_units_of file ≡ n → (n == 0) ≡ false
+    → length (contents_of file).chr ≡ 8192 * n
 unfolding contents_of
 length-rom file n readable is some =
-    ap length (ap (λ b. cond b (replicate 8192 0) (slice_range file (prg_end file) (prg_end file + 8192 * chr_units_of file))) (ap (λ k. k == 0) is ∙ some))
-    ∙ (length-piece file (prg_end file) (prg_end file + 8192 * chr_units_of file) (8192 * chr_units_of file) (omega (arith, readable.whole)) refl
+    ap length (ap (λ b. cond b (replicate 8192 0)
+    (slice_range file (prg_end file) (prg_end file + 8192 * chr_units_of file))) (ap (λ k. k == 0) is ∙ some))
+    ∙ (length-piece file (prg_end file) (prg_end file + 8192 * chr_units_of file) (8192 * chr_units_of file)
+    (omega (arith, readable.whole)) refl
     ∙ ap (λ k. 8192 * k) is)
 
-few-chr-size : (file : List ℕ) → IsReadable file → (chr_units_of file ≡ 0) ⊎ (chr_units_of file ≡ 1) → length (contents_of file).chr ≡ 8192
+few-chr-size : (file : List ℕ) → IsReadable file → (chr_units_of file ≡ 0) ⊎ (chr_units_of file ≡ 1)
+    → length (contents_of file).chr ≡ 8192
 few-chr-size file readable (inl none) = length-ram file readable none
 few-chr-size file readable (inr one) = length-rom file 1 readable one refl
 
-few-prg-size : (prg : List ℕ) (n : ℕ) → length prg ≡ 16384 * n → (n ≡ 1) ⊎ (n ≡ 2) → (length prg ≡ 16384) ⊎ (length prg ≡ 32768)
+few-prg-size : (prg : List ℕ) (n : ℕ) → length prg ≡ 16384 * n → (n ≡ 1) ⊎ (n ≡ 2)
+    → (length prg ≡ 16384) ⊎ (length prg ≡ 32768)
 few-prg-size prg n size (inl one) = inl (omega arith)
 few-prg-size prg n size (inr two) = inr (omega arith)
 
@@ -86,8 +96,10 @@ many-prg-size prg n size (inr (inl e)) = inr (inl (omega arith))
 many-prg-size prg n size (inr (inr (inl e))) = inr (inr (inl (omega arith)))
 many-prg-size prg n size (inr (inr (inr e))) = inr (inr (inr (omega arith)))
 
-many-chr-size : (file : List ℕ) → IsReadable file → (chr_units_of file ≡ 1) ⊎ ((chr_units_of file ≡ 2) ⊎ (chr_units_of file ≡ 4)) →
-    (length (contents_of file).chr ≡ 8192) ⊎ ((length (contents_of file).chr ≡ 16384) ⊎ (length (contents_of file).chr ≡ 32768))
+many-chr-size : (file : List ℕ) → IsReadable file →
+    (chr_units_of file ≡ 1) ⊎ ((chr_units_of file ≡ 2) ⊎ (chr_units_of file ≡ 4)) →
+    (length (contents_of file).chr ≡ 8192)
+    ⊎ ((length (contents_of file).chr ≡ 16384) ⊎ (length (contents_of file).chr ≡ 32768))
 many-chr-size file readable (inl e) = inl (length-rom file 1 readable e refl)
 many-chr-size file readable (inr (inl e)) = inr (inl (length-rom file 2 readable e refl))
 many-chr-size file readable (inr (inr e)) = inr (inr (length-rom file 4 readable e refl))
@@ -103,8 +115,10 @@ unfolding contents_of
 nrom-of file readable is =
     record {
       mapper = is;
-      prg = few-prg-size _ (prg_units_of file) (length-prg file readable) (few-prg (mapper_of file) (prg_units_of file) (ap (λ k. k == 2) is) readable.prg);
-      chr = few-chr-size file readable (few-chr (mapper_of file) (chr_units_of file) (ap (λ k. k == 3) is) readable.chr);
+      prg = few-prg-size _ (prg_units_of file) (length-prg file readable)
+          (few-prg (mapper_of file) (prg_units_of file) (ap (λ k. k == 2) is) readable.prg);
+      chr =
+          few-chr-size file readable (few-chr (mapper_of file) (chr_units_of file) (ap (λ k. k == 3) is) readable.chr);
     }
 
 uxrom-of : (file : List ℕ) → IsReadable file → mapper_of file ≡ 2 → IsUxrom (contents_of file)
@@ -112,8 +126,10 @@ unfolding contents_of
 uxrom-of file readable is =
     record {
       mapper = is;
-      prg = many-prg-size _ (prg_units_of file) (length-prg file readable) (many-prg (prg_units_of file) (subst (λ n. has_prg n (prg_units_of file) ≡ true) is readable.prg));
-      chr = few-chr-size file readable (few-chr (mapper_of file) (chr_units_of file) (ap (λ k. k == 3) is) readable.chr);
+      prg = many-prg-size _ (prg_units_of file) (length-prg file readable)
+          (many-prg (prg_units_of file) (subst (λ n. has_prg n (prg_units_of file) ≡ true) is readable.prg));
+      chr =
+          few-chr-size file readable (few-chr (mapper_of file) (chr_units_of file) (ap (λ k. k == 3) is) readable.chr);
     }
 
 cnrom-of : (file : List ℕ) → IsReadable file → mapper_of file ≡ 3 → IsCnrom (contents_of file)
@@ -122,7 +138,8 @@ cnrom-of file readable is =
     let units = many-chr (chr_units_of file) (subst (λ n. has_chr n (chr_units_of file) ≡ true) is readable.chr) in
     record {
       mapper = is;
-      prg = few-prg-size _ (prg_units_of file) (length-prg file readable) (few-prg (mapper_of file) (prg_units_of file) (ap (λ k. k == 2) is) readable.prg);
+      prg = few-prg-size _ (prg_units_of file) (length-prg file readable)
+          (few-prg (mapper_of file) (prg_units_of file) (ap (λ k. k == 2) is) readable.prg);
       chr = many-chr-size file readable units;
       rom = some-chr (chr_units_of file) units;
     }
@@ -138,7 +155,10 @@ ram-is file = refl
 -- what a file of which nothing is refused holds is a cartridge of one of the boards
 IsCartridge-contents_of : (file : List ℕ) → IsReadable file → IsCartridge (contents_of file)
 IsCartridge-contents_of file readable =
-    record { board = go (boards (mapper_of file) readable.board); ram_zeros = λ ram. ram-zeros file (sym (ram-is file) ∙ ram) }
+    record {
+      board = go (boards (mapper_of file) readable.board);
+      ram_zeros = λ ram. ram-zeros file (sym (ram-is file) ∙ ram);
+    }
   where
     go : (mapper_of file ≡ 0) ⊎ ((mapper_of file ≡ 2) ⊎ (mapper_of file ≡ 3)) →
         IsNrom (contents_of file) ⊎ (IsUxrom (contents_of file) ⊎ IsCnrom (contents_of file))
@@ -160,7 +180,8 @@ pub record IsRead (file prg chr : List ℕ) (prg_units chr_units mapper : ℕ) (
 
 -- the fields that were read of a file are those that it holds
 pub contents_of-read :
-    (file prg chr : List ℕ) (prg_units chr_units mapper : ℕ) (vertical : Bool) → IsRead file prg chr prg_units chr_units mapper vertical →
+    (file prg chr : List ℕ) (prg_units chr_units mapper : ℕ) (vertical : Bool) →
+    IsRead file prg chr prg_units chr_units mapper vertical →
     contents_of file ≡ record { prg = prg; chr = chr; chr_ram = chr_units == 0; vertical = vertical; mapper = mapper }
 unfolding contents_of
 contents_of-read file prg chr prg_units chr_units mapper vertical read =
@@ -168,7 +189,9 @@ contents_of-read file prg chr prg_units chr_units mapper vertical read =
 
 -- they are a cartridge of one of the boards
 pub IsCartridge-read :
-    (file prg chr : List ℕ) (prg_units chr_units mapper : ℕ) (vertical : Bool) → IsRead file prg chr prg_units chr_units mapper vertical →
+    (file prg chr : List ℕ) (prg_units chr_units mapper : ℕ) (vertical : Bool) →
+    IsRead file prg chr prg_units chr_units mapper vertical →
     IsCartridge (record { prg = prg; chr = chr; chr_ram = chr_units == 0; vertical = vertical; mapper = mapper })
 IsCartridge-read file prg chr prg_units chr_units mapper vertical read =
-    subst IsCartridge (contents_of-read file prg chr prg_units chr_units mapper vertical read) (IsCartridge-contents_of file read.readable)
+    subst IsCartridge (contents_of-read file prg chr prg_units chr_units mapper vertical read)
+    (IsCartridge-contents_of file read.readable)

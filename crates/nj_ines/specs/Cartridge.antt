@@ -20,7 +20,8 @@ pub record IsNrom (cart : Cartridge) : Type 0 where
 pub record IsUxrom (cart : Cartridge) : Type 0 where
   pub mapper : cart.mapper ≡ 2
   pub prg :
-      (length cart.prg ≡ 32768) ⊎ ((length cart.prg ≡ 65536) ⊎ ((length cart.prg ≡ 131072) ⊎ (length cart.prg ≡ 262144)))
+      (length cart.prg ≡ 32768)
+      ⊎ ((length cart.prg ≡ 65536) ⊎ ((length cart.prg ≡ 131072) ⊎ (length cart.prg ≡ 262144)))
   pub chr : length cart.chr ≡ 8192
 
 -- CNROM, mapper 3: NROM's program memory, and 1, 2 or 4 banks of 8 KiB of pattern ROM (NESdev Wiki, "CNROM")

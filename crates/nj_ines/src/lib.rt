@@ -1,7 +1,7 @@
-//! The reader of cartridge files of the boards NROM, UxROM and CNROM, in the formats iNES and NES 2.0. What is refused is
-//! one table of conditions in their order, `refusals` of specs/Reading, which is the definition to read first; a file of
-//! which nothing is refused holds the cartridge `contents_of` it. Source: NESdev Wiki, "iNES", "NES 2.0", "NROM",
-//! "UxROM" and "CNROM".
+//! The reader of cartridge files of the boards NROM, UxROM and CNROM, in the formats iNES and NES 2.0. What is
+//! refused is one table of conditions in their order, `refusals` of specs/Reading, which is the definition to read
+//! first; a file of which nothing is refused holds the cartridge `contents_of` it. Source: NESdev Wiki, "iNES", "NES
+//! 2.0", "NROM", "UxROM" and "CNROM".
 #![tactic(auto)]
 
 ghost use Rattle.std.specs.Prelude.{◌≡◌, ◌+◌, ◌*◌, ◌/◌, ◌%◌, ◌<◌, ◌≤◌, ◌⊎◌, ◌==◌, ℕ, length, replicate, slice_index, slice_range, IsTrue, IfOk, MatchResult, None, Ok, Err, if◌then◌else◌};
@@ -239,7 +239,8 @@ fn pattern_memory(
 ) -> Result<Vec<u8>, AllocError>
     requires few { units < 4096 }
     requires whole { prg_end + 8192 * units ≤ length file.now }
-    ensures { IfOk result (λ chr. chr.items ≡ (if units == 0 then replicate 8192 0 else slice_range file.now prg_end (prg_end + 8192 * units))) }
+    ensures { IfOk result (λ chr. chr.items
+        ≡ (if units == 0 then replicate 8192 0 else slice_range file.now prg_end (prg_end + 8192 * units))) }
 {
     if units == 0 {
         zeros(alloc)
@@ -263,16 +264,29 @@ impl Model for Cart {
 
     ghost Value = { Cartridge };
 
-    ghost view = { λ c. record { prg = c.prg.items; chr = c.chr.items; chr_ram = c.chr_ram; vertical = c.vertical; mapper = c.mapper } };
+    ghost view = { λ c. record {
+      prg = c.prg.items;
+      chr = c.chr.items;
+      chr_ram = c.chr_ram;
+      vertical = c.vertical;
+      mapper = c.mapper;
+    } };
 
-    ghost invariant = { λ c. IsCartridge (record { prg = c.prg.items; chr = c.chr.items; chr_ram = c.chr_ram; vertical = c.vertical; mapper = c.mapper }) };
+    ghost invariant = { λ c. IsCartridge (record {
+      prg = c.prg.items;
+      chr = c.chr.items;
+      chr_ram = c.chr_ram;
+      vertical = c.vertical;
+      mapper = c.mapper;
+    }) };
 }
 
 impl Cart {
     /// Reads a cartridge file. What stands behind the memories is ignored.
     #[tactic(auto, unfolding(crate::specs::Reading::cartridge_of))]
     pub fn read(alloc: Global, file: &[u8]) -> Result<Self, CartRefused>
-        ensures { MatchResult result (λ cart. cartridge_of file.now ≡ Ok cart) (λ refused. (refused ≡ CartRefused.NoMemory) ⊎ (cartridge_of file.now ≡ Err refused)) }
+        ensures { MatchResult result (λ cart. cartridge_of file.now ≡ Ok cart)
+            (λ refused. (refused ≡ CartRefused.NoMemory) ⊎ (cartridge_of file.now ≡ Err refused)) }
     {
         match refusal(file) {
             Some(refused) => Err(refused),

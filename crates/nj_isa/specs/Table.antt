@@ -18,7 +18,8 @@ pub record Entry : Type 0 where
 abbrev pub of : Op → List (Mode × ℕ) → List Entry
 of op codes = map (λ (p : Mode × ℕ). record { op = op; mode = p.0; code = p.1 }) codes
 
--- the 151 official opcodes (NESdev Wiki, "CPU unofficial opcodes", the table of all opcodes without the unofficial ones)
+-- the 151 official opcodes (NESdev Wiki, "CPU unofficial opcodes", the table of all opcodes without the unofficial
+-- ones)
 abbrev pub official_opcodes : List Entry
 official_opcodes =
     of Ora ((Immediate, 0x09) ∷ (Zp, 0x05) ∷ (ZpX, 0x15) ∷ (Abs, 0x0D) ∷ (AbsX, 0x1D) ∷ (AbsY, 0x19) ∷ (IndX, 0x01) ∷ (IndY, 0x11) ∷ [])
@@ -146,7 +147,8 @@ has_opcode (e ∷ rest) opcode = if e.code == opcode then true else has_opcode r
 unfoldable pub is_official : ℕ → Bool
 is_official opcode = has_opcode official_opcodes opcode
 
--- whether an opcode of an operation is official: NOP and SBC have unofficial ones beside $EA and the eight of the manual
+-- whether an opcode of an operation is official: NOP and SBC have unofficial ones beside $EA and the eight of the
+-- manual
 abbrev pub in_manual : Op → ℕ → Bool
 in_manual Nop opcode = opcode == 0xEA
 in_manual Sbc opcode = not (opcode == 0xEB)

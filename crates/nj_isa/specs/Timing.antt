@@ -6,8 +6,9 @@ use Rattle.nj_isa.specs.declared.table.OpRow.{OpRow}
 use Rattle.nj_isa.specs.Accesses.{Access, When, Always, Carried, Taken, TakenAway, accesses, class_of}
 use Rattle.nj_isa.specs.Table.{row_of}
 
--- cycles by the opcode's high digit, one line each, and its low digit; 0 stands where this machine jams (MOS Technology,
--- MCS6500 Family Programming Manual, appendix B; NESdev Wiki, "6502 instructions" and "CPU unofficial opcodes")
+-- cycles by the opcode's high digit, one line each, and its low digit; 0 stands where this machine jams (MOS
+-- Technology, MCS6500 Family Programming Manual, appendix B; NESdev Wiki, "6502 instructions" and "CPU unofficial
+-- opcodes")
 abbrev pub cycle_table : List ℕ
 cycle_table =
     7 ∷ 6 ∷ 0 ∷ 8 ∷ 3 ∷ 3 ∷ 5 ∷ 5 ∷ 3 ∷ 2 ∷ 2 ∷ 2 ∷ 4 ∷ 4 ∷ 6 ∷ 6 ∷ []
@@ -92,7 +93,7 @@ jams opcode = is_jam (row_of opcode).op
 abbrev pub stopping_opcodes : List ℕ
 stopping_opcodes = 0x02 ∷ 0x12 ∷ 0x22 ∷ 0x32 ∷ 0x42 ∷ 0x52 ∷ 0x62 ∷ 0x72 ∷ 0x92 ∷ 0xB2 ∷ 0xD2 ∷ 0xF2 ∷ []
 
--- the eight whose effect is not the same on each NMOS 6502 (NESdev Wiki, "CPU unofficial opcodes": ANE, SHA, TAS, SHY, SHX,
--- LXA, LAS); that they jam is this project's own profile
+-- the eight whose effect is not the same on each NMOS 6502 (NESdev Wiki, "CPU unofficial opcodes": ANE, SHA, TAS, SHY,
+-- SHX, LXA, LAS); that they jam is this project's own profile
 abbrev pub unstable_opcodes : List ℕ
 unstable_opcodes = 0x8B ∷ 0x93 ∷ 0x9B ∷ 0x9C ∷ 0x9E ∷ 0x9F ∷ 0xAB ∷ 0xBB ∷ []

@@ -9,7 +9,9 @@ ghost use Rattle.nj_isa.specs.Timing.{cycles_of, penalty_of, count_made, accesse
 /// The opcode's access and those after it are as many as the published cycles of each opcode that
 /// does not jam, official or not, with the published penalties.
 pub fn cycles_are_published()
-    ensures { (opcode : ℕ) (crossed taken away : Bool) → opcode < 256 → 0 < cycles_of opcode → 1 + count_made crossed taken away (accesses_of (row_of opcode)) ≡ cycles_of opcode + penalty_of opcode crossed taken away }
+    ensures { (opcode : ℕ) (crossed taken away : Bool) → opcode < 256 → 0 < cycles_of opcode
+        → 1 + count_made crossed taken away (accesses_of (row_of opcode))
+        ≡ cycles_of opcode + penalty_of opcode crossed taken away }
 {}
 
 /// Of the 256 opcodes 20 jam: the twelve that stop an NMOS 6502 and the eight unstable ones. They

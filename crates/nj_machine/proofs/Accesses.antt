@@ -116,7 +116,8 @@ same_left : (s e : Screen) → Same s e → still_left e ≡ still_left s
 same_left s e same = rw (same.place, same.mark) refl
 
 -- another picture, with fewer dots by n
-with_screen : (rom : Rom) (n : ℕ) (w : Wired) (e : Screen) → Keeps rom w → IsScreen e → still_left e ≤ still_left w.cells.screen - n →
+with_screen : (rom : Rom) (n : ℕ) (w : Wired) (e : Screen) → Keeps rom w → IsScreen e
+    → still_left e ≤ still_left w.cells.screen - n →
     e.vram.vertical ≡ w.cells.screen.vram.vertical →
     Lower (Keeps rom) left_of n w (record w { cells = (let c = w.cells in record c { screen = e }) })
 with_screen rom n w e h fits fewer vertical =
@@ -138,7 +139,8 @@ dots_run-lowers rom w h =
 -- an access of a register
 accessed : (rom : Rom) (w : Wired) (e : Screen) → Keeps rom w → IsScreen e → Same w.cells.screen e →
     Stays rom w (record w { cells = (let c = w.cells in record c { screen = e }) })
-accessed rom w e h fits same = with_screen rom 0 w e h fits (omega (arith, same_left w.cells.screen e same)) same.vertical
+accessed rom w e h fits same =
+    with_screen rom 0 w e h fits (omega (arith, same_left w.cells.screen e same)) same.vertical
 
 lower-if : (rom : Rom) (b : Bool) (w x y : Wired) → Stays rom w x → Stays rom w y → Stays rom w (if b then x else y)
 lower-if rom true w x y h k = h
@@ -149,17 +151,32 @@ register_read-stays : (rom : Rom) (reg : ℕ) (w : Wired) → Keeps rom w → St
 unfolding register_read
 register_read-stays rom reg w h =
     accessed rom w (screen_after_read reg (pattern_of w.cells.board) w.cells.screen) h
-    (after_read-fits reg (pattern_of w.cells.board) w.cells.screen h.sized.screen) (same-read reg (pattern_of w.cells.board) w.cells.screen)
+    (after_read-fits reg (pattern_of w.cells.board) w.cells.screen h.sized.screen)
+    (same-read reg (pattern_of w.cells.board) w.cells.screen)
 
 port_one_read-stays : (rom : Rom) (w : Wired) → Keeps rom w → Stays rom w (port_one_read w)
 unfolding port_one_read
 port_one_read-stays rom w h =
-    record { stays = record { sized = record { screen = h.sized.screen; ram = h.sized.ram; board = h.sized.board }; of_rom = h.of_rom }; fewer = omega arith }
+    record {
+      stays =
+          record {
+            sized = record { screen = h.sized.screen; ram = h.sized.ram; board = h.sized.board };
+            of_rom = h.of_rom;
+          };
+      fewer = omega arith;
+    }
 
 port_two_read-stays : (rom : Rom) (w : Wired) → Keeps rom w → Stays rom w (port_two_read w)
 unfolding port_two_read
 port_two_read-stays rom w h =
-    record { stays = record { sized = record { screen = h.sized.screen; ram = h.sized.ram; board = h.sized.board }; of_rom = h.of_rom }; fewer = omega arith }
+    record {
+      stays =
+          record {
+            sized = record { screen = h.sized.screen; ram = h.sized.ram; board = h.sized.board };
+            of_rom = h.of_rom;
+          };
+      fewer = omega arith;
+    }
 
 -- what a read changes
 answered-stays : (rom : Rom) (w : Wired) (at : ℕ) → Keeps rom w → Stays rom w (answered w at)
@@ -176,7 +193,11 @@ unfolding ram_put
 ram_put-stays rom place value w h =
     record {
       stays = record {
-        sized = record { screen = h.sized.screen; ram = length-set w.cells.ram place value ∙ h.sized.ram; board = h.sized.board };
+        sized = record {
+          screen = h.sized.screen;
+          ram = length-set w.cells.ram place value ∙ h.sized.ram;
+          board = h.sized.board;
+        };
         of_rom = h.of_rom;
       };
       fewer = omega arith;
@@ -190,7 +211,11 @@ register_put-stays rom reg value w h =
     let board = keeps-put w.cells.board (to_pattern reg value w.cells.screen) h.sized.board in
     record {
       stays = record {
-        sized = record { screen = after_write-fits reg value w.cells.screen h.sized.screen; ram = h.sized.ram; board = board.sized };
+        sized = record {
+          screen = after_write-fits reg value w.cells.screen h.sized.screen;
+          ram = h.sized.ram;
+          board = board.sized;
+        };
         of_rom = board.rom e.vram.vertical ∙ ap (λ v. rom_in w.cells.board v) same.vertical ∙ h.of_rom;
       };
       fewer = omega (arith, same_left w.cells.screen e same);
@@ -199,12 +224,26 @@ register_put-stays rom reg value w h =
 copy_asked-stays : (rom : Rom) (page : ℕ) (w : Wired) → Keeps rom w → Stays rom w (copy_asked page w)
 unfolding copy_asked
 copy_asked-stays rom page w h =
-    record { stays = record { sized = record { screen = h.sized.screen; ram = h.sized.ram; board = h.sized.board }; of_rom = h.of_rom }; fewer = omega arith }
+    record {
+      stays =
+          record {
+            sized = record { screen = h.sized.screen; ram = h.sized.ram; board = h.sized.board };
+            of_rom = h.of_rom;
+          };
+      fewer = omega arith;
+    }
 
 ports_strobed-stays : (rom : Rom) (value : ℕ) (w : Wired) → Keeps rom w → Stays rom w (ports_strobed value w)
 unfolding ports_strobed
 ports_strobed-stays rom value w h =
-    record { stays = record { sized = record { screen = h.sized.screen; ram = h.sized.ram; board = h.sized.board }; of_rom = h.of_rom }; fewer = omega arith }
+    record {
+      stays =
+          record {
+            sized = record { screen = h.sized.screen; ram = h.sized.ram; board = h.sized.board };
+            of_rom = h.of_rom;
+          };
+      fewer = omega arith;
+    }
 
 -- a write to the board
 board_put-stays : (rom : Rom) (at value : ℕ) (w : Wired) → Keeps rom w → Stays rom w (board_put at value w)
@@ -233,26 +272,43 @@ written-stays rom w at value h =
 over-stays : (rom : Rom) (w : Wired) (byte : ℕ) → Keeps rom w → Stays rom w (over byte w)
 unfolding over
 over-stays rom w byte h =
-    record { stays = record { sized = record { screen = h.sized.screen; ram = h.sized.ram; board = h.sized.board }; of_rom = h.of_rom }; fewer = omega arith }
+    record {
+      stays =
+          record {
+            sized = record { screen = h.sized.screen; ram = h.sized.ram; board = h.sized.board };
+            of_rom = h.of_rom;
+          };
+      fewer = omega arith;
+    }
 
 taken-stays : (rom : Rom) (w : Wired) → Keeps rom w → Stays rom w (page_taken w)
 unfolding page_taken
 taken-stays rom w h =
-    record { stays = record { sized = record { screen = h.sized.screen; ram = h.sized.ram; board = h.sized.board }; of_rom = h.of_rom }; fewer = omega arith }
+    record {
+      stays =
+          record {
+            sized = record { screen = h.sized.screen; ram = h.sized.ram; board = h.sized.board };
+            of_rom = h.of_rom;
+          };
+      fewer = omega arith;
+    }
 
 reads-lower : (rom : Rom) (w : Wired) (at : ℕ) → Keeps rom w → Lower (Keeps rom) left_of 3 w (after_read w at)
 unfolding after_read
 reads-lower rom w at h =
     let dots = dots_run-lowers rom w h in
     let access = answered-stays rom (dots_run w) at dots.stays in
-    lower-and (Keeps rom) left_of 3 _ _ _ (lower-and (Keeps rom) left_of 3 _ _ _ dots access) (over-stays rom (answered (dots_run w) at) (byte_read w at) access.stays)
+    lower-and (Keeps rom) left_of 3 _ _ _ (lower-and (Keeps rom) left_of 3 _ _ _ dots access)
+    (over-stays rom (answered (dots_run w) at) (byte_read w at) access.stays)
 
-writes-lower : (rom : Rom) (w : Wired) (at value : ℕ) → Keeps rom w → Lower (Keeps rom) left_of 3 w (after_write w at value)
+writes-lower : (rom : Rom) (w : Wired) (at value : ℕ) → Keeps rom w
+    → Lower (Keeps rom) left_of 3 w (after_write w at value)
 unfolding after_write
 writes-lower rom w at value h =
     let dots = dots_run-lowers rom w h in
     let access = written-stays rom (dots_run w) at value dots.stays in
-    lower-and (Keeps rom) left_of 3 _ _ _ (lower-and (Keeps rom) left_of 3 _ _ _ dots access) (over-stays rom (written (dots_run w) at value) value access.stays)
+    lower-and (Keeps rom) left_of 3 _ _ _ (lower-and (Keeps rom) left_of 3 _ _ _ dots access)
+    (over-stays rom (written (dots_run w) at value) value access.stays)
 
 -- every access of the machine's bus
 pub wires-lower : (rom : Rom) → Lowers wires (Keeps rom) left_of 3

@@ -15,7 +15,8 @@ use Rattle.nj_machine.specs.State.{cells_of, memory_of, reset_vector, power_on, 
 use Rattle.nj_machine.specs.Frame.{IsReady}
 
 -- the parts of a machine that was just made
-pub record Made (cart : Cartridge) (cpu : Cpu) (screen : Screen) (ram : List ℕ) (board : Banks) (one two : Port) : Type 0 where
+pub record Made (cart : Cartridge) (cpu : Cpu) (screen : Screen) (ram : List ℕ) (board : Banks) (one two : Port) : Type
+    0 where
   pub registers : cpu ≡ powered_on (reset_vector board)
   pub picture : screen ≡ screen_at_power_on cart.vertical
   pub zeros : ram ≡ replicate 2048 0
@@ -24,13 +25,15 @@ pub record Made (cart : Cartridge) (cpu : Cpu) (screen : Screen) (ram : List ℕ
   pub second : two ≡ port_at_power_on
 
 -- they are the state at power-on
-pub made_is : (cart : Cartridge) (cpu : Cpu) (screen : Screen) (ram : List ℕ) (board : Banks) (one two : Port) → Made cart cpu screen ram board one two →
+pub made_is : (cart : Cartridge) (cpu : Cpu) (screen : Screen) (ram : List ℕ) (board : Banks) (one two : Port)
+    → Made cart cpu screen ram board one two →
     record { cpu = cpu; cells = cells_of screen ram board 0 None false one two } ≡ power_on cart
 unfolding power_on
 made_is cart cpu screen ram board one two m = rw (m.registers, m.picture, m.zeros, m.memory, m.first, m.second) refl
 
 -- which is ready
-pub made_ready : (cart : Cartridge) (cpu : Cpu) (screen : Screen) (ram : List ℕ) (board : Banks) (one two : Port) → Made cart cpu screen ram board one two → IsBanks board →
+pub made_ready : (cart : Cartridge) (cpu : Cpu) (screen : Screen) (ram : List ℕ) (board : Banks) (one two : Port)
+    → Made cart cpu screen ram board one two → IsBanks board →
     IsReady (record { cpu = cpu; cells = cells_of screen ram board 0 None false one two })
 unfolding screen_at_power_on
 made_ready cart cpu screen ram board one two m sized =
@@ -81,14 +84,17 @@ pub sized_by : (cart : Cartridge) → IsCartridge cart → IsBanks (memory_of ca
 sized_by cart h =
     elim h.board [
       | inl n ↦ record { board = inl (of_nrom cart n); bank = nrom_bank (memory_of cart) (of_nrom cart n) }
-      | inr (inl u) ↦ record { board = inr (inl (of_uxrom cart u)); bank = uxrom_bank (memory_of cart) (of_uxrom cart u) }
-      | inr (inr c) ↦ record { board = inr (inr (of_cnrom cart c)); bank = cnrom_bank (memory_of cart) (of_cnrom cart c) }
+      | inr (inl u) ↦
+          record { board = inr (inl (of_uxrom cart u)); bank = uxrom_bank (memory_of cart) (of_uxrom cart u) }
+      | inr (inr c) ↦
+          record { board = inr (inr (of_cnrom cart c)); bank = cnrom_bank (memory_of cart) (of_cnrom cart c) }
     ]
 
 -- the state at power-on is ready
 pub begun_ready : (cart : Cartridge) → IsCartridge cart → IsReady (power_on cart)
 begun_ready cart h =
-    let made : Made cart (powered_on (reset_vector (memory_of cart))) (screen_at_power_on cart.vertical) (replicate 2048 0) (memory_of cart) port_at_power_on port_at_power_on =
+    let made : Made cart (powered_on (reset_vector (memory_of cart))) (screen_at_power_on cart.vertical)
+    (replicate 2048 0) (memory_of cart) port_at_power_on port_at_power_on =
     record { registers = refl; picture = refl; zeros = refl; memory = refl; first = refl; second = refl } in
     subst IsReady (made_is cart _ _ _ _ _ _ made) (made_ready cart _ _ _ _ _ _ made (sized_by cart h))
 

@@ -36,7 +36,8 @@ with_another m bank below h = record {
 }
 
 -- a write to pattern memory
-put-if : (b : Bool) (m : Banks) (at value : ℕ) → m.chr_ram ≡ b → IsBanks m → KeepsBoard m (if b then record m { chr = slice_set m.chr at value } else m)
+put-if : (b : Bool) (m : Banks) (at value : ℕ) → m.chr_ram ≡ b → IsBanks m
+    → KeepsBoard m (if b then record m { chr = slice_set m.chr at value } else m)
 put-if true m at value e h = record {
   sized = with_chr m (slice_set m.chr at value) (length-set m.chr at value) h;
   rom = λ vertical. rw e refl;
@@ -52,7 +53,8 @@ keeps-put m (Some put) h = put-if m.chr_ram m put.0 put.1 refl h
 chosen_below : (n bank : ℕ) → bank < n → (value : ℕ) → value % n < n
 chosen_below n bank h value = omega arith
 
-written-if : (b : Bool) (m : Banks) (at value : ℕ) → IsBanks m → KeepsBoard m (if b then with_bank m (chosen_by m at value) else m)
+written-if : (b : Bool) (m : Banks) (at value : ℕ) → IsBanks m
+    → KeepsBoard m (if b then with_bank m (chosen_by m at value) else m)
 unfolding chosen_by
 written-if true m at value h = record {
   sized = with_another m _ (chosen_below (bank_count m) m.bank h.bank (bit_and value (prg_byte m at))) h;

@@ -1,4 +1,5 @@
--- The first reads of an instruction are its opcode and the bytes of its operand; a call reads the stack before its last.
+-- The first reads of an instruction are its opcode and the bytes of its operand; a call reads the stack before its
+-- last.
 use Rattle.std.proofs.Common.{◌≡◌, ◌≢◌, ℕ, zero, suc, ◌+◌, ◌≤◌, ◌<◌, Bool, true, false, ◌&&◌, ◌||◌, ◌==◌, nat_le, nat_lt, cond, if◌then◌else◌, List, [], ◌∷◌, ◌++◌, length, take, get_or, Option, Some, None, refl, sym, ap, subst, ◌∙◌, arith, append_assoc, append-nil, length-append}
 use Rattle.std.proofs.lemmas.List.{take_all}
 use Rattle.std.proofs.lemmas.Bool.Decides.{nat_tests}
@@ -55,23 +56,29 @@ split_and true false e = cc
 split_and false b e = cc
 
 -- where nothing is fetched there are no bytes
-none-by : (b : Bool) (n byte : ℕ) (bytes : List ℕ) → cond b (suc n) n ≡ 0 → (n ≡ 0 → bytes ≡ []) → before_if b byte bytes ≡ []
+none-by : (b : Bool) (n byte : ℕ) (bytes : List ℕ) → cond b (suc n) n ≡ 0 → (n ≡ 0 → bytes ≡ [])
+    → before_if b byte bytes ≡ []
 none-by true n byte bytes e h = absurd (omega arith)
 none-by false n byte bytes e h = h e
 
-no_more : {Held : Type 0} (acts : Acts Held) (op : Op) (xs : List Access) (w : Walk Held) → fetch_count xs ≡ 0 → operand_bytes acts op xs w ≡ []
+no_more : {Held : Type 0} (acts : Acts Held) (op : Op) (xs : List Access) (w : Walk Held) → fetch_count xs ≡ 0
+    → operand_bytes acts op xs w ≡ []
 no_more acts op [] w e = refl
 no_more acts op (a ∷ rest) w e =
-    none-by (fetches a.place a.transfer) (fetch_count rest) (acts.byte w.held w.cpu.pc) (operand_bytes acts op rest (step acts op a w)) e (no_more acts op rest (step acts op a w))
+    none-by (fetches a.place a.transfer) (fetch_count rest) (acts.byte w.held w.cpu.pc)
+    (operand_bytes acts op rest (step acts op a w)) e (no_more acts op rest (step acts op a w))
 
 -- there are as many bytes as fetches
-counted-by : (b : Bool) (n byte : ℕ) (bytes : List ℕ) → length bytes ≡ n → length (before_if b byte bytes) ≡ cond b (suc n) n
+counted-by : (b : Bool) (n byte : ℕ) (bytes : List ℕ) → length bytes ≡ n
+    → length (before_if b byte bytes) ≡ cond b (suc n) n
 counted-by true n byte bytes e = ap suc e
 counted-by false n byte bytes e = e
 
-counted : {Held : Type 0} (acts : Acts Held) (op : Op) (xs : List Access) (w : Walk Held) → length (operand_bytes acts op xs w) ≡ fetch_count xs
+counted : {Held : Type 0} (acts : Acts Held) (op : Op) (xs : List Access) (w : Walk Held)
+    → length (operand_bytes acts op xs w) ≡ fetch_count xs
 counted acts op [] w = refl
-counted acts op (a ∷ rest) w = counted-by (fetches a.place a.transfer) (fetch_count rest) _ _ (counted acts op rest (step acts op a w))
+counted acts op (a ∷ rest) w =
+    counted-by (fetches a.place a.transfer) (fetch_count rest) _ _ (counted acts op rest (step acts op a w))
 
 -- the reads begin with these bytes
 record Starts (bytes reads : List ℕ) : Type 0 where
@@ -101,7 +108,8 @@ module _ {Held : Type 0} (acts : Acts Held) where
     takes = λ r s. record { stays = s; fewer = omega arith };
   }
 
-  starts-walk : (op : Op) (p : List ℕ) (xs : List Access) (w : Walk (Recorded Held)) → length p ≤ 4 → Starts p w.held.reads →
+  starts-walk : (op : Op) (p : List ℕ) (xs : List Access) (w : Walk (Recorded Held)) → length p ≤ 4
+      → Starts p w.held.reads →
       Starts p (walk (recording acts) op xs w).held.reads
   starts-walk op p xs w short s =
       (walk-lower (recording acts) (λ r. Starts p r.reads) (λ r. 0) 0 (keeps-reads p short) op xs w s).stays
@@ -117,22 +125,29 @@ module _ {Held : Type 0} (acts : Acts Held) where
   kept-read op ToFlags at w k = refl
   kept-read op _ at w k = cc
 
-  fetched : (op : Op) (when_ : When) (p : Place) (t : Transfer) (m : Move) (w : Walk (Recorded Held)) → is_always when_ ≡ true → fetches p t ≡ true →
-      (step (recording acts) op (record { when_ = when_; place = p; transfer = t; then_ = m }) w).held.reads ≡ noted w.held.reads (acts.byte w.held.held w.cpu.pc)
+  fetched : (op : Op) (when_ : When) (p : Place) (t : Transfer) (m : Move) (w : Walk (Recorded Held))
+      → is_always when_ ≡ true → fetches p t ≡ true →
+      (step (recording acts) op (record { when_ = when_; place = p; transfer = t; then_ = m }) w).held.reads
+      ≡ noted w.held.reads (acts.byte w.held.held w.cpu.pc)
   fetched op Always AtPc t m w a k =
-      ap (λ (h : Recorded Held). h.reads) (held-moved m (transferred (recording acts) op t w.cpu.pc w)) ∙ kept-read op t w.cpu.pc w k
+      ap (λ (h : Recorded Held). h.reads) (held-moved m (transferred (recording acts) op t w.cpu.pc w))
+      ∙ kept-read op t w.cpu.pc w k
   fetched op Always _ t m w a k = cc
   fetched op (Carried i) p t m w a k = cc
   fetched op Taken p t m w a k = cc
   fetched op TakenAway p t m w a k = cc
 
   -- the fetches that lead a list are the next reads
-  lead-by : (b : Bool) (op : Op) (a : Access) (rest : List Access) (p : List ℕ) (w : Walk (Recorded Held)) → fetches a.place a.transfer ≡ b →
+  lead-by : (b : Bool) (op : Op) (a : Access) (rest : List Access) (p : List ℕ) (w : Walk (Recorded Held))
+      → fetches a.place a.transfer ≡ b →
       w.held.reads ≡ p → length p + cond b (suc (fetch_count rest)) (fetch_count rest) ≤ 4 →
       cond b (is_always a.when_ && is_lead rest) (fetch_count rest == 0) ≡ true →
-      ((q : List ℕ) (v : Walk (Recorded Held)) → v.held.reads ≡ q → length q + fetch_count rest ≤ 4 → is_lead rest ≡ true →
+      ((q : List ℕ) (v : Walk (Recorded Held)) → v.held.reads ≡ q → length q + fetch_count rest ≤ 4
+      → is_lead rest ≡ true →
       Starts (q ++ operand_bytes acts op rest (behind v)) (walk (recording acts) op rest v).held.reads) →
-      Starts (p ++ before_if b (acts.byte w.held.held w.cpu.pc) (operand_bytes acts op rest (step acts op a (behind w)))) (walk (recording acts) op rest (step (recording acts) op a w)).held.reads
+      Starts (p
+      ++ before_if b (acts.byte w.held.held w.cpu.pc) (operand_bytes acts op rest (step acts op a (behind w))))
+      (walk (recording acts) op rest (step (recording acts) op a w)).held.reads
   lead-by true op a rest p w f e short l next =
       let parts = split_and (is_always a.when_) (is_lead rest) l in
       let byte = acts.byte w.held.held w.cpu.pc in
@@ -140,21 +155,25 @@ module _ {Held : Type 0} (acts : Acts Held) where
       let q : List ℕ = p ++ (byte ∷ []) in
       let long : length q ≡ length p + 1 = length-append p (byte ∷ []) in
       let reads : v.held.reads ≡ q =
-      fetched op a.when_ a.place a.transfer a.then_ w parts.0 f ∙ ap (λ r. noted r byte) e ∙ take_all 4 q (omega arith) in
+      fetched op a.when_ a.place a.transfer a.then_ w parts.0 f ∙ ap (λ r. noted r byte) e
+      ∙ take_all 4 q (omega arith) in
       let found = next q v reads (omega arith) parts.1 in
       subst (λ bytes. Starts bytes (walk (recording acts) op rest v).held.reads)
-      (append_assoc p (byte ∷ []) (operand_bytes acts op rest (behind v)) ∙ ap (λ u. p ++ (byte ∷ operand_bytes acts op rest u)) (behind-step acts op a w))
+      (append_assoc p (byte ∷ []) (operand_bytes acts op rest (behind v))
+      ∙ ap (λ u. p ++ (byte ∷ operand_bytes acts op rest u)) (behind-step acts op a w))
       found
   lead-by false op a rest p w f e short l next =
       let none : fetch_count rest ≡ 0 = grind (arith, nat_tests) in
       let v : Walk (Recorded Held) = step (recording acts) op a w in
       let start : Starts p w.held.reads = record { more = []; begin = e ∙ sym (append-nil p) } in
-      let kept : Starts p (walk (recording acts) op (a ∷ rest) w).held.reads = starts-walk op p (a ∷ rest) w (omega arith) start in
+      let kept : Starts p (walk (recording acts) op (a ∷ rest) w).held.reads =
+      starts-walk op p (a ∷ rest) w (omega arith) start in
       subst (λ bytes. Starts bytes (walk (recording acts) op rest v).held.reads)
       (sym (ap (λ l. p ++ l) (no_more acts op rest (step acts op a (behind w)) none) ∙ append-nil p))
       kept
 
-  lead : (op : Op) (xs : List Access) (p : List ℕ) (w : Walk (Recorded Held)) → w.held.reads ≡ p → length p + fetch_count xs ≤ 4 → is_lead xs ≡ true →
+  lead : (op : Op) (xs : List Access) (p : List ℕ) (w : Walk (Recorded Held)) → w.held.reads ≡ p
+      → length p + fetch_count xs ≤ 4 → is_lead xs ≡ true →
       Starts (p ++ operand_bytes acts op xs (behind w)) (walk (recording acts) op xs w).held.reads
   lead op [] p w e short l = record { more = []; begin = e ∙ sym (append-nil p) ∙ sym (append-nil (p ++ [])) }
   lead op (a ∷ rest) p w e short l =
@@ -174,7 +193,8 @@ on_top w reads = record {
 }
 
 -- the bytes are picked where the reads begin with them
-picked-first : (first : ℕ) (bytes reads : List ℕ) (len : ℕ) → suc (length bytes) ≡ len → len ≤ 3 → Starts (first ∷ bytes) reads →
+picked-first : (first : ℕ) (bytes reads : List ℕ) (len : ℕ) → suc (length bytes) ≡ len → len ≤ 3
+    → Starts (first ∷ bytes) reads →
     picked false len reads ≡ in_three (first ∷ bytes)
 picked-first first [] reads len e h s = rw (← e, s.begin) refl
 picked-first first (a ∷ []) reads len e h s = rw (← e, s.begin) refl
@@ -199,14 +219,17 @@ module _ {Held : Type 0} (acts : Acts Held) where
   -- the reads of an instruction that leads with its fetches begin with its bytes
   led : (class : Class) (row : OpRow) (w : Walk Held) (opcode : ℕ) → is_lead (accesses class row.mode row.kind) ≡ true →
       fetch_count (accesses class row.mode row.kind) ≤ 2 →
-      Starts (opcode ∷ operand_bytes acts row.op (accesses class row.mode row.kind) (opened class w)) (rest_by (recording acts) class row (on_top w (opcode ∷ []))).held.reads
+      Starts (opcode ∷ operand_bytes acts row.op (accesses class row.mode row.kind) (opened class w))
+      (rest_by (recording acts) class row (on_top w (opcode ∷ []))).held.reads
   unfolding rest_by
   led class row w opcode leads few =
       let xs = accesses class row.mode row.kind in
       let v : Walk (Recorded Held) = opened class (on_top w (opcode ∷ [])) in
-      let reads : v.held.reads ≡ opcode ∷ [] = ap (λ (h : Recorded Held). h.reads) (held-opened class (on_top w (opcode ∷ []))) in
+      let reads : v.held.reads ≡ opcode ∷ [] =
+      ap (λ (h : Recorded Held). h.reads) (held-opened class (on_top w (opcode ∷ []))) in
       let found = lead acts row.op xs (opcode ∷ []) v reads (omega (arith, few)) leads in
-      subst (λ u. Starts (opcode ∷ operand_bytes acts row.op xs u) (walk (recording acts) row.op xs v).held.reads) (behind-opened acts class (on_top w (opcode ∷ []))) found
+      subst (λ u. Starts (opcode ∷ operand_bytes acts row.op xs u) (walk (recording acts) row.op xs v).held.reads)
+      (behind-opened acts class (on_top w (opcode ∷ []))) found
 
   -- those of a call have one of the stack between
   called : (class : Class) (row : OpRow) (w : Walk Held) (opcode : ℕ) → is_call class ≡ true →
@@ -221,34 +244,45 @@ module _ {Held : Type 0} (acts : Acts Held) where
   call_long _ row c = cc
 
   picked-by : (b : Bool) (class : Class) (row : OpRow) (w : Walk Held) (opcode : ℕ) → is_call class ≡ b →
-      (b || is_lead (accesses class row.mode row.kind)) ≡ true → suc (fetch_count (accesses class row.mode row.kind)) ≡ length_of row.mode → length_of row.mode ≤ 3 →
+      (b || is_lead (accesses class row.mode row.kind)) ≡ true
+      → suc (fetch_count (accesses class row.mode row.kind)) ≡ length_of row.mode → length_of row.mode ≤ 3 →
       picked b (length_of row.mode) (rest_by (recording acts) class row (on_top w (opcode ∷ []))).held.reads
       ≡ in_three (opcode ∷ operand_bytes acts row.op (accesses class row.mode row.kind) (opened class w))
   picked-by true class row w opcode c leads long short =
       let three : length_of row.mode ≡ 3 = sym long ∙ ap suc (call_long class row c) in
-      ap (λ len. picked true len (rest_by (recording acts) class row (on_top w (opcode ∷ []))).held.reads) three ∙ called class row w opcode c
+      ap (λ len. picked true len (rest_by (recording acts) class row (on_top w (opcode ∷ []))).held.reads) three
+      ∙ called class row w opcode c
   picked-by false class row w opcode c leads long short =
       let xs = accesses class row.mode row.kind in
       picked-first opcode (operand_bytes acts row.op xs (opened class w)) _ (length_of row.mode)
-      (ap suc (counted acts row.op xs (opened class w)) ∙ long) short (led class row w opcode leads (omega (arith, long, short)))
+      (ap suc (counted acts row.op xs (opened class w))
+      ∙ long) short (led class row w opcode leads (omega (arith, long, short)))
 
   -- the reads of an instruction begin with its opcode
-  first : (class : Class) (row : OpRow) (w : Walk Held) (opcode : ℕ) → nth (rest_by (recording acts) class row (on_top w (opcode ∷ []))).held.reads 0 ≡ opcode
+  first : (class : Class) (row : OpRow) (w : Walk Held) (opcode : ℕ)
+      → nth (rest_by (recording acts) class row (on_top w (opcode ∷ []))).held.reads 0 ≡ opcode
   unfolding rest_by
   first class row w opcode =
       let v : Walk (Recorded Held) = opened class (on_top w (opcode ∷ [])) in
-      let reads : v.held.reads ≡ (opcode ∷ []) ++ [] = ap (λ (h : Recorded Held). h.reads) (held-opened class (on_top w (opcode ∷ []))) in
-      let kept = starts-walk acts row.op (opcode ∷ []) (accesses class row.mode row.kind) v (omega arith) (record { more = []; begin = reads }) in
+      let reads : v.held.reads ≡ (opcode ∷ []) ++ [] =
+      ap (λ (h : Recorded Held). h.reads) (held-opened class (on_top w (opcode ∷ []))) in
+      let kept =
+      starts-walk acts row.op (opcode ∷ []) (accesses class row.mode row.kind) v (omega arith)
+      (record { more = []; begin = reads }) in
       ap (λ l. nth l 0) kept.begin
 
   -- the bytes of an instruction are picked from its first reads, and are as many as its length
   record IsTold (cpu : Cpu) (held : Held) (reads : List ℕ) : Type 0 where
     opcode : nth reads 0 ≡ acts.byte held cpu.pc
-    bytes : acts.byte held cpu.pc < 256 → bytes_by (row_of (acts.byte held cpu.pc)) reads ≡ in_three (code_bytes acts cpu held)
-    len : acts.byte held cpu.pc < 256 → length (code_bytes acts cpu held) ≡ length_of (row_of (acts.byte held cpu.pc)).mode
+    bytes : acts.byte held cpu.pc < 256
+        → bytes_by (row_of (acts.byte held cpu.pc)) reads ≡ in_three (code_bytes acts cpu held)
+    len : acts.byte held cpu.pc < 256
+        → length (code_bytes acts cpu held) ≡ length_of (row_of (acts.byte held cpu.pc)).mode
 
   is_told : (cpu : Cpu) (held : Held) →
-      IsTold cpu held (rest_of (recording acts) (row_of (acts.byte held cpu.pc)) (opcode_read (recording acts) cpu (record { held = held; reads = [] }))).held.reads
+      IsTold cpu held
+      (rest_of (recording acts) (row_of (acts.byte held cpu.pc))
+      (opcode_read (recording acts) cpu (record { held = held; reads = [] }))).held.reads
   unfolding code_bytes operand_of rest_of bytes_by
   is_told cpu held =
       let opcode = acts.byte held cpu.pc in
@@ -258,14 +292,16 @@ module _ {Held : Type 0} (acts : Acts Held) where
       record {
         opcode = first class row w opcode;
         bytes = λ below.
-            let fits = fits_of opcode below in picked-by (is_call class) class row w opcode refl fits.leads fits.long fits.short;
+            let fits =
+            fits_of opcode below in picked-by (is_call class) class row w opcode refl fits.leads fits.long fits.short;
         len = λ below.
             let fits = fits_of opcode below in
             ap suc (counted acts row.op (accesses class row.mode row.kind) (opened class w)) ∙ fits.long;
       }
 
   -- an instruction comes where nothing else does
-  runs_by : (b : Bool) (page : Option ℕ) (note : Note) → awaited_by b page note ≡ None → (b ≡ false) × ((page ≡ None) × (note ≢ Due))
+  runs_by : (b : Bool) (page : Option ℕ) (note : Note) → awaited_by b page note ≡ None
+      → (b ≡ false) × ((page ≡ None) × (note ≢ Due))
   runs_by true page _ e = cc
   runs_by false (Some page) _ e = cc
   runs_by false None Due e = cc
@@ -276,18 +312,27 @@ module _ {Held : Type 0} (acts : Acts Held) where
   pub told_as : (a : Option UnitKind) (cpu : Cpu) (held : Held) → awaited_by cpu.jammed (acts.page held) cpu.note ≡ a →
       nth (unit_of (recording acts) cpu (record { held = held; reads = [] })).held.reads 0 < 256 →
       told_by a (unit_of (recording acts) cpu (record { held = held; reads = [] })).held.reads
-      ≡ record { kind = kind_or a (row_of (acts.byte held cpu.pc)); len = length (bytes_or a (code_bytes acts cpu held)); bytes = in_three (bytes_or a (code_bytes acts cpu held)) }
+      ≡ record {
+        kind = kind_or a (row_of (acts.byte held cpu.pc));
+        len = length (bytes_or a (code_bytes acts cpu held));
+        bytes = in_three (bytes_or a (code_bytes acts cpu held));
+      }
   told_as (Some kind) cpu held e below = refl
   told_as None cpu held e below =
       let opcode = acts.byte held cpu.pc in
       let runs = runs_by cpu.jammed (acts.page held) cpu.note e in
       let start : Recorded Held = record { held = held; reads = [] } in
-      let unit = unit-runs (recording acts) cpu start opcode (record { not_jammed = runs.0; no_copy = runs.1.0; no_entry = runs.1.1; at_pc = refl }) in
+      let unit =
+      unit-runs (recording acts) cpu start opcode
+      (record { not_jammed = runs.0; no_copy = runs.1.0; no_entry = runs.1.1; at_pc = refl }) in
       let told = is_told cpu held in
       let reads = (rest_of (recording acts) (row_of opcode) (opcode_read (recording acts) cpu start)).held.reads in
-      let same : (unit_of (recording acts) cpu start).held.reads ≡ reads = ap (λ (u : Unit (Recorded Held)). u.held.reads) unit in
+      let same : (unit_of (recording acts) cpu start).held.reads ≡ reads =
+      ap (λ (u : Unit (Recorded Held)). u.held.reads) unit in
       let byte : opcode < 256 = subst (λ n. n < 256) (ap (λ l. nth l 0) same ∙ told.opcode) below in
-      let whole : List ℕ → ℕ → Told = λ l n. (let row = row_of n in record { kind = kind_in row; len = length_of row.mode; bytes = bytes_by row l }) in
+      let whole : List ℕ → ℕ → Told =
+      λ l n. (let row =
+      row_of n in record { kind = kind_in row; len = length_of row.mode; bytes = bytes_by row l }) in
       let made : ℕ → List ℕ → Told = λ len bytes. record { kind = kind_in (row_of opcode); len = len; bytes = bytes } in
       ap (λ l. whole l (nth l 0)) same
       ∙ ap (λ n. whole reads n) told.opcode

@@ -37,19 +37,27 @@ with_pattern image m = record m { chr = (if m.chr_ram then drop 4480 image else 
 board-is : (m : Banks) (vertical : Bool) (image : List ℕ) (bank : ℕ) →
     with_bank (with_pattern image m) bank ≡ board_at (rom_in m vertical) image bank
 unfolding board_at
-board-is m vertical image bank = ap (λ chr. record m { chr = chr; bank = bank }) (board-by m.chr_ram m.chr (drop 4480 image))
+board-is m vertical image bank =
+    ap (λ chr. record m { chr = chr; bank = bank }) (board-by m.chr_ram m.chr (drop 4480 image))
 
 -- the bank of an image is one of the cartridge's
-pub bank_below : (s : State) (image bytes : List ℕ) (board : Banks) → IsImage (rom_of s) image → bytes ≡ take 32 (drop 4448 image) →
+pub bank_below : (s : State) (image bytes : List ℕ) (board : Banks) → IsImage (rom_of s) image
+    → bytes ≡ take 32 (drop 4448 image) →
     board ≡ with_pattern image s.cells.board → slice_index bytes 25 < bank_count board
 unfolding of_image cells_at rom_of bank_count board_at
 bank_below s image bytes board h rest is_board =
     let whole = board-is s.cells.board s.cells.screen.vram.vertical image (slice_index bytes 25) in
     let below = h.ready.sized.board.bank in
-    rw (is_board, rest) (subst (λ m. slice_index (take 32 (drop 4448 image)) 25 < bank_count m) (sym (board-is s.cells.board s.cells.screen.vram.vertical image (slice_index (take 32 (drop 4448 image)) 25))) below)
+    rw (
+      is_board,
+      rest,
+    ) (subst (λ m. slice_index (take 32 (drop 4448 image)) 25 < bank_count m)
+    (sym (board-is s.cells.board s.cells.screen.vram.vertical image (slice_index (take 32 (drop 4448 image)) 25)))
+    below)
 
 -- the parts that a machine read from an image
-pub record Read (s : State) (image bytes : List ℕ) (cpu : Cpu) (screen : Screen) (ram : List ℕ) (board : Banks) (page : Option ℕ) (odd : Bool) (one two : Port) : Type 0 where
+pub record Read (s : State) (image bytes : List ℕ) (cpu : Cpu) (screen : Screen) (ram : List ℕ) (board : Banks)
+    (page : Option ℕ) (odd : Bool) (one two : Port) : Type 0 where
   pub rest_is : bytes ≡ take 32 (drop 4448 image)
   pub cpu_is : cpu ≡ cpu_at bytes
   pub screen_is : screen ≡ (of_image (rom_of s) image).cells.screen
@@ -60,9 +68,11 @@ pub record Read (s : State) (image bytes : List ℕ) (cpu : Cpu) (screen : Scree
   pub one_is : one ≡ port_at bytes 15
   pub two_is : two ≡ port_at bytes 18
 
-pub load_chain : (s : State) (image bytes : List ℕ) (cpu : Cpu) (screen : Screen) (ram : List ℕ) (board : Banks) (page : Option ℕ) (odd : Bool) (one two : Port) →
+pub load_chain : (s : State) (image bytes : List ℕ) (cpu : Cpu) (screen : Screen) (ram : List ℕ) (board : Banks)
+    (page : Option ℕ) (odd : Bool) (one two : Port) →
     Read s image bytes cpu screen ram board page odd one two →
-    record { cpu = cpu; cells = cells_of screen ram board (slice_index bytes 21) page odd one two } ≡ of_image (rom_of s) image
+    record { cpu = cpu; cells = cells_of screen ram board (slice_index bytes 21) page odd one two }
+    ≡ of_image (rom_of s) image
 unfolding of_image cells_at rom_of
 load_chain s image bytes cpu screen ram board page odd one two r =
     let is_board = r.board_is ∙ board-is s.cells.board s.cells.screen.vram.vertical image (slice_index bytes 25) in

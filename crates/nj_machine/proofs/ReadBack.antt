@@ -28,12 +28,14 @@ unfolding picture_part
 parts_of ram picture rest pattern r p m =
     let behind_ram = drop_at ram (picture ++ (rest ++ pattern)) 2048 r in
     let behind_picture : drop 4448 (ram ++ (picture ++ (rest ++ pattern))) ≡ rest ++ pattern =
-    sym (drop-drop 2400 2048 (ram ++ (picture ++ (rest ++ pattern)))) ∙ ap (drop 2400) behind_ram ∙ drop_at picture (rest ++ pattern) 2400 p in
+    sym (drop-drop 2400 2048 (ram ++ (picture ++ (rest ++ pattern)))) ∙ ap (drop 2400) behind_ram
+    ∙ drop_at picture (rest ++ pattern) 2400 p in
     record {
       first = take_at ram (picture ++ (rest ++ pattern)) 2048 r;
       second = ap (take 2400) behind_ram ∙ take_at picture (rest ++ pattern) 2400 p;
       third = ap (take 32) behind_picture ∙ take_at rest pattern 32 m;
-      last = sym (drop-drop 32 4448 (ram ++ (picture ++ (rest ++ pattern)))) ∙ ap (drop 32) behind_picture ∙ drop_at rest pattern 32 m;
+      last = sym (drop-drop 32 4448 (ram ++ (picture ++ (rest ++ pattern)))) ∙ ap (drop 32) behind_picture
+          ∙ drop_at rest pattern 32 m;
     }
 
 -- the picture's part has 2,400 bytes
@@ -53,10 +55,12 @@ unfolding rest_bytes
 length-rest s = length-append (rest_bytes s) (replicate 6 0) ∙ ap (λ n. 26 + n) (length-replicate {A = ℕ} 6 0)
 
 pub image_parts : (s : State) → IsReady s →
-    Parts (image_of s) s.cells.ram (picture_bytes s.cells.screen) (rest_bytes s ++ replicate 6 0) (pattern_ram s.cells.board.chr_ram s.cells.board.chr)
+    Parts (image_of s) s.cells.ram (picture_bytes s.cells.screen) (rest_bytes s ++ replicate 6 0)
+    (pattern_ram s.cells.board.chr_ram s.cells.board.chr)
 unfolding image_of
 image_parts s h =
-    parts_of s.cells.ram (picture_bytes s.cells.screen) (rest_bytes s ++ replicate 6 0) (pattern_ram s.cells.board.chr_ram s.cells.board.chr)
+    parts_of s.cells.ram (picture_bytes s.cells.screen) (rest_bytes s ++ replicate 6 0)
+    (pattern_ram s.cells.board.chr_ram s.cells.board.chr)
     h.sized.ram (length-picture_bytes s.cells.screen h.sized.screen) (length-rest s)
 
 -- bytes, flags, notes and pages are read again as they were written
@@ -81,28 +85,37 @@ unfolding cpu_at rest_bytes
 cpu-back s = simp (word-back, flag-back, note-back)
 
 -- the picture is read again
-screen-back : (s : Screen) (image : List ℕ) → IsScreen s → s.ended ≡ false → 4448 ≤ length image → picture_part image ≡ picture_bytes s →
+screen-back : (s : Screen) (image : List ℕ) → IsScreen s → s.ended ≡ false → 4448 ≤ length image
+    → picture_part image ≡ picture_bytes s →
     screen_at s.vram.vertical image ≡ s
 unfolding screen_at screen_at_power_on blank
 screen-back s image fits unmarked long holds =
-    get_is s (screen_at_power_on s.vram.vertical) _ _ _ _ image (record { fits = fits; unmarked = unmarked; bytes = holds }) refl long refl refl refl refl
+    get_is s (screen_at_power_on s.vram.vertical) _ _ _ _ image
+    (record { fits = fits; unmarked = unmarked; bytes = holds }) refl long refl refl refl refl
 
 -- the board is read again
-board-by : (b : Bool) (prg chr : List ℕ) (ram : List ℕ) → ram ≡ pattern_ram b chr → (if b then ram else pattern_rom b chr) ≡ chr
+board-by : (b : Bool) (prg chr : List ℕ) (ram : List ℕ) → ram ≡ pattern_ram b chr
+    → (if b then ram else pattern_rom b chr) ≡ chr
 board-by true prg chr ram e = e
 board-by false prg chr ram e = refl
 
-board-back : (m : Banks) (vertical : Bool) (image : List ℕ) → drop 4480 image ≡ pattern_ram m.chr_ram m.chr → board_at (rom_in m vertical) image m.bank ≡ m
+board-back : (m : Banks) (vertical : Bool) (image : List ℕ) → drop 4480 image ≡ pattern_ram m.chr_ram m.chr
+    → board_at (rom_in m vertical) image m.bank ≡ m
 unfolding board_at
 board-back m vertical image e = ap (λ chr. record m { chr = chr }) (board-by m.chr_ram m.prg m.chr (drop 4480 image) e)
 
 -- the cells are read again
-cells-back : (s : State) → cells_at (rom_of s) (image_of s) (rest_bytes s ++ replicate 6 0) ≡ cells_of (screen_at s.cells.screen.vram.vertical (image_of s)) (take 2048 (image_of s)) (board_at (rom_of s) (image_of s) s.cells.board.bank) s.cells.bus_byte s.cells.page s.cells.odd s.cells.port_one s.cells.port_two
+cells-back : (s : State)
+    → cells_at (rom_of s) (image_of s) (rest_bytes s ++ replicate 6 0)
+    ≡ cells_of (screen_at s.cells.screen.vram.vertical (image_of s)) (take 2048 (image_of s))
+    (board_at (rom_of s) (image_of s) s.cells.board.bank) s.cells.bus_byte s.cells.page s.cells.odd s.cells.port_one
+    s.cells.port_two
 unfolding cells_at rest_bytes rom_of
 cells-back s = simp (flag-back, page-back)
 
 -- an image has its length, since pattern memory that is RAM has 8 KiB
-pattern-length : (b : Bool) (chr : List ℕ) → (b ≡ true → length chr ≡ 8192) → 4480 + length (pattern_ram b chr) ≡ (if b then 12672 else 4480)
+pattern-length : (b : Bool) (chr : List ℕ) → (b ≡ true → length chr ≡ 8192)
+    → 4480 + length (pattern_ram b chr) ≡ (if b then 12672 else 4480)
 pattern-length true chr e = omega (arith, e refl)
 pattern-length false chr e = refl
 
@@ -141,16 +154,20 @@ again s h =
     let board = board-back s.cells.board s.cells.screen.vram.vertical image parts.last in
     let cells =
     cells-back s
-    ∙ ap (λ x. cells_of x (take 2048 image) (board_at (rom_of s) image s.cells.board.bank) s.cells.bus_byte s.cells.page s.cells.odd s.cells.port_one s.cells.port_two) screen
-    ∙ ap (λ x. cells_of s.cells.screen x (board_at (rom_of s) image s.cells.board.bank) s.cells.bus_byte s.cells.page s.cells.odd s.cells.port_one s.cells.port_two) parts.first
-    ∙ ap (λ x. cells_of s.cells.screen s.cells.ram x s.cells.bus_byte s.cells.page s.cells.odd s.cells.port_one s.cells.port_two) board in
+    ∙ ap (λ x. cells_of x (take 2048 image) (board_at (rom_of s) image s.cells.board.bank) s.cells.bus_byte s.cells.page
+    s.cells.odd s.cells.port_one s.cells.port_two) screen
+    ∙ ap (λ x. cells_of s.cells.screen x (board_at (rom_of s) image s.cells.board.bank) s.cells.bus_byte s.cells.page
+    s.cells.odd s.cells.port_one s.cells.port_two) parts.first
+    ∙ ap (λ x. cells_of s.cells.screen s.cells.ram x s.cells.bus_byte s.cells.page s.cells.odd s.cells.port_one
+    s.cells.port_two) board in
     ap (λ bytes. record { cpu = cpu_at bytes; cells = cells_at (rom_of s) image bytes }) parts.third
     ∙ ap (λ x. record { cpu = x; cells = cells_at (rom_of s) image (rest_bytes s ++ replicate 6 0) }) (cpu-back s)
     ∙ ap (λ x. record { cpu = s.cpu; cells = x }) cells
 
 -- two states of one cartridge with one image are one
 pub one : (s t : State) → IsReady s → IsReady t → rom_of s ≡ rom_of t → image_of s ≡ image_of t → s ≡ t
-one s t h k rom image = sym (again s h) ∙ ap (λ r. of_image r (image_of s)) rom ∙ ap (of_image (rom_of t)) image ∙ again t k
+one s t h k rom image =
+    sym (again s h) ∙ ap (λ r. of_image r (image_of s)) rom ∙ ap (of_image (rom_of t)) image ∙ again t k
 
 -- the image of a state is one of its cartridge
 pub saved : (s : State) → IsReady s → IsImage (rom_of s) (image_of s)

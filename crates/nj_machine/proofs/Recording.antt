@@ -35,7 +35,8 @@ behind_unit u = record { cpu = u.cpu; held = u.held.held; end_ = u.end_ }
 
 module _ {Held : Type 0} (acts : Acts Held) where
   -- one access
-  behind-transferred : (op : Op) (t : Transfer) (at : ℕ) (w : Walk (Recorded Held)) → behind (transferred (recording acts) op t at w) ≡ transferred acts op t at (behind w)
+  behind-transferred : (op : Op) (t : Transfer) (at : ℕ) (w : Walk (Recorded Held))
+      → behind (transferred (recording acts) op t at w) ≡ transferred acts op t at (behind w)
   behind-transferred op Ignores at w = refl
   behind-transferred op ToLow at w = refl
   behind-transferred op ToHigh at w = refl
@@ -83,19 +84,25 @@ module _ {Held : Type 0} (acts : Acts Held) where
   behind-chosen true v w = refl
   behind-chosen false v w = refl
 
-  pub behind-step : (op : Op) (a : Access) (w : Walk (Recorded Held)) → behind (step (recording acts) op a w) ≡ step acts op a (behind w)
+  pub behind-step : (op : Op) (a : Access) (w : Walk (Recorded Held))
+      → behind (step (recording acts) op a w) ≡ step acts op a (behind w)
   behind-step op a w =
       let at = address_of a.place w in
       let t : Walk (Recorded Held) = transferred (recording acts) op a.transfer at w in
       behind-chosen (is_made a.when_ op w) (moved a.then_ t) w
-      ∙ ap (λ v. cond (is_made a.when_ op w) v (behind w)) (behind-moved a.then_ t ∙ ap (moved a.then_) (behind-transferred op a.transfer at w))
-      ∙ ap (λ b. cond b (moved a.then_ (transferred acts op a.transfer at (behind w))) (behind w)) (sym (behind-made a.when_ op w))
-      ∙ ap (λ n. cond (is_made a.when_ op (behind w)) (moved a.then_ (transferred acts op a.transfer n (behind w))) (behind w)) (sym (behind-address a.place w))
+      ∙ ap (λ v. cond (is_made a.when_ op w) v (behind w)) (behind-moved a.then_ t
+      ∙ ap (moved a.then_) (behind-transferred op a.transfer at w))
+      ∙ ap (λ b. cond b (moved a.then_ (transferred acts op a.transfer at (behind w))) (behind w))
+      (sym (behind-made a.when_ op w))
+      ∙ ap (λ n. cond (is_made a.when_ op (behind w)) (moved a.then_ (transferred acts op a.transfer n (behind w)))
+      (behind w)) (sym (behind-address a.place w))
 
   -- accesses one after another
-  pub behind-walk : (op : Op) (xs : List Access) (w : Walk (Recorded Held)) → behind (walk (recording acts) op xs w) ≡ walk acts op xs (behind w)
+  pub behind-walk : (op : Op) (xs : List Access) (w : Walk (Recorded Held))
+      → behind (walk (recording acts) op xs w) ≡ walk acts op xs (behind w)
   behind-walk op [] w = refl
-  behind-walk op (a ∷ rest) w = behind-walk op rest (step (recording acts) op a w) ∙ ap (walk acts op rest) (behind-step op a w)
+  behind-walk op (a ∷ rest) w =
+      behind-walk op rest (step (recording acts) op a w) ∙ ap (walk acts op rest) (behind-step op a w)
 
   pub behind-opened : (class : Class) (w : Walk (Recorded Held)) → behind (opened class w) ≡ opened class (behind w)
   behind-opened ByMode w = refl
@@ -112,7 +119,8 @@ module _ {Held : Type 0} (acts : Acts Held) where
   behind-opened PullsFlags w = refl
   behind-opened Jams w = refl
 
-  behind-settled : (class : Class) (row : OpRow) (w : Walk (Recorded Held)) → settled class row (behind w) ≡ settled class row w
+  behind-settled : (class : Class) (row : OpRow) (w : Walk (Recorded Held))
+      → settled class row (behind w) ≡ settled class row w
   behind-settled ByMode row w = refl
   behind-settled Branches row w = refl
   behind-settled Jumps row w = refl
@@ -127,18 +135,21 @@ module _ {Held : Type 0} (acts : Acts Held) where
   behind-settled PullsFlags row w = refl
   behind-settled Jams row w = refl
 
-  behind-rest : (class : Class) (row : OpRow) (w : Walk (Recorded Held)) → behind (rest_by (recording acts) class row w) ≡ rest_by acts class row (behind w)
+  behind-rest : (class : Class) (row : OpRow) (w : Walk (Recorded Held))
+      → behind (rest_by (recording acts) class row w) ≡ rest_by acts class row (behind w)
   unfolding rest_by
   behind-rest class row w =
       let xs = accesses class row.mode row.kind in
       let v : Walk (Recorded Held) = walk (recording acts) row.op xs (opened class w) in
-      let same : behind v ≡ walk acts row.op xs (opened class (behind w)) = behind-walk row.op xs (opened class w) ∙ ap (walk acts row.op xs) (behind-opened class w) in
+      let same : behind v ≡ walk acts row.op xs (opened class (behind w)) =
+      behind-walk row.op xs (opened class w) ∙ ap (walk acts row.op xs) (behind-opened class w) in
       let change : Cpu → Walk Held = λ c. (let b = behind v in record b { cpu = c }) in
       let finish : Walk Held → Walk Held = λ u. record u { cpu = settled class row u } in
       ap change (sym (behind-settled class row v)) ∙ ap finish same
 
   -- what a unit can be
-  behind-instruction : (cpu : Cpu) (r : Recorded Held) → behind (instruction (recording acts) cpu r) ≡ instruction acts cpu r.held
+  behind-instruction : (cpu : Cpu) (r : Recorded Held)
+      → behind (instruction (recording acts) cpu r) ≡ instruction acts cpu r.held
   unfolding instruction rest_of
   behind-instruction cpu r =
       let row = row_of (acts.byte r.held cpu.pc) in
@@ -148,16 +159,19 @@ module _ {Held : Type 0} (acts : Acts Held) where
   unfolding entered
   behind-entered cpu r = behind-walk Nop nmi_entry (begun (record cpu { note = NoNote }) r no_rise)
 
-  behind-copied : (page : ℕ) (cpu : Cpu) (r : Recorded Held) → behind (copied (recording acts) page cpu r) ≡ copied acts page cpu r.held
+  behind-copied : (page : ℕ) (cpu : Cpu) (r : Recorded Held)
+      → behind (copied (recording acts) page cpu r) ≡ copied acts page cpu r.held
   unfolding copied
   behind-copied page cpu r = behind-walk Nop (waits (acts.odd r.held) ++ copies page 256) (begun cpu r no_rise)
 
-  behind-note : (note : Note) (cpu : Cpu) (r : Recorded Held) → behind (on_note note (recording acts) cpu r) ≡ on_note note acts cpu r.held
+  behind-note : (note : Note) (cpu : Cpu) (r : Recorded Held)
+      → behind (on_note note (recording acts) cpu r) ≡ on_note note acts cpu r.held
   behind-note Due cpu r = behind-entered cpu r
   behind-note NoNote cpu r = behind-instruction cpu r
   behind-note Late cpu r = behind-instruction cpu r
 
-  behind-page : (page : Option ℕ) (cpu : Cpu) (r : Recorded Held) → behind (on_page page (recording acts) cpu r) ≡ on_page page acts cpu r.held
+  behind-page : (page : Option ℕ) (cpu : Cpu) (r : Recorded Held)
+      → behind (on_page page (recording acts) cpu r) ≡ on_page page acts cpu r.held
   behind-page (Some page) cpu r = behind-copied page cpu ((recording acts).after_take r)
   behind-page None cpu r = behind-note cpu.note cpu r
 
@@ -172,6 +186,8 @@ module _ {Held : Type 0} (acts : Acts Held) where
   unit-by true cpu r w v e = refl
   unit-by false cpu r w v e = ap (noted cpu.note) e
 
-  pub unit-behind : (cpu : Cpu) (r : Recorded Held) → behind_unit (unit_of (recording acts) cpu r) ≡ unit_of acts cpu r.held
+  pub unit-behind : (cpu : Cpu) (r : Recorded Held)
+      → behind_unit (unit_of (recording acts) cpu r) ≡ unit_of acts cpu r.held
   unfolding unit_of
-  unit-behind cpu r = unit-by cpu.jammed cpu r (active (recording acts) cpu r) (active acts cpu r.held) (behind-active cpu r)
+  unit-behind cpu r =
+      unit-by cpu.jammed cpu r (active (recording acts) cpu r) (active acts cpu r.held) (behind-active cpu r)

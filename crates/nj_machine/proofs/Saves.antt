@@ -11,7 +11,8 @@ use Rattle.nj_machine.proofs.Boards.{ram_whole}
 use Rattle.nj_machine.proofs.ReadBack.{length-picture_bytes, length-rest}
 
 -- a part of a list is replaced by one of its length
-over_part : (n : ℕ) (a b c x : List ℕ) → length a ≡ n → length x ≡ length b → overwritten n x (a ++ (b ++ c)) ≡ a ++ (x ++ c)
+over_part : (n : ℕ) (a b c x : List ℕ) → length a ≡ n → length x ≡ length b
+    → overwritten n x (a ++ (b ++ c)) ≡ a ++ (x ++ c)
 over_part n a b c x at same =
     let front : take n (a ++ (b ++ c)) ≡ a = take_at a (b ++ c) n at in
     let back : drop (n + length x) (a ++ (b ++ c)) ≡ c =
@@ -26,7 +27,8 @@ record Split (i r p m c : List ℕ) : Type 0 where
   second : length p ≡ 2400
   third : length m ≡ 32
 
-split_of : (i : List ℕ) → 4480 ≤ length i → Split i (take 2048 i) (take 2400 (drop 2048 i)) (take 32 (drop 4448 i)) (drop 4480 i)
+split_of : (i : List ℕ) → 4480 ≤ length i
+    → Split i (take 2048 i) (take 2400 (drop 2048 i)) (take 32 (drop 4448 i)) (drop 4480 i)
 split_of i long =
     let two = sym (take-append-drop 2048 i) in
     let three : drop 2048 i ≡ take 2400 (drop 2048 i) ++ drop 4448 i =
@@ -41,7 +43,8 @@ split_of i long =
     }
 
 -- the picture's part is replaced
-picture_over : (s : Screen) (a p c : List ℕ) → length a ≡ 2048 → length p ≡ 2400 → with_picture s (a ++ (p ++ c)) ≡ a ++ (picture_bytes s ++ c)
+picture_over : (s : Screen) (a p c : List ℕ) → length a ≡ 2048 → length p ≡ 2400
+    → with_picture s (a ++ (p ++ c)) ≡ a ++ (picture_bytes s ++ c)
 unfolding with_picture
 picture_over s a p c at same =
     let front : take 2048 (a ++ (p ++ c)) ≡ a = take_at a (p ++ c) 2048 at in
@@ -50,7 +53,8 @@ picture_over s a p c at same =
     ap (λ l. l ++ (picture_bytes s ++ drop 4448 (a ++ (p ++ c)))) front ∙ ap (λ l. a ++ (picture_bytes s ++ l)) back
 
 -- working memory, the picture and the rest over any list
-three_over : (s : State) (i i1 i2 i3 : List ℕ) (rest : List ℕ) → IsReady s → 4480 ≤ length i → rest ≡ rest_bytes s ++ replicate 6 0 →
+three_over : (s : State) (i i1 i2 i3 : List ℕ) (rest : List ℕ) → IsReady s → 4480 ≤ length i
+    → rest ≡ rest_bytes s ++ replicate 6 0 →
     i1 ≡ overwritten 0 s.cells.ram i → i2 ≡ with_picture s.cells.screen i1 → i3 ≡ overwritten 4448 rest i2 →
     i3 ≡ s.cells.ram ++ (picture_bytes s.cells.screen ++ ((rest_bytes s ++ replicate 6 0) ++ drop 4480 i))
 three_over s i i1 i2 i3 rest h long is_rest e1 e2 e3 =
@@ -63,17 +67,21 @@ three_over s i i1 i2 i3 rest h long is_rest e1 e2 e3 =
     let pic = picture_bytes s.cells.screen in
     let new = rest_bytes s ++ replicate 6 0 in
     let one : i1 ≡ ram ++ (p ++ (m ++ c)) =
-    e1 ∙ ap (overwritten 0 ram) parts.whole ∙ over_part 0 [] r (p ++ (m ++ c)) ram refl (h.sized.ram ∙ sym parts.first) in
+    e1 ∙ ap (overwritten 0 ram) parts.whole
+    ∙ over_part 0 [] r (p ++ (m ++ c)) ram refl (h.sized.ram ∙ sym parts.first) in
     let two : i2 ≡ ram ++ (pic ++ (m ++ c)) =
     e2 ∙ ap (with_picture s.cells.screen) one ∙ picture_over s.cells.screen ram p (m ++ c) h.sized.ram parts.second in
-    let both : length (ram ++ pic) ≡ 4448 = length-append ram pic ∙ omega (arith, h.sized.ram, length-picture_bytes s.cells.screen h.sized.screen) in
+    let both : length (ram ++ pic) ≡ 4448 =
+    length-append ram pic ∙ omega (arith, h.sized.ram, length-picture_bytes s.cells.screen h.sized.screen) in
     e3 ∙ ap (λ l. overwritten 4448 l i2) is_rest ∙ ap (overwritten 4448 new) (two ∙ sym (append_assoc ram pic (m ++ c)))
     ∙ over_part 4448 (ram ++ pic) m c new both (length-rest s ∙ sym parts.third)
     ∙ append_assoc ram pic (new ++ c)
 
 -- what is written where pattern memory is no RAM
-pub rom_chain : (s : State) (i i1 i2 i3 rest : List ℕ) → IsReady s → length i ≡ image_len (rom_of s) → s.cells.board.chr_ram ≡ false → rest ≡ rest_bytes s ++ replicate 6 0 →
-    i1 ≡ overwritten 0 s.cells.ram i → i2 ≡ with_picture s.cells.screen i1 → i3 ≡ overwritten 4448 rest i2 → i3 ≡ image_of s
+pub rom_chain : (s : State) (i i1 i2 i3 rest : List ℕ) → IsReady s → length i ≡ image_len (rom_of s)
+    → s.cells.board.chr_ram ≡ false → rest ≡ rest_bytes s ++ replicate 6 0 →
+    i1 ≡ overwritten 0 s.cells.ram i → i2 ≡ with_picture s.cells.screen i1 → i3 ≡ overwritten 4448 rest i2
+    → i3 ≡ image_of s
 unfolding image_of image_len rom_of
 rom_chain s i i1 i2 i3 rest h sized no_ram is_rest e1 e2 e3 =
     let known : length i ≡ 4480 = sized ∙ ap (λ b. if b then 12672 else 4480) no_ram in
@@ -83,8 +91,10 @@ rom_chain s i i1 i2 i3 rest h sized no_ram is_rest e1 e2 e3 =
     ∙ ap (λ l. s.cells.ram ++ (picture_bytes s.cells.screen ++ ((rest_bytes s ++ replicate 6 0) ++ l))) none
 
 -- and where it is
-pub ram_chain : (s : State) (i i1 i2 i3 i4 rest : List ℕ) → IsReady s → length i ≡ image_len (rom_of s) → s.cells.board.chr_ram ≡ true → rest ≡ rest_bytes s ++ replicate 6 0 →
-    i1 ≡ overwritten 0 s.cells.ram i → i2 ≡ with_picture s.cells.screen i1 → i3 ≡ overwritten 4448 rest i2 → i4 ≡ overwritten 4480 s.cells.board.chr i3 → i4 ≡ image_of s
+pub ram_chain : (s : State) (i i1 i2 i3 i4 rest : List ℕ) → IsReady s → length i ≡ image_len (rom_of s)
+    → s.cells.board.chr_ram ≡ true → rest ≡ rest_bytes s ++ replicate 6 0 →
+    i1 ≡ overwritten 0 s.cells.ram i → i2 ≡ with_picture s.cells.screen i1 → i3 ≡ overwritten 4448 rest i2
+    → i4 ≡ overwritten 4480 s.cells.board.chr i3 → i4 ≡ image_of s
 unfolding image_of image_len rom_of
 ram_chain s i i1 i2 i3 i4 rest h sized is_ram is_rest e1 e2 e3 e4 =
     let known : length i ≡ 12672 = sized ∙ ap (λ b. if b then 12672 else 4480) is_ram in
@@ -96,11 +106,19 @@ ram_chain s i i1 i2 i3 i4 rest h sized is_ram is_rest e1 e2 e3 e4 =
     let front = ram ++ (pic ++ new) in
     let three : i3 ≡ front ++ (c ++ []) =
     three_over s i i1 i2 i3 rest h (omega arith) is_rest e1 e2 e3
-    ∙ ap (λ l. ram ++ l) (sym (append_assoc pic new c)) ∙ sym (append_assoc ram (pic ++ new) c) ∙ ap (λ l. front ++ l) (sym (append-nil c)) in
+    ∙ ap (λ l. ram ++ l) (sym (append_assoc pic new c)) ∙ sym (append_assoc ram (pic ++ new) c)
+    ∙ ap (λ l. front ++ l) (sym (append-nil c)) in
     let size : length front ≡ 4480 =
     length-append ram (pic ++ new)
-    ∙ omega (arith, h.sized.ram, length-append pic new, length-picture_bytes s.cells.screen h.sized.screen, length-rest s) in
-    let same : length chr ≡ length c = ram_whole s.cells.board h.sized.board is_ram ∙ omega (arith, length-drop 4480 i) in
+    ∙ omega (
+      arith,
+      h.sized.ram,
+      length-append pic new,
+      length-picture_bytes s.cells.screen h.sized.screen,
+      length-rest s,
+    ) in
+    let same : length chr ≡ length c =
+    ram_whole s.cells.board h.sized.board is_ram ∙ omega (arith, length-drop 4480 i) in
     let whole : pattern_ram s.cells.board.chr_ram chr ≡ chr = ap (λ b. pattern_ram b chr) is_ram in
     e4 ∙ ap (overwritten 4480 chr) three ∙ over_part 4480 front c [] chr size same
     ∙ ap (λ l. front ++ l) (append-nil chr ∙ sym whole)
@@ -108,8 +126,10 @@ ram_chain s i i1 i2 i3 i4 rest h sized is_ram is_rest e1 e2 e3 e4 =
     ∙ ap (λ l. ram ++ l) (append_assoc pic new (pattern_ram s.cells.board.chr_ram chr))
 
 -- what is written by a machine with these parts is its image
-pub save_chain : (s : State) (ram : List ℕ) (screen : Screen) (board : Banks) (i i1 i2 i3 i4 rest : List ℕ) → IsReady s →
-    ram ≡ s.cells.ram → screen ≡ s.cells.screen → board ≡ s.cells.board → length i ≡ image_len (rom_of s) → rest ≡ rest_bytes s ++ replicate 6 0 →
+pub save_chain : (s : State) (ram : List ℕ) (screen : Screen) (board : Banks) (i i1 i2 i3 i4 rest : List ℕ) → IsReady s
+    →
+    ram ≡ s.cells.ram → screen ≡ s.cells.screen → board ≡ s.cells.board → length i ≡ image_len (rom_of s)
+    → rest ≡ rest_bytes s ++ replicate 6 0 →
     i1 ≡ overwritten 0 ram i → i2 ≡ with_picture screen i1 → i3 ≡ overwritten 4448 rest i2 →
     i4 ≡ (if board.chr_ram then overwritten 4480 board.chr i3 else i3) → i4 ≡ image_of s
 save_chain s ram screen board i i1 i2 i3 i4 rest h is_ram is_screen is_board sized is_rest e1 e2 e3 e4 =
@@ -121,7 +141,8 @@ save_chain s ram screen board i i1 i2 i3 i4 rest h is_ram is_screen is_board siz
     f2 : i2 ≡ with_picture s.cells.screen i1
     f2 = e2 ∙ ap (λ p. with_picture p i1) is_screen
 
-    by : (b : Bool) → s.cells.board.chr_ram ≡ b → i4 ≡ (if b then overwritten 4480 s.cells.board.chr i3 else i3) → i4 ≡ image_of s
+    by : (b : Bool) → s.cells.board.chr_ram ≡ b → i4 ≡ (if b then overwritten 4480 s.cells.board.chr i3 else i3)
+        → i4 ≡ image_of s
     by true e last = ram_chain s i i1 i2 i3 i4 rest h sized e is_rest f1 f2 e3 last
     by false e last = last ∙ rom_chain s i i1 i2 i3 rest h sized e is_rest f1 f2 e3
 

@@ -7,7 +7,7 @@ use Rattle.nj_cpu.specs.declared.state.Cpu.{Cpu}
 use Rattle.nj_isa.specs.Bus.{Acts}
 use Rattle.nj_cpu.specs.Unit.{Unit, end_of, unit_of}
 use Rattle.nj_dots.specs.declared.screen.Screen.{Screen}
-use Rattle.nj_machine.specs.State.{State, rom_of, is_jammed}
+use Rattle.nj_machine.specs.State.{Cells, State, rom_of, is_jammed}
 use Rattle.nj_machine.specs.Wires.{Wired, wires}
 use Rattle.nj_machine.specs.Frame.{left_at, dots_left, end_by, unmarked, unit_step, IsReady}
 use Rattle.nj_machine.specs.Seen.{end_told}
@@ -30,7 +30,8 @@ unfolding unit_of
 unit-jammed acts cpu held jammed = nothing-by cpu.jammed _ _ jammed
 
 -- a unit tells whether the processor is jammed behind it
-end-by : {Held : Type 0} (b : Bool) (u v : Unit Held) → (b ≡ true → u.end_ ≡ end_of u.cpu.jammed) → v.end_ ≡ end_of v.cpu.jammed →
+end-by : {Held : Type 0} (b : Bool) (u v : Unit Held) → (b ≡ true → u.end_ ≡ end_of u.cpu.jammed)
+    → v.end_ ≡ end_of v.cpu.jammed →
     (if b then u else v).end_ ≡ end_of (if b then u else v).cpu.jammed
 end-by true u v p q = p refl
 end-by false u v p q = q
@@ -57,7 +58,8 @@ keeps-by : (b : Bool) (pad : ℕ) (s : State) → s.cpu.jammed ≡ b → IsReady
 keeps-by true pad s e h =
     subst (Keeps (rom_of s)) (sym (ap (λ u. u.held) (unit-jammed wires s.cpu (wired pad s) e))) (begins pad s h)
 keeps-by false pad s e h =
-    (unit-lower wires (Keeps (rom_of s)) left_of 3 (wires-lower (rom_of s)) s.cpu (wired pad s) e (begins pad s h)).stays
+    (unit-lower wires (Keeps (rom_of s)) left_of 3 (wires-lower (rom_of s)) s.cpu (wired pad s) e
+    (begins pad s h)).stays
 
 -- a unit leaves a state that is ready, of the same cartridge
 pub record Leaves (s t : State) : Type 0 where
@@ -91,7 +93,8 @@ no_end JammedUnit ended e = cc
 no_end Done true e = cc
 no_end Done false e = record { done = refl; not_ended = refl }
 
-an_end : (jammed ended : Bool) (end : FrameEnd) → end_by (end_of jammed) ended ≡ Some end → (end ≡ Jammed) ↔ (jammed ≡ true)
+an_end : (jammed ended : Bool) (end : FrameEnd) → end_by (end_of jammed) ended ≡ Some end
+    → (end ≡ Jammed) ↔ (jammed ≡ true)
 an_end true ended end e = (λ _. refl, λ _. cc)
 an_end false true end e = (λ h. cc, λ h. cc)
 an_end false false end e = cc
@@ -121,20 +124,26 @@ clear_left true line dot e = absurd (true≢false e)
 clear_left false line dot e = refl
 
 -- after a unit that does not end the frame fewer dots are left
-pub unit_fewer : (pad : ℕ) (s : State) → IsReady s → (unit_step pad s).1 ≡ None → dots_left (unit_step pad s).0 < dots_left s
+pub unit_fewer : (pad : ℕ) (s : State) → IsReady s → (unit_step pad s).1 ≡ None
+    → dots_left (unit_step pad s).0 < dots_left s
 unfolding unit_step dots_left
 unit_fewer pad s h e =
     let u = unit_now pad s in
     let still_going = no_end u.end_ u.held.cells.screen.ended e in
     let running = was_running s.cpu.jammed pad s refl still_going.done in
-    let lower = unit-lower wires (Keeps (rom_of s)) left_of 3 (wires-lower (rom_of s)) s.cpu (wired pad s) running (begins pad s h) in
-    let now = clear_left u.held.cells.screen.ended u.held.cells.screen.position.line u.held.cells.screen.position.dot still_going.not_ended in
+    let lower =
+    unit-lower wires (Keeps (rom_of s)) left_of 3 (wires-lower (rom_of s)) s.cpu (wired pad s) running
+    (begins pad s h) in
+    let now =
+    clear_left u.held.cells.screen.ended u.held.cells.screen.position.line u.held.cells.screen.position.dot
+    still_going.not_ended in
     let before = clear_left s.cells.screen.ended s.cells.screen.position.line s.cells.screen.position.dot h.clear in
     let some : 0 < left_at s.cells.screen.position.line s.cells.screen.position.dot = left_positive s h in
     omega (arith, lower.fewer, now, before, some)
 
 -- an end by a jam leaves a jammed processor, and no other does
-pub end_tells : (pad : ℕ) (s t : State) (end : FrameEnd) → unit_step pad s ≡ (t, Some end) → (end ≡ Jammed) ↔ (is_jammed t ≡ true)
+pub end_tells : (pad : ℕ) (s t : State) (end : FrameEnd) → unit_step pad s ≡ (t, Some end)
+    → (end ≡ Jammed) ↔ (is_jammed t ≡ true)
 unfolding unit_step is_jammed
 end_tells pad s t end e =
     let u = unit_now pad s in
@@ -142,6 +151,20 @@ end_tells pad s t end e =
     let told : end_by (end_of u.cpu.jammed) u.held.cells.screen.ended ≡ Some end =
     ap (λ x. end_by x u.held.cells.screen.ended) (sym (unit-end wires s.cpu (wired pad s))) ∙ ap (λ step. step.1) e in
     rw (← jammed) (an_end u.cpu.jammed u.held.cells.screen.ended end told)
+
+-- a unit that does not end the frame leaves a processor that is not jammed
+no_jam : (jammed ended : Bool) → end_by (end_of jammed) ended ≡ None → jammed ≡ false
+no_jam true ended e = cc
+no_jam false ended e = refl
+
+pub goes_on_running : (pad : ℕ) (s t : State) → unit_step pad s ≡ (t, None) → is_jammed t ≡ false
+unfolding unit_step is_jammed
+goes_on_running pad s t e =
+    let u = unit_now pad s in
+    let jammed : u.cpu.jammed ≡ t.cpu.jammed = ap (λ step. step.0.cpu.jammed) e in
+    let told : end_by (end_of u.cpu.jammed) u.held.cells.screen.ended ≡ None =
+    ap (λ x. end_by x u.held.cells.screen.ended) (sym (unit-end wires s.cpu (wired pad s))) ∙ ap (λ step. step.1) e in
+    sym jammed ∙ no_jam u.cpu.jammed u.held.cells.screen.ended told
 
 -- a unit of a jammed machine changes nothing
 pub jam_stays : (pad : ℕ) (s : State) → IsReady s → is_jammed s ≡ true → unit_step pad s ≡ (s, Some Jammed)
@@ -155,13 +178,43 @@ jam_stays pad s h e =
 
 -- the parts of a state after a unit whose mark was taken off
 pub leaves_by : (pad : ℕ) (s : State) (cpu : Cpu) (w : Wired) (screen : Screen) → IsReady s →
-    cpu ≡ (unit_of wires s.cpu (record { cells = s.cells; pad = pad })).cpu → w ≡ (unit_of wires s.cpu (record { cells = s.cells; pad = pad })).held →
-    screen ≡ (let p = w.cells.screen in record p { ended = false }) → Leaves s (record { cpu = cpu; cells = record w.cells { screen = screen } })
+    cpu ≡ (unit_of wires s.cpu (record { cells = s.cells; pad = pad })).cpu
+    → w ≡ (unit_of wires s.cpu (record { cells = s.cells; pad = pad })).held →
+    screen ≡ (let p = w.cells.screen in record p { ended = false })
+    → Leaves s (record { cpu = cpu; cells = record w.cells { screen = screen } })
 unfolding unit_step
 leaves_by pad s cpu w screen h registers held taken = rw (taken, registers, held) (unit_leaves pad s h)
 
+-- nothing is taken off where no mark is set
+unmarked-clear : (c : Cells) → c.screen.ended ≡ false → unmarked c ≡ c
+unmarked-clear c e = ap (λ b. record c { screen = (let p = c.screen in record p { ended = b }) }) (sym e)
+
+-- a unit that neither jams nor runs dot (241,1) leaves its parts as they are
+no_end_by : (pad : ℕ) (s : State) (cpu : Cpu) (w : Wired) (end : UnitEnd)
+    → cpu ≡ (unit_of wires s.cpu (record { cells = s.cells; pad = pad })).cpu
+    → w ≡ (unit_of wires s.cpu (record { cells = s.cells; pad = pad })).held
+    → end ≡ (unit_of wires s.cpu (record { cells = s.cells; pad = pad })).end_
+    → end ≡ Done → w.cells.screen.ended ≡ false → unit_step pad s ≡ (record { cpu = cpu; cells = w.cells }, None)
+unfolding unit_step
+no_end_by pad s cpu w end registers held told done clear =
+    (λ i. (
+      record { cpu = sym registers i; cells = unmarked (sym held i).cells },
+      end_by (sym told i) (sym held i).cells.screen.ended,
+    ))
+    ∙ (λ i. (record { cpu = cpu; cells = unmarked-clear w.cells clear i }, end_by (done i) (clear i)))
+
+-- and they are those of a state that is ready, of the same cartridge
+pub leaves_on : (pad : ℕ) (s : State) (cpu : Cpu) (w : Wired) (end : UnitEnd) → IsReady s
+    → cpu ≡ (unit_of wires s.cpu (record { cells = s.cells; pad = pad })).cpu
+    → w ≡ (unit_of wires s.cpu (record { cells = s.cells; pad = pad })).held
+    → end ≡ (unit_of wires s.cpu (record { cells = s.cells; pad = pad })).end_
+    → end ≡ Done → w.cells.screen.ended ≡ false → Leaves s (record { cpu = cpu; cells = w.cells })
+leaves_on pad s cpu w end h registers held told done clear =
+    subst (Leaves s) (ap (λ x. x.0) (no_end_by pad s cpu w end registers held told done clear)) (unit_leaves pad s h)
+
 -- a step that answers a jam leaves a jammed processor, and no other does
-tells-by : (step : UnitStep) (jammed ended : Bool) → end_by (end_of jammed) ended ≡ end_told step → (step ≡ StepJammed) ↔ (jammed ≡ true)
+tells-by : (step : UnitStep) (jammed ended : Bool) → end_by (end_of jammed) ended ≡ end_told step
+    → (step ≡ StepJammed) ↔ (jammed ≡ true)
 tells-by More true ended e = cc
 tells-by More false ended e = (λ h. cc, λ h. cc)
 tells-by AtPicture true ended e = cc
@@ -170,7 +223,8 @@ tells-by StepJammed true ended e = (λ h. refl, λ h. refl)
 tells-by StepJammed false true e = cc
 tells-by StepJammed false false e = cc
 
-pub step_tells : (pad : ℕ) (s t : State) (step : UnitStep) → unit_step pad s ≡ (t, end_told step) → (step ≡ StepJammed) ↔ (is_jammed t ≡ true)
+pub step_tells : (pad : ℕ) (s t : State) (step : UnitStep) → unit_step pad s ≡ (t, end_told step)
+    → (step ≡ StepJammed) ↔ (is_jammed t ≡ true)
 unfolding unit_step is_jammed
 step_tells pad s t step e =
     let u = unit_now pad s in

@@ -5,11 +5,13 @@ use Rattle.nj_dots.specs.declared.screen.Screen.{Screen}
 use Rattle.nj_dots.specs.Registers.{to_pattern, data_address}
 
 -- by the two tests
-inner-below : (b : Bool) (a v : ℕ) → (b ≡ true → a < 0x2000) → (p : ℕ × ℕ) → (if b then Some (a, v) else None) ≡ Some p → p.0 < 0x2000
+inner-below : (b : Bool) (a v : ℕ) → (b ≡ true → a < 0x2000) → (p : ℕ × ℕ) → (if b then Some (a, v) else None) ≡ Some p
+    → p.0 < 0x2000
 inner-below true a v h p e = let same : (a, v) ≡ p = cc in subst (λ q. q.0 < 0x2000) same (h refl)
 inner-below false a v h p e = cc
 
-outer-below : (b : Bool) (a v : ℕ) (p : ℕ × ℕ) → (if b then (if nat_lt a 0x2000 then Some (a, v) else None) else None) ≡ Some p → p.0 < 0x2000
+outer-below : (b : Bool) (a v : ℕ) (p : ℕ × ℕ)
+    → (if b then (if nat_lt a 0x2000 then Some (a, v) else None) else None) ≡ Some p → p.0 < 0x2000
 outer-below true a v p e = inner-below (nat_lt a 0x2000) a v (λ t. grind (arith, nat_tests)) p e
 outer-below false a v p e = cc
 

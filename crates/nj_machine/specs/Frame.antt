@@ -11,8 +11,8 @@ use Rattle.nj_machine.specs.Wires.{wires}
 use Rattle.nj_machine.specs.declared.FrameEnd.{FrameEnd}
 use Rattle.nj_machine.specs.declared.FrameEnd.TheVariants.{Picture, Jammed}
 
--- how many dots are left up to and including dot (241,1), from the dot that is the next one; a dot that is skipped makes
--- the number fall by one more
+-- how many dots are left up to and including dot (241,1), from the dot that is the next one; a dot that is skipped
+-- makes the number fall by one more
 unfoldable pub left_at : ℕ → ℕ → ℕ
 left_at line dot =
     let place = line * 341 + dot in if nat_le place 82182 then 82183 - place else 171525 - place
@@ -46,8 +46,8 @@ unfoldable pub units_until : ℕ → ℕ → State → State × FrameEnd
 units_until pad zero s = (s, Picture)
 units_until pad (suc n) s = or_on (unit_step pad s).0 (unit_step pad s).1 (units_until pad n)
 
--- one frame with this pad: units up to and including the first that runs dot (241,1), or up to a jam. Each unit that does
--- not end it runs dots, so that it has no more units than dots are left
+-- one frame with this pad: units up to and including the first that runs dot (241,1), or up to a jam. Each unit that
+-- does not end it runs dots, so that it has no more units than dots are left
 unfoldable pub frame : State → ℕ → State × FrameEnd
 frame s pad = units_until pad (dots_left s) s
 
@@ -65,7 +65,8 @@ pub record IsSized (c : Cells) : Type 0 where
   pub ram : length c.ram ≡ 2048
   pub board : IsBanks c.board
 
--- what a state between two units keeps: its memories have their sizes, its next dot is in the picture, and its mark is clear
+-- what a state between two units keeps: its memories have their sizes, its next dot is in the picture, and its mark is
+-- clear
 pub record IsReady (s : State) : Type 0 where
   pub sized : IsSized s.cells
   pub clear : s.cells.screen.ended ≡ false

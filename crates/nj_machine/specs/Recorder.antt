@@ -61,4 +61,5 @@ pub record Told : Type 0 where
 abbrev pub told_by : Option UnitKind → List ℕ → Told
 told_by (Some kind) reads = record { kind = kind; len = 0; bytes = 0 ∷ 0 ∷ 0 ∷ [] }
 told_by None reads =
-    let row = row_of (nth reads 0) in record { kind = kind_in row; len = length_of row.mode; bytes = bytes_by row reads }
+    let row =
+    row_of (nth reads 0) in record { kind = kind_in row; len = length_of row.mode; bytes = bytes_by row reads }

@@ -28,7 +28,8 @@ end_told More = None
 end_told Picture = Some AtPicture
 end_told Jammed = Some AtJam
 
--- the count of steps after a step that answers this: one more where it ended the frame, up to the last number that a u64 has
+-- the count of steps after a step that answers this: one more where it ended the frame, up to the last number that a
+-- u64 has
 abbrev pub counted : UnitStep → ℕ → ℕ
 counted More steps = steps
 counted _ steps = min (steps + 1) (2 ^ 64 - 1)
@@ -62,12 +63,14 @@ operand_bytes acts op (a ∷ rest) w =
 -- the operand's bytes of an instruction of this row whose opcode was read
 unfoldable pub operand_of : {Held : Type 0} → Acts Held → OpRow → Walk Held → List ℕ
 operand_of acts row w =
-    let class = class_of row.op row.mode in operand_bytes acts row.op (accesses class row.mode row.kind) (opened class w)
+    let class =
+    class_of row.op row.mode in operand_bytes acts row.op (accesses class row.mode row.kind) (opened class w)
 
 -- the bytes of an instruction that begins here: its opcode and the operand's
 unfoldable pub code_bytes : {Held : Type 0} → Acts Held → Cpu → Held → List ℕ
 code_bytes acts cpu held =
-    let opcode = acts.byte held cpu.pc in opcode ∷ operand_of acts (row_of opcode) (read_at acts cpu.pc (begun cpu held no_rise))
+    let opcode =
+    acts.byte held cpu.pc in opcode ∷ operand_of acts (row_of opcode) (read_at acts cpu.pc (begun cpu held no_rise))
 
 -- an instruction is a jam or other code, by its class
 abbrev pub kind_by : Class → UnitKind
@@ -77,8 +80,8 @@ kind_by _ = Code
 abbrev pub kind_in : OpRow → UnitKind
 kind_in row = kind_by (class_of row.op row.mode)
 
--- what a unit is that is no instruction: nothing where the processor is jammed, else a sprite copy where one was asked for,
--- else an NMI entry where the note is Due
+-- what a unit is that is no instruction: nothing where the processor is jammed, else a sprite copy where one was asked
+-- for, else an NMI entry where the note is Due
 abbrev pub awaited_by : Bool → Option ℕ → Note → Option UnitKind
 awaited_by true _ _ = Some Nothing
 awaited_by false (Some page) _ = Some Copy
@@ -102,7 +105,8 @@ bytes_or None bytes = bytes
 abbrev pub in_three : List ℕ → List ℕ
 in_three bytes = take 3 (bytes ++ (0 ∷ 0 ∷ 0 ∷ []))
 
--- the next unit of a processor, as it is seen: its kind and bytes, and the registers and the place of the next dot before it
+-- the next unit of a processor, as it is seen: its kind and bytes, and the registers and the place of the next dot
+-- before it
 unfoldable pub seen_in : Cpu → Wired → UnitSeen
 seen_in cpu w =
     let bytes = bytes_or (awaited wires cpu w) (code_bytes wires cpu w) in

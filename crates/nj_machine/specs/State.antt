@@ -100,5 +100,6 @@ unfoldable pub power_on : Cartridge → State
 power_on cart = record {
   cpu = powered_on (reset_vector (memory_of cart));
   cells =
-      cells_of (screen_at_power_on cart.vertical) (replicate 2048 0) (memory_of cart) 0 None false port_at_power_on port_at_power_on;
+      cells_of (screen_at_power_on cart.vertical) (replicate 2048 0) (memory_of cart) 0 None false port_at_power_on
+      port_at_power_on;
 }

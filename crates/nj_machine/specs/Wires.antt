@@ -18,8 +18,8 @@ pub record Wired : Type 0 where
 unfoldable pub dots_run : Wired → Wired
 dots_run w = record w { cells = (let c = w.cells in record c { screen = after_dots 3 (pattern_of c.board) c.screen }) }
 
--- a port gives bit 0, and bits 5 to 7 stay as they are on the data bus; the bits between are 0 (NESdev Wiki, "Controller
--- reading" and "Open bus behavior")
+-- a port gives bit 0, and bits 5 to 7 stay as they are on the data bus; the bits between are 0 (NESdev Wiki,
+-- "Controller reading" and "Open bus behavior")
 abbrev pub port_byte : ℕ → ℕ → ℕ
 port_byte bus_byte bit = bus_byte / 32 * 32 + bit
 
@@ -37,7 +37,8 @@ answer w at =
 
 -- a read of a picture's register
 unfoldable pub register_read : ℕ → Wired → Wired
-register_read reg w = record w { cells = (let c = w.cells in record c { screen = screen_after_read reg (pattern_of c.board) c.screen }) }
+register_read reg w =
+    record w { cells = (let c = w.cells in record c { screen = screen_after_read reg (pattern_of c.board) c.screen }) }
 
 -- a read of port 1
 unfoldable pub port_one_read : Wired → Wired

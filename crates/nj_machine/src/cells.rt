@@ -2,6 +2,7 @@
 
 ghost use Rattle.std.specs.Prelude.{◌≡◌, ◌<◌, ◌≤◌, ◌*◌, ◌/◌, ◌+◌};
 ghost use Rattle.nj_banked.specs.Banked.{pattern_of};
+ghost use Rattle.nj_dots.specs.Dots.{after_dots};
 ghost use Rattle.nj_machine.specs.State.{cells_of};
 ghost use Rattle.nj_machine.specs.Wires.{answer, answered, port_byte, wires, written, Wired};
 
@@ -32,6 +33,27 @@ fn port_byte(bus_byte: u8, bit: u8) -> u8
     ensures { result ≡ port_byte bus_byte bit }
 {
     bus_byte / 32 * 32 + bit
+}
+
+// The three dots of a cycle. Pattern memory is looked for only where they cannot stay pending.
+#[inline(always)]
+fn run_cycle<P: Picture>(picture: &mut P, board: &Banked)
+    ensures { P.meaning picture.new (pattern_of board.now)
+        ≡ after_dots 3 (pattern_of board.now) (P.meaning picture.old (pattern_of board.now)) }
+{
+    if picture.defer(3) {
+        run_now(picture, board);
+    }
+}
+
+// The same where they cannot.
+#[cold]
+#[inline(never)]
+fn run_now<P: Picture>(picture: &mut P, board: &Banked)
+    ensures { P.meaning picture.new (pattern_of board.now)
+        ≡ after_dots 3 (pattern_of board.now) (P.meaning picture.old (pattern_of board.now)) }
+{
+    picture.run(3, board.pattern());
 }
 
 impl<P: Picture + Drop> Cells<P> {
@@ -88,7 +110,8 @@ impl<P: Picture + Drop> Bus for Cells<P> {
     ghost Held = { Wired };
 
     ghost held = { λ c. record {
-      cells = cells_of (P.meaning c.picture (pattern_of c.board)) c.ram c.board c.bus_byte c.page c.odd c.port_one c.port_two;
+      cells = cells_of (P.meaning c.picture (pattern_of c.board)) c.ram c.board c.bus_byte c.page c.odd c.port_one
+          c.port_two;
       pad = c.pad;
     } };
 
@@ -97,7 +120,7 @@ impl<P: Picture + Drop> Bus for Cells<P> {
     #[inline(always)]
     #[tactic(auto, unfolding(crate::specs::Wires::byte_read, crate::specs::Wires::after_read, crate::specs::Wires::dots_run, crate::specs::Wires::answer, crate::specs::Wires::answered, crate::specs::Wires::over))]
     fn read(&mut self, at: u16) -> u8 {
-        self.picture.run(3, self.board.pattern());
+        run_cycle(&mut self.picture, &self.board);
         let byte = if at >= 0x8000 {
             self.board.cpu_read(at).unwrap_or(self.bus_byte)
         } else if at < 0x2000 {
@@ -113,7 +136,7 @@ impl<P: Picture + Drop> Bus for Cells<P> {
     #[inline(always)]
     #[tactic(auto, unfolding(crate::specs::Wires::after_write, crate::specs::Wires::dots_run, crate::specs::Wires::written, crate::specs::Wires::ram_put, crate::specs::Wires::over))]
     fn write(&mut self, at: u16, value: u8) {
-        self.picture.run(3, self.board.pattern());
+        run_cycle(&mut self.picture, &self.board);
         if at < 0x2000 {
             self.ram[at as usize % 2048] = value;
         } else {

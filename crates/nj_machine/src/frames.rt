@@ -1,6 +1,6 @@
 //! The machine, frame by frame.
 
-ghost use Rattle.std.specs.Prelude.{◌≡◌, ◌+◌, ◌-◌, ◌^◌, ◌≤◌, ◌↔◌, ℕ, true, min, length, replicate, IfOk};
+ghost use Rattle.std.specs.Prelude.{◌≡◌, ◌+◌, ◌-◌, ◌^◌, ◌≤◌, ◌↔◌, ℕ, List, true, false, min, length, replicate, IfOk};
 ghost use Rattle.nj_banked.specs.Banks.{IsBanks};
 ghost use Rattle.nj_machine.specs.State.{State, power_on, ram_of, rom_of, is_jammed, memory_of, reset_vector};
 ghost use Rattle.nj_machine.specs.Frame.{unit_step, frame, frames, IsReady, IsFirstEnd};
@@ -37,12 +37,16 @@ impl<P: Picture> Model for Console<P> {
 
     ghost view = { λ m. record {
       cpu = m.cpu;
-      cells = cells_of (P.meaning m.recorder.cells.picture (pattern_of m.recorder.cells.board)) m.recorder.cells.ram m.recorder.cells.board m.recorder.cells.bus_byte m.recorder.cells.page m.recorder.cells.odd m.recorder.cells.port_one m.recorder.cells.port_two;
+      cells = cells_of (P.meaning m.recorder.cells.picture (pattern_of m.recorder.cells.board)) m.recorder.cells.ram
+          m.recorder.cells.board m.recorder.cells.bus_byte m.recorder.cells.page m.recorder.cells.odd
+          m.recorder.cells.port_one m.recorder.cells.port_two;
     } };
 
     ghost invariant = { λ m. IsReady (record {
       cpu = m.cpu;
-      cells = cells_of (P.meaning m.recorder.cells.picture (pattern_of m.recorder.cells.board)) m.recorder.cells.ram m.recorder.cells.board m.recorder.cells.bus_byte m.recorder.cells.page m.recorder.cells.odd m.recorder.cells.port_one m.recorder.cells.port_two;
+      cells = cells_of (P.meaning m.recorder.cells.picture (pattern_of m.recorder.cells.board)) m.recorder.cells.ram
+          m.recorder.cells.board m.recorder.cells.bus_byte m.recorder.cells.page m.recorder.cells.odd
+          m.recorder.cells.port_one m.recorder.cells.port_two;
     }) };
 }
 
@@ -76,6 +80,17 @@ fn board_of(alloc: Global, cart: &Cart) -> Result<Banked, AllocError>
     } else {
         Ok(Banked::new(prg, chr, cart.chr_ram(), mapper))
     }
+}
+
+// Whether a unit that ended so ends the frame: by a jam, or since it ran dot (241,1). One look tells both.
+#[inline(always)]
+fn ends_frame<P: Picture>(picture: &P, end: UnitEnd) -> bool
+    ensures done { result ≡ false → end ≡ UnitEnd.Done }
+    ensures unmarked { (p : List ℕ) → result ≡ false → (P.meaning picture.now p).ended ≡ false }
+    ensures marked { (p : List ℕ) → result ≡ true → end ≡ UnitEnd.Done → (P.meaning picture.now p).ended ≡ true }
+{
+    let jammed = end == UnitEnd::Jammed;
+    picture.has_ended() as u8 | jammed as u8 != 0
 }
 
 impl<P: Picture + Drop + Waiting> Console<P> {
@@ -118,6 +133,9 @@ impl<P: Picture + Drop + Waiting> Console<P> {
         ensures never_falls { steps.old ≤ steps.new }
     {
         steps.tick();
+        if self.stands() {
+            return FrameEnd::Jammed;
+        }
         let mut watch = Watch::new(&self.cpu);
         loop {
             let before = self.cpu.pc;
@@ -157,21 +175,34 @@ impl<P: Picture + Drop + Waiting> Console<P> {
         self.cpu.jammed
     }
 
-    /// One unit of the processor in a frame with this pad, and how it ended the frame, if it did.
+    // Whether no unit does anything: the processor is jammed.
+    #[tactic(auto, unfolding(crate::specs::State::is_jammed))]
+    fn stands(&self) -> bool
+        ensures jammed { result ≡ is_jammed self.now }
+        ensures ready { IsReady self.now }
+    {
+        self.cpu.jammed
+    }
+
+    /// One unit of a processor that is not jammed, in a frame with this pad, and how it ended the frame, if it did.
     #[inline(always)]
-    #[tactic(auto, unfolding(crate::specs::Frame::unit_step))]
+    #[tactic(auto, unfolding(crate::specs::Frame::unit_step, crate::specs::State::is_jammed))]
     fn run_unit(&mut self, pad: Pad) -> Option<FrameEnd>
+        requires running { is_jammed self.old ≡ false }
         ensures step { unit_step pad self.old ≡ (self.new, result) }
         ensures began { IsReady self.old }
         ensures ready { IsReady self.new }
         ensures cartridge { rom_of self.new ≡ rom_of self.old }
     {
         self.recorder.cells.pad = pad;
-        let end = nj_cpu::unit(&mut self.cpu, &mut self.recorder.cells);
-        let ended = self.recorder.cells.picture.take_end();
+        let end = nj_cpu::next_unit(&mut self.cpu, &mut self.recorder.cells);
+        if !ends_frame(&self.recorder.cells.picture, end) {
+            return None;
+        }
+        let _ = self.recorder.cells.picture.take_end();
         match end {
             UnitEnd::Jammed => Some(FrameEnd::Jammed),
-            UnitEnd::Done => { if ended { Some(FrameEnd::Picture) } else { None } }
+            UnitEnd::Done => Some(FrameEnd::Picture),
         }
     }
 

@@ -165,7 +165,8 @@ fn place_pattern(image: &mut [u8], board: &Banked)
 // Takes pattern memory from an image, where it is RAM.
 fn take_pattern(board: &mut Banked, image: &[u8])
     requires { board.old.chr_ram ≡ true → length image.now ≡ 12672 }
-    ensures { board.new ≡ record board.old { chr = (if board.old.chr_ram then drop 4480 image.now else board.old.chr) } }
+    ensures { board.new
+        ≡ record board.old { chr = (if board.old.chr_ram then drop 4480 image.now else board.old.chr) } }
 {
     if board.has_chr_ram() {
         let (_, pattern) = image.split_at(4480);

@@ -54,7 +54,15 @@ pub struct UnitSeen {
 impl UnitSeen {
     /// No unit yet, to be handed to the first call of `Console::unit_step`.
     pub fn new() -> UnitSeen
-        ensures { result ≡ record { kind = UnitKind.Nothing; bytes = 0 ∷ 0 ∷ 0 ∷ []; len = 0; cpu = powered_on 0; line = 0; dot = 0 } }
+        ensures { result
+            ≡ record {
+              kind = UnitKind.Nothing;
+              bytes = 0 ∷ 0 ∷ 0 ∷ [];
+              len = 0;
+              cpu = powered_on 0;
+              line = 0;
+              dot = 0;
+            } }
     {
         UnitSeen {
             kind: UnitKind::Nothing,
@@ -150,7 +158,8 @@ impl<P: Picture + Drop> Recorder<P> {
     #[tactic(auto, unfolding(crate::specs::Seen::seen_in))]
     pub fn unit(&mut self, cpu: &mut Cpu, seen: &mut UnitSeen) -> UnitEnd
         ensures cpu { cpu.new ≡ (unit_of wires cpu.old (⟦<Cells<P> as Bus>⟧.held self.old.cells)).cpu }
-        ensures held { ⟦<Cells<P> as Bus>⟧.held self.new.cells ≡ (unit_of wires cpu.old (⟦<Cells<P> as Bus>⟧.held self.old.cells)).held }
+        ensures held { ⟦<Cells<P> as Bus>⟧.held self.new.cells
+            ≡ (unit_of wires cpu.old (⟦<Cells<P> as Bus>⟧.held self.old.cells)).held }
         ensures end { result ≡ (unit_of wires cpu.old (⟦<Cells<P> as Bus>⟧.held self.old.cells)).end_ }
         ensures seen { seen.new ≡ seen_in cpu.old (⟦<Cells<P> as Bus>⟧.held self.old.cells) }
     {

@@ -1,7 +1,7 @@
 //! Loops that wait: their turns are passed over.
 
 ghost use Rattle.std.specs.Prelude.{◌≡◌, ◌<◌, ◌≤◌, ◌*◌, ℕ, IfSome};
-ghost use Rattle.nj_machine.specs.State.{rom_of};
+ghost use Rattle.nj_machine.specs.State.{is_jammed, rom_of};
 ghost use Rattle.nj_machine.specs.Frame.{dots_left, frame, IsReady};
 ghost use Rattle.nj_machine.specs.Waiting.{IsWait};
 
@@ -60,7 +60,17 @@ pub(crate) struct Watch {
     polls: bool,
     // Where the last loop began that was found not to wait.
     barred: Option<u16>,
+    // How many jumps back in a row found another processor than the one before.
+    misses: u8,
+    // After many of them so many are passed by: a loop that counts is not looked at each time.
+    rests: u8,
 }
+
+// So many jumps back that find another processor are looked at, each.
+const MOST_MISSES: u8 = 32;
+
+// And then one of so many and one.
+const RESTS: u8 = 7;
 
 impl Watch {
     /// Nothing was seen yet of a frame that begins with this processor.
@@ -69,6 +79,29 @@ impl Watch {
             anchor: *cpu,
             polls: false,
             barred: None,
+            misses: 0,
+            rests: 0,
+        }
+    }
+
+    // Whether a jump back to this address is to be looked at.
+    #[inline(always)]
+    fn looks_at(&mut self, pc: u16) -> bool {
+        if self.rests > 0 {
+            self.rests -= 1;
+            return false;
+        }
+        self.barred != Some(pc)
+    }
+
+    // A jump back found another processor than the one before.
+    fn miss(&mut self, cpu: &Cpu) {
+        self.anchor = *cpu;
+        self.polls = false;
+        if self.misses < MOST_MISSES {
+            self.misses += 1;
+        } else {
+            self.rests = RESTS;
         }
     }
 }
@@ -96,10 +129,11 @@ impl Turn {
 }
 
 impl<P: Picture + Drop + Waiting> Cells<P> {
-    // A turn of the loop that the processor is in, if it waits. Where it is known to poll $2002 and the status stays for a
-    // few dots alone, no turn is tried, and none is known.
+    // A turn of the loop that the processor is in, if it waits. Where it is known to poll $2002 and the status stays
+    // for a few dots alone, no turn is tried, and none is known.
     fn turn(&self, cpu: &Cpu, polls: &mut bool) -> Option<Turn>
-        ensures { IfSome result (λ turn. IsWait cpu.now (⟦<Cells<P> as Bus>⟧.held self.now).cells turn.cycles turn.dots) }
+        ensures { IfSome result
+            (λ turn. IsWait cpu.now (⟦<Cells<P> as Bus>⟧.held self.now).cells turn.cycles turn.dots) }
     {
         if self.page.is_some() {
             return None;
@@ -140,6 +174,7 @@ impl<P: Picture + Drop + Waiting> Console<P> {
         ensures fewer { dots_left self.new ≤ dots_left self.old }
         ensures ready { IsReady self.new }
         ensures cartridge { rom_of self.new ≡ rom_of self.old }
+        ensures jam { is_jammed self.new ≡ is_jammed self.old }
     {
         let Some(turn) = self.recorder.cells.turn(&self.cpu, polls) else {
             return false;
@@ -161,11 +196,14 @@ impl<P: Picture + Drop + Waiting> Console<P> {
         ensures fewer { dots_left self.new ≤ dots_left self.old }
         ensures ready { IsReady self.new }
         ensures cartridge { rom_of self.new ≡ rom_of self.old }
+        ensures jam { is_jammed self.new ≡ is_jammed self.old }
     {
         if watch.anchor != self.cpu {
-            watch.anchor = self.cpu;
-            watch.polls = false;
-        } else if !self.pass_turns(&mut watch.polls) {
+            watch.miss(&self.cpu);
+            return;
+        }
+        watch.misses = 0;
+        if !self.pass_turns(&mut watch.polls) {
             watch.barred = Some(self.cpu.pc);
         }
     }
@@ -177,9 +215,10 @@ impl<P: Picture + Drop + Waiting> Console<P> {
         ensures fewer { dots_left self.new ≤ dots_left self.old }
         ensures ready { IsReady self.new }
         ensures cartridge { rom_of self.new ≡ rom_of self.old }
+        ensures jam { is_jammed self.new ≡ is_jammed self.old }
     {
         let pc = self.cpu.pc;
-        if P::passes_turns() && pc <= before && watch.barred != Some(pc) {
+        if P::passes_turns() && pc <= before && watch.looks_at(pc) {
             self.look_back(watch);
         }
     }

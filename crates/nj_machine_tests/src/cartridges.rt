@@ -8,21 +8,23 @@ use std::alloc::{AllocError, Global};
 use std::sync::ledger::{Blank, Ledger};
 use std::test::Fail;
 
+/// One bank of program memory and one of pattern ROM, mapper 0.
 pub const HEADER: [u8; 16] = [b'N', b'E', b'S', 0x1A, 1, 1, 0, 0, 0, 0, 0, 0, 0, 0, 0, 0];
 
+/// One bank of program memory and pattern RAM, mapper 0.
 pub const HEADER_CHR_RAM: [u8; 16] = [b'N', b'E', b'S', 0x1A, 1, 0, 0, 0, 0, 0, 0, 0, 0, 0, 0, 0];
 
-// INC $10 and a jump back.
+/// INC $10 and a jump back.
 pub const COUNTS: [u8; 5] = [0xE6, 0x10, 0x4C, 0x00, 0x80];
 
-// Lets NMIs come. Each counts at $11, reads the eight buttons, and counts at $10 where Right is held.
+/// Lets NMIs come. Each counts at $11, reads the eight buttons, and counts at $10 where Right is held.
 pub const WALKS: [u8; 36] = [
     0x78, 0xA9, 0x80, 0x8D, 0x00, 0x20, 0x4C, 0x06, 0x80, 0xE6, 0x11, 0xA9, 0x01, 0x8D, 0x16, 0x40,
     0xA9, 0x00, 0x8D, 0x16, 0x40, 0xA2, 0x08, 0xAD, 0x16, 0x40, 0xCA, 0xD0, 0xFA, 0x29, 0x01, 0xF0,
     0x02, 0xE6, 0x10, 0x40,
 ];
 
-// A cartridge of 16 KiB with code at $8000 and these vectors.
+/// A cartridge of 16 KiB with code at $8000 and these vectors.
 pub fn cartridge(
     alloc: Global,
     header: [u8; 16],
@@ -38,7 +40,7 @@ pub fn cartridge(
     Ok(Cart::read(alloc, file.as_slice()).ok())
 }
 
-// A file of zeros with a header, but for pieces at these places behind it.
+/// A file of zeros with a header, but for pieces at these places behind it.
 pub fn file_of(
     alloc: Global,
     header: [u8; 16],
@@ -54,7 +56,7 @@ pub fn file_of(
     Ok(file)
 }
 
-// A machine with this code at $8000, where it begins, and this low byte of the NMI vector.
+/// A machine with this code at $8000, where it begins, and this low byte of the NMI vector.
 pub fn machine<P: Picture + Drop + Waiting>(
     alloc: Global,
     code: &[u8],
@@ -64,7 +66,7 @@ pub fn machine<P: Picture + Drop + Waiting>(
     Ok(Console::<P>::power_on(alloc, &cart)?)
 }
 
-// Plays these pads; how many steps were counted.
+/// Plays these pads; how many steps were counted.
 pub fn played<P: Picture + Drop + Waiting, L: Ledger>(
     blank: Blank,
     machine: &mut Console<P>,

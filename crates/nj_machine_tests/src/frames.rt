@@ -131,7 +131,8 @@ const SWITCHES_CHR: [u8; 25] = [
     0xAD, 0x07, 0x20, 0x85, 0x10, 0x4C, 0x15, 0x80, 0x00,
 ];
 
-// A write chooses the bank that its byte and the one that stands there have in common: the last with 1, the first with 0.
+// A write chooses the bank that its byte and the one that stands there have in common: the last with 1, the first with
+// 0.
 #[test]
 fn banks_of_both_boards(rt: HostRuntime) -> Result<(), Fail> {
     for (there, prg_byte, chr_byte) in [(0x01, 0xA9, 0x42), (0x00, 0x11, 0x21)] {

@@ -81,8 +81,8 @@ const WAITS: [u8; 10] = [0xA0, 0x34, 0xA2, 0x68, 0xCA, 0xD0, 0xFD, 0x88, 0xD0, 0
 // Keeps what was read at $10, reads $2002 once more, keeps that at $11, and stays.
 const KEEPS: [u8; 10] = [0x85, 0x10, 0xAD, 0x02, 0x20, 0x85, 0x11, 0xB8, 0x50, 0xFD];
 
-// Code that begins with these bytes, waits 27,353 cycles and then two for each NOP, and goes on with these bytes. An NMI
-// counts at $12.
+// Code that begins with these bytes, waits 27,353 cycles and then two for each NOP, and goes on with these bytes. An
+// NMI counts at $12.
 fn waiting(alloc: Global, first: &[u8], nops: usize, last: &[u8]) -> Result<Vec<u8>, AllocError> {
     let mut code = Vec::from_slice(alloc, first)?;
     code.extend_from_slice(&WAITS)?;
@@ -119,8 +119,8 @@ fn read_twice<P: Picture + Drop + Waiting>(alloc: Global) -> Result<[u8; 3], Fai
     kept::<P>(alloc, code.as_slice())
 }
 
-// Just before dot (241,1) a read of $2002 finds no vertical blank and keeps the flag and the NMI line down; after it the
-// flag is set, and clear at the next read.
+// Just before dot (241,1) a read of $2002 finds no vertical blank and keeps the flag and the NMI line down; after it
+// the flag is set, and clear at the next read.
 #[test]
 fn the_race_at_vertical_blank(rt: HostRuntime) -> Result<(), Fail> {
     assert_eq!(rt; read_before::<CatchUp>(rt.alloc())?, [0, 0, 0]);

@@ -15,11 +15,13 @@ record Fronted (front : List ℕ) (read : Result (List ℕ) MovieRefused) (pads 
   read_is : read ≡ Ok more
   joined : front ++ more ≡ pads
 
-with_front-Ok : (front : List ℕ) (read : Result (List ℕ) MovieRefused) (pads : List ℕ) → with_front front read ≡ Ok pads → Fronted front read pads
+with_front-Ok : (front : List ℕ) (read : Result (List ℕ) MovieRefused) (pads : List ℕ) → with_front front read ≡ Ok pads
+    → Fronted front read pads
 with_front-Ok front (Ok more) pads is = record { more = more; read_is = refl; joined = cc }
 with_front-Ok front (Err refused) pads is = absurd cc
 
-with_front-Err : (front : List ℕ) (read : Result (List ℕ) MovieRefused) (refused : MovieRefused) → with_front front read ≡ Err refused → read ≡ Err refused
+with_front-Err : (front : List ℕ) (read : Result (List ℕ) MovieRefused) (refused : MovieRefused)
+    → with_front front read ≡ Err refused → read ≡ Err refused
 with_front-Err front (Ok more) refused is = absurd cc
 with_front-Err front (Err other) refused is = cc
 
@@ -37,11 +39,14 @@ record Read (parts : List (List ℕ)) (frames : ℕ) (pads : List ℕ) : Type 0 
 
 -- a line before lines of which this is known
 says_by_case : (line : List ℕ) (rest : List (List ℕ)) (number frames : ℕ) (pads : List ℕ) → frames ≤ 1048576 →
-    LineCase number frames line → and_then (line_frames number frames line) (λ more. frames_from (number + 1) (frames + length more) rest) ≡ Ok pads →
-    ((number frames : ℕ) (pads : List ℕ) → frames ≤ 1048576 → frames_from number frames rest ≡ Ok pads → Read rest frames pads) →
+    LineCase number frames line → and_then (line_frames number frames line)
+    (λ more. frames_from (number + 1) (frames + length more) rest) ≡ Ok pads →
+    ((number frames : ℕ) (pads : List ℕ) → frames ≤ 1048576 → frames_from number frames rest ≡ Ok pads →
+    Read rest frames pads) →
     Read (line ∷ rest) frames pads
 says_by_case line rest number frames pads most (skipped skips is) read further =
-    let none : frames_from (number + 1) frames rest ≡ Ok pads = sym (none_counted (number + 1) frames rest) ∙ (rw is at read) in
+    let none : frames_from (number + 1) frames rest ≡ Ok pads =
+    sym (none_counted (number + 1) frames rest) ∙ (rw is at read) in
     let after = further (number + 1) frames pads most none in
     record { said = skip line rest pads skips after.said; most = after.most }
 says_by_case line rest number frames pads most (pressed pad frame room is) read further =
@@ -49,8 +54,10 @@ says_by_case line rest number frames pads most (pressed pad frame room is) read 
     let after = further (number + 1) (frames + 1) fronted.more (omega arith) fronted.read_is in
     subst (Read (line ∷ rest) frames) fronted.joined
     (record { said = press line rest pad fronted.more frame after.said; most = omega (arith, after.most) })
-says_by_case line rest number frames pads most (too_many pad frame full shown is) read further = absurd (let other = rw is at read in cc)
-says_by_case line rest number frames pads most (no_frame none shown is) read further = absurd (let other = rw is at read in cc)
+says_by_case line rest number frames pads most (too_many pad frame full shown is) read further =
+    absurd (let other = rw is at read in cc)
+says_by_case line rest number frames pads most (no_frame none shown is) read further =
+    absurd (let other = rw is at read in cc)
 
 -- what was read of lines is what they say
 says_from : PadLaws → (parts : List (List ℕ)) (number frames : ℕ) (pads : List ℕ) → frames ≤ 1048576 →
@@ -61,7 +68,8 @@ says_from laws (line ∷ rest) number frames pads most read =
     says_by_case line rest number frames pads most (line_case laws number frames line) read (says_from laws rest)
 
 -- a skipped line has no frame
-line_frames-skipped : (number frames : ℕ) (line : List ℕ) → is_skipped (content line) ≡ true → line_frames number frames line ≡ Ok []
+line_frames-skipped : (number frames : ℕ) (line : List ℕ) → is_skipped (content line) ≡ true
+    → line_frames number frames line ≡ Ok []
 unfolding line_frames
 line_frames-skipped number frames line skips = rw skips
 
@@ -98,7 +106,8 @@ record StopsFrom (parts : List (List ℕ)) (start frames number : ℕ) (pads lin
 -- the first refusal, where so many lines and frames stand before
 abbrev RefusedFrom : List (List ℕ) → ℕ → ℕ → MovieRefused → Type 0
 RefusedFrom parts start frames (Line number) =
-    (pads : List ℕ) × (line : List ℕ) × StopsFrom parts start frames number pads line × ((pad : ℕ) → IsFrame line pad → ⊥)
+    (pads : List ℕ) × (line : List ℕ) × StopsFrom parts start frames number pads line
+    × ((pad : ℕ) → IsFrame line pad → ⊥)
 RefusedFrom parts start frames (TooManyFrames number) =
     (pads : List ℕ) × (line : List ℕ) × StopsFrom parts start frames number pads line × (frames + length pads ≡ 1048576)
     × (pad : ℕ) × IsFrame line pad
@@ -145,15 +154,23 @@ stops_here line rest start frames most shown = record {
 }
 
 refused_after_skipped : (first : List ℕ) (rest : List (List ℕ)) (start frames : ℕ) (refused : MovieRefused) →
-    is_skipped (content first) ≡ true → RefusedFrom rest (start + 1) frames refused → RefusedFrom (first ∷ rest) start frames refused
+    is_skipped (content first) ≡ true → RefusedFrom rest (start + 1) frames refused
+    → RefusedFrom (first ∷ rest) start frames refused
 refused_after_skipped first rest start frames (Line number) skips from =
     (from.0, from.1, stops_after_skipped first rest start frames number from.0 from.1 skips from.2, from.3)
-refused_after_skipped first rest start frames (TooManyFrames number) skips from =
-    (from.0, from.1, stops_after_skipped first rest start frames number from.0 from.1 skips from.2, from.3, from.4, from.5)
+refused_after_skipped first rest start frames (TooManyFrames number) skips from = (
+  from.0,
+  from.1,
+  stops_after_skipped first rest start frames number from.0 from.1 skips from.2,
+  from.3,
+  from.4,
+  from.5,
+)
 refused_after_skipped first rest start frames NoMemory skips from = from
 
 refused_after_frame : (first : List ℕ) (rest : List (List ℕ)) (start frames pad : ℕ) (refused : MovieRefused) →
-    IsFrame first pad → RefusedFrom rest (start + 1) (frames + 1) refused → RefusedFrom (first ∷ rest) start frames refused
+    IsFrame first pad → RefusedFrom rest (start + 1) (frames + 1) refused
+    → RefusedFrom (first ∷ rest) start frames refused
 refused_after_frame first rest start frames pad (Line number) frame from =
     (pad ∷ from.0, from.1, stops_after_frame first rest start frames number pad from.0 from.1 frame from.2, from.3)
 refused_after_frame first rest start frames pad (TooManyFrames number) frame from = (
@@ -167,10 +184,13 @@ refused_after_frame first rest start frames pad (TooManyFrames number) frame fro
 refused_after_frame first rest start frames pad NoMemory frame from = from
 
 -- a line before lines of which this is known
-refused_by_case : (line : List ℕ) (rest : List (List ℕ)) (start frames : ℕ) (refused : MovieRefused) → frames ≤ 1048576 →
+refused_by_case : (line : List ℕ) (rest : List (List ℕ)) (start frames : ℕ) (refused : MovieRefused) →
+    frames ≤ 1048576 →
     LineCase start frames line →
-    and_then (line_frames start frames line) (λ more. frames_from (start + 1) (frames + length more) rest) ≡ Err refused →
-    ((start frames : ℕ) → frames ≤ 1048576 → frames_from start frames rest ≡ Err refused → RefusedFrom rest start frames refused) →
+    and_then (line_frames start frames line) (λ more. frames_from (start + 1) (frames + length more) rest)
+    ≡ Err refused →
+    ((start frames : ℕ) → frames ≤ 1048576 → frames_from start frames rest ≡ Err refused →
+    RefusedFrom rest start frames refused) →
     RefusedFrom (line ∷ rest) start frames refused
 refused_by_case line rest start frames refused most (skipped skips is) read further =
     refused_after_skipped line rest start frames refused skips
@@ -195,7 +215,8 @@ refused_from laws (line ∷ rest) start frames refused most read =
     (λ start frames. refused_from laws rest start frames refused)
 
 -- with nothing before
-stops_at : (parts : List (List ℕ)) (number : ℕ) (pads line : List ℕ) → StopsFrom parts 1 0 number pads line → StopsAt parts number pads line
+stops_at : (parts : List (List ℕ)) (number : ℕ) (pads line : List ℕ) → StopsFrom parts 1 0 number pads line
+    → StopsAt parts number pads line
 stops_at parts number pads line stops = record {
   before = stops.before;
   behind = stops.behind;
@@ -206,26 +227,30 @@ stops_at parts number pads line stops = record {
   shown = stops.shown;
 }
 
-refused_at : (parts : List (List ℕ)) (refused : MovieRefused) → RefusedFrom parts 1 0 refused → IsFirstRefusal parts refused
+refused_at : (parts : List (List ℕ)) (refused : MovieRefused) → RefusedFrom parts 1 0 refused
+    → IsFirstRefusal parts refused
 refused_at parts (Line number) from = (from.0, from.1, stops_at parts number from.0 from.1 from.2, from.3)
 refused_at parts (TooManyFrames number) from =
     (from.0, from.1, stops_at parts number from.0 from.1 from.2, omega (arith, from.3), from.4, from.5)
 refused_at parts NoMemory from = from
 
 -- the reading of a text is what its lines say
-pub movie_of-says : PadLaws → (bytes pads : List ℕ) → movie_of bytes ≡ Ok pads → Says (lines bytes) pads × (length pads ≤ 1048576)
+pub movie_of-says : PadLaws → (bytes pads : List ℕ) → movie_of bytes ≡ Ok pads
+    → Says (lines bytes) pads × (length pads ≤ 1048576)
 unfolding movie_of
 movie_of-says laws bytes pads read =
     let from = says_from laws (lines bytes) 1 0 pads (omega arith) read in
     (from.said, omega (arith, from.most))
 
 -- what the lines of a text say is read
-pub says-movie_of : PadLaws → (bytes pads : List ℕ) → Says (lines bytes) pads → length pads ≤ 1048576 → movie_of bytes ≡ Ok pads
+pub says-movie_of : PadLaws → (bytes pads : List ℕ) → Says (lines bytes) pads → length pads ≤ 1048576
+    → movie_of bytes ≡ Ok pads
 unfolding movie_of
 says-movie_of laws bytes pads said most = frames_from-says laws (lines bytes) pads said 1 0 (omega arith)
 
 -- what is refused of a text is its first refusal
-pub movie_of-refused : PadLaws → (bytes : List ℕ) (refused : MovieRefused) → movie_of bytes ≡ Err refused → IsFirstRefusal (lines bytes) refused
+pub movie_of-refused : PadLaws → (bytes : List ℕ) (refused : MovieRefused) → movie_of bytes ≡ Err refused
+    → IsFirstRefusal (lines bytes) refused
 unfolding movie_of
 movie_of-refused laws bytes refused read =
     refused_at (lines bytes) refused (refused_from laws (lines bytes) 1 0 refused (omega arith) read)

@@ -47,7 +47,8 @@ read_by_tests laws text pad true fits read =
     )
 read_by_tests laws text pad false fits read = absurd cc
 
-pub pad_line-pad_of_line : PadLaws → (text : List ℕ) (pad : ℕ) → pad_of_line text ≡ Some pad → (pad < 256) × (text ≡ pad_line pad)
+pub pad_line-pad_of_line : PadLaws → (text : List ℕ) (pad : ℕ) → pad_of_line text ≡ Some pad
+    → (pad < 256) × (text ≡ pad_line pad)
 unfolding pad_of_line
 pad_line-pad_of_line laws text pad read = read_by_tests laws text pad _ refl read
 
@@ -62,9 +63,11 @@ pub data LineCase (number frames : ℕ) (line : List ℕ) : Type 0 where
       line_frames number frames line ≡ Err (Line number) → LineCase number frames line
 
 -- a frame that comes after fewer than 2^20, or not
-frame_case : (number frames : ℕ) (line : List ℕ) (pad : ℕ) (room : Bool) → IsFrame line pad → is_skipped (content line) ≡ false →
+frame_case : (number frames : ℕ) (line : List ℕ) (pad : ℕ) (room : Bool) → IsFrame line pad →
+    is_skipped (content line) ≡ false →
     ltb frames 1048576 ≡ room →
-    line_frames number frames line ≡ cond room (Ok (pad ∷ [])) (Err (TooManyFrames number)) → LineCase number frames line
+    line_frames number frames line ≡ cond room (Ok (pad ∷ [])) (Err (TooManyFrames number))
+    → LineCase number frames line
 frame_case number frames line pad true frame shown room is = pressed pad frame (ltb-true _ _ room) is
 frame_case number frames line pad false frame shown room is = too_many pad frame (ltb-false _ _ room) shown is
 
@@ -73,9 +76,11 @@ shown_case : PadLaws → (number frames : ℕ) (line : List ℕ) (pad : Option �
     is_skipped (content line) ≡ false → line_frames number frames line ≡ frame_or_refusal number frames pad →
     LineCase number frames line
 shown_case laws number frames line None read shown is =
-    no_frame (λ pad frame. let other : pad_of_line (content line) ≡ Some pad = rw frame.1 (pad_of_line-pad_line laws pad frame.0) in cc) shown is
+    no_frame (λ pad frame. let other : pad_of_line (content line)
+    ≡ Some pad = rw frame.1 (pad_of_line-pad_line laws pad frame.0) in cc) shown is
 shown_case laws number frames line (Some pad) read shown is =
-    frame_case number frames line pad (ltb frames 1048576) (pad_line-pad_of_line laws (content line) pad read) shown refl is
+    frame_case number frames line pad (ltb frames 1048576)
+    (pad_line-pad_of_line laws (content line) pad read) shown refl is
 
 -- the case of a line
 case_by_skipped : PadLaws → (number frames : ℕ) (line : List ℕ) (skips : Bool) → is_skipped (content line) ≡ skips →

@@ -52,7 +52,8 @@ IsFront-content line =
     (IsFront-without (13 ∷ []) (without (10 ∷ []) line))
 
 -- a front of a comment is skipped
-is_skipped-front : (byte : ℕ) (bytes text behind : List ℕ) → byte ≡ 35 → byte ∷ bytes ≡ text ++ behind → is_skipped text ≡ true
+is_skipped-front : (byte : ℕ) (bytes text behind : List ℕ) → byte ≡ 35 → byte ∷ bytes ≡ text ++ behind
+    → is_skipped text ≡ true
 is_skipped-front byte bytes [] behind mark whole = refl
 is_skipped-front byte bytes (first ∷ more) behind mark whole = let same : first ≡ 35 = cc in rw same refl
 
@@ -73,22 +74,26 @@ AreLines-written : (pads : List ℕ) → All (λ pad. pad < 256) pads → AreLin
 AreLines-written [] bytes = tt
 AreLines-written (pad ∷ pads) bytes =
     AreLines-cons (written_line pad) (map written_line pads)
-    (IsEnded-written_line pad (All-head (λ pad. pad < 256) pad pads bytes)) (AreLines-written pads (All-tail (λ pad. pad < 256) pad pads bytes))
+    (IsEnded-written_line pad (All-head (λ pad. pad < 256) pad pads bytes))
+    (AreLines-written pads (All-tail (λ pad. pad < 256) pad pads bytes))
 
 Says-written : (pads : List ℕ) → All (λ pad. pad < 256) pads → Says (map written_line pads) pads
 Says-written [] bytes = nothing
 Says-written (pad ∷ pads) bytes =
-    press (written_line pad) (map written_line pads) pad pads (All-head (λ pad. pad < 256) pad pads bytes, content-written_line pad)
+    press (written_line pad) (map written_line pads) pad pads
+    (All-head (λ pad. pad < 256) pad pads bytes, content-written_line pad)
     (Says-written pads (All-tail (λ pad. pad < 256) pad pads bytes))
 
 -- comments before them are lines, and say nothing
-AreLines-comments : (comments parts : List (List ℕ)) → All IsComment comments → AreLines parts → AreLines (comments ++ parts)
+AreLines-comments : (comments parts : List (List ℕ)) → All IsComment comments → AreLines parts
+    → AreLines (comments ++ parts)
 AreLines-comments [] parts all are = are
 AreLines-comments (comment ∷ comments) parts all are =
     AreLines-cons comment (comments ++ parts) (All-head IsComment comment comments all).ended
     (AreLines-comments comments parts (All-tail IsComment comment comments all) are)
 
-Says-comments : (comments parts : List (List ℕ)) (pads : List ℕ) → All IsComment comments → Says parts pads → Says (comments ++ parts) pads
+Says-comments : (comments parts : List (List ℕ)) (pads : List ℕ) → All IsComment comments → Says parts pads
+    → Says (comments ++ parts) pads
 Says-comments [] parts pads all said = said
 Says-comments (comment ∷ comments) parts pads all said =
     skip comment (comments ++ parts) pads (is_skipped-comment comment (All-head IsComment comment comments all))

@@ -1,4 +1,5 @@
--- What the lines of a movie's text say, as a relation, and which line is the first that is refused. The format is our own.
+-- What the lines of a movie's text say, as a relation, and which line is the first that is refused. The format is our
+-- own.
 use Rattle.std.specs.Prelude.{◌≡◌, ◌<◌, ◌≤◌, ℕ, ◌+◌, true, false, List, [], ◌∷◌, ◌++◌, length, take}
 use Rattle.nj_lines.specs.Lines.{IsEnded}
 use Rattle.nj_movie.specs.declared.MovieRefused.{MovieRefused}
@@ -32,7 +33,8 @@ abbrev pub IsFirstRefusal : List (List ℕ) → MovieRefused → Type 0
 IsFirstRefusal parts (Line number) =
     (pads : List ℕ) × (line : List ℕ) × StopsAt parts number pads line × ((pad : ℕ) → IsFrame line pad → ⊥)
 IsFirstRefusal parts (TooManyFrames number) =
-    (pads : List ℕ) × (line : List ℕ) × StopsAt parts number pads line × (length pads ≡ 1048576) × (pad : ℕ) × IsFrame line pad
+    (pads : List ℕ) × (line : List ℕ) × StopsAt parts number pads line × (length pads ≡ 1048576) × (pad : ℕ)
+    × IsFrame line pad
 IsFirstRefusal parts NoMemory = ⊥
 
 -- the line begins with # and is ended

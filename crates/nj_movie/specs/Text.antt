@@ -58,7 +58,8 @@ with_front pads (Ok more) = Ok (pads ++ more)
 with_front pads (Err refused) = Err refused
 
 -- the frames of a line and then those that follow, or the first refusal
-abbrev pub and_then : Result (List ℕ) MovieRefused → (List ℕ → Result (List ℕ) MovieRefused) → Result (List ℕ) MovieRefused
+abbrev pub and_then : Result (List ℕ) MovieRefused → (List ℕ → Result (List ℕ) MovieRefused)
+    → Result (List ℕ) MovieRefused
 and_then (Ok pads) rest = with_front pads (rest pads)
 and_then (Err refused) rest = Err refused
 

@@ -122,7 +122,8 @@ fn frame_pad(text: &[u8]) -> Option<Pad>
 // The pad that a line adds, if it is not passed over.
 #[tactic(auto, unfolding(crate::specs::Text::line_frames))]
 fn line_pad(number: u64, frames: usize, line: &[u8]) -> Result<Option<Pad>, MovieRefused>
-    ensures { MatchResult result (λ pad. line_frames number frames line.now ≡ Ok (option_to_list pad)) (λ refused. line_frames number frames line.now ≡ Err refused) }
+    ensures { MatchResult result (λ pad. line_frames number frames line.now ≡ Ok (option_to_list pad))
+        (λ refused. line_frames number frames line.now ≡ Err refused) }
 {
     let text = without(b"\r", without(b"\n", line));
     if is_passed_over(text) {
@@ -139,7 +140,8 @@ fn line_pad(number: u64, frames: usize, line: &[u8]) -> Result<Option<Pad>, Movi
 
 /// Reads a movie's text.
 pub fn read_movie(alloc: Global, bytes: &[u8]) -> Result<Movie, MovieRefused>
-    ensures { MatchResult result (λ movie. movie_of bytes.now ≡ Ok movie) (λ refused. (refused ≡ MovieRefused.NoMemory) ⊎ (movie_of bytes.now ≡ Err refused)) }
+    ensures { MatchResult result (λ movie. movie_of bytes.now ≡ Ok movie)
+        (λ refused. (refused ≡ MovieRefused.NoMemory) ⊎ (movie_of bytes.now ≡ Err refused)) }
 {
     let mut movie = Movie::new(alloc);
     let mut rest = bytes;
@@ -181,12 +183,15 @@ pub fn write_movie(alloc: Global, movie: &Movie) -> Result<Vec<u8>, AllocError>
     Ok(text)
 }
 
-/// Law: what is read of a text is what its lines say, each skipped or the frame of the next pad; all that lines say, of at
-/// most 2^20 frames, is read; and a refusal is that of the first line which is no frame, or a frame too many.
+/// Law: what is read of a text is what its lines say, each skipped or the frame of the next pad; all that lines say,
+/// of at most 2^20 frames, is read; and a refusal is that of the first line which is no frame, or a frame too many.
 pub fn a_text_says_its_pads()
-    ensures said { (bytes pads : List ℕ) → movie_of bytes ≡ Ok pads → Says (lines bytes) pads × (length pads ≤ MOST_FRAMES) }
-    ensures read { (bytes pads : List ℕ) → Says (lines bytes) pads → length pads ≤ MOST_FRAMES → movie_of bytes ≡ Ok pads }
-    ensures refused { (bytes : List ℕ) (refused : MovieRefused) → movie_of bytes ≡ Err refused → IsFirstRefusal (lines bytes) refused }
+    ensures said { (bytes pads : List ℕ) → movie_of bytes ≡ Ok pads
+        → Says (lines bytes) pads × (length pads ≤ MOST_FRAMES) }
+    ensures read { (bytes pads : List ℕ) → Says (lines bytes) pads → length pads ≤ MOST_FRAMES
+        → movie_of bytes ≡ Ok pads }
+    ensures refused { (bytes : List ℕ) (refused : MovieRefused) → movie_of bytes ≡ Err refused
+        → IsFirstRefusal (lines bytes) refused }
 {
     a_text_shows_its_pad();
 }
@@ -194,10 +199,14 @@ pub fn a_text_says_its_pads()
 /// Law: the text of at most 2^20 pads, behind any comments, is read as these pads. A text without line feeds makes a
 /// comment.
 pub fn what_was_written_is_read()
-    ensures commented { (comments : List (List ℕ)) (pads : List ℕ) → All IsComment comments → All (λ pad. pad < 256) pads → length pads ≤ MOST_FRAMES → movie_of (concat comments ++ movie_text pads) ≡ Ok pads }
+    ensures commented { (comments : List (List ℕ)) (pads : List ℕ) → All IsComment comments
+        → All (λ pad. pad < 256) pads → length pads ≤ MOST_FRAMES
+        → movie_of (concat comments ++ movie_text pads) ≡ Ok pads }
     ensures comment { (text : List ℕ) → IsPlain text → IsComment (35 ∷ text ++ 10 ∷ []) }
-    ensures behind_one { (text pads : List ℕ) → IsPlain text → All (λ pad. pad < 256) pads → length pads ≤ MOST_FRAMES → movie_of ((35 ∷ text ++ 10 ∷ []) ++ movie_text pads) ≡ Ok pads }
-    ensures plain { (pads : List ℕ) → All (λ pad. pad < 256) pads → length pads ≤ MOST_FRAMES → movie_of (movie_text pads) ≡ Ok pads }
+    ensures behind_one { (text pads : List ℕ) → IsPlain text → All (λ pad. pad < 256) pads → length pads ≤ MOST_FRAMES
+        → movie_of ((35 ∷ text ++ 10 ∷ []) ++ movie_text pads) ≡ Ok pads }
+    ensures plain { (pads : List ℕ) → All (λ pad. pad < 256) pads → length pads ≤ MOST_FRAMES
+        → movie_of (movie_text pads) ≡ Ok pads }
 {
     a_text_shows_its_pad();
     lines_are_the_bytes();

@@ -26,7 +26,8 @@ abbrev is_read_back : ℕ → Bool
 is_read_back pad = elim (pad_of_text (pad_text pad)) [ Some value ↦ value == pad | None ↦ false ]
 
 -- what a true test says of the value that was read
-value_read : (read : Option ℕ) (pad : ℕ) → elim read [ Some value ↦ value == pad | None ↦ false ] ≡ true → read ≡ Some pad
+value_read : (read : Option ℕ) (pad : ℕ) → elim read [ Some value ↦ value == pad | None ↦ false ] ≡ true
+    → read ≡ Some pad
 value_read (Some value) pad same = ap Some (eqb-true value pad same)
 value_read None pad same = cc
 
@@ -56,7 +57,8 @@ record Shows (places : List (Button × ℕ)) (text : List ℕ) (value : ℕ) : T
   bits : value ≡ bits_of pressed places
 
 -- one more place at a text's front
-one_more : (place : Button × ℕ) (places : List (Button × ℕ)) (byte : ℕ) (text : List ℕ) (first rest value : ℕ) (pressed : Bool) →
+one_more : (place : Button × ℕ) (places : List (Button × ℕ)) (byte : ℕ) (text : List ℕ) (first rest value : ℕ)
+    (pressed : Bool) →
     byte ≡ cond pressed place.1 46 → first ≡ cond pressed (2 ^ turn_of place.0) 0 → first + rest ≡ value →
     Shows places text rest → Shows (place ∷ places) (byte ∷ text) value
 one_more place places byte text first rest value pressed letter bit sum shown = record {
@@ -84,7 +86,8 @@ record Sums (first rest : Option ℕ) (value : ℕ) : Type 0 where
   sum : left + right ≡ value
 
 sum_if_both-parts : (first rest : Option ℕ) (value : ℕ) → sum_if_both first rest ≡ Some value → Sums first rest value
-sum_if_both-parts (Some x) (Some y) value sum = record { left = x; right = y; first_is = refl; rest_is = refl; sum = cc }
+sum_if_both-parts (Some x) (Some y) value sum =
+    record { left = x; right = y; first_is = refl; rest_is = refl; sum = cc }
 sum_if_both-parts (Some x) None value sum = absurd cc
 sum_if_both-parts None rest value sum = absurd cc
 
@@ -96,7 +99,8 @@ shows_from_value [] (byte ∷ text) value read = absurd cc
 shows_from_value (place ∷ places) [] value read = absurd cc
 shows_from_value (place ∷ places) (byte ∷ text) value read =
     let parts = sum_if_both-parts (place_value place byte) (places_value places text) value read in
-    let shown = place_value-shows place.1 (2 ^ turn_of place.0) byte parts.left (byte == place.1) (byte == 46) refl refl parts.first_is in
+    let shown = place_value-shows place.1 (2 ^ turn_of place.0) byte parts.left (byte == place.1)
+    (byte == 46) refl refl parts.first_is in
     one_more place places byte text parts.left parts.right value shown.0 shown.1 shown.2 parts.sum
     (shows_from_value places text parts.right parts.rest_is)
 
@@ -106,7 +110,8 @@ every zero test = test []
 every (suc n) test = every n (λ rest. test (true ∷ rest)) && every n (λ rest. test (false ∷ rest))
 
 -- what a test that holds of each says of one
-every-at : (n : ℕ) (test : List Bool → Bool) (values : List Bool) → length values ≡ n → every n test ≡ true → test values ≡ true
+every-at : (n : ℕ) (test : List Bool → Bool) (values : List Bool) → length values ≡ n → every n test ≡ true
+    → test values ≡ true
 every-at zero test [] long all = all
 every-at zero test (value ∷ rest) long all = absurd (omega arith)
 every-at (suc n) test [] long all = absurd (omega arith)
@@ -118,7 +123,8 @@ every-at (suc n) test (false ∷ rest) long all =
 -- whether these pressed places make a byte's text
 abbrev is_pad_text : List Bool → Bool
 is_pad_text pressed =
-    bytes_eq (letters_of pressed text_places) (pad_text (bits_of pressed text_places)) && ltb (bits_of pressed text_places) 256
+    bytes_eq (letters_of pressed text_places) (pad_text (bits_of pressed text_places))
+    && ltb (bits_of pressed text_places) 256
 
 -- each of the 256 lists of pressed places makes a byte's text
 every_is_pad_text : every 8 is_pad_text ≡ true

@@ -7,7 +7,8 @@ use Rattle.nj_pad.specs.declared.Port.{Port}
 unfoldable pub port_at_power_on : Port
 port_at_power_on = record { strobe = false; latch = 0; count = 0 }
 
--- the port after a write: bit 0 is the strobe, and where it falls the pad is latched (NESdev Wiki, "Controller reading")
+-- the port after a write: bit 0 is the strobe, and where it falls the pad is latched (NESdev Wiki, "Controller
+-- reading")
 unfoldable pub port_after_write : Port → ℕ → ℕ → Port
 port_after_write port value pad =
     if value % 2 == 1 then record port { strobe = true }

@@ -172,8 +172,11 @@ pub fn a_text_shows_its_pad()
 /// Law: after a write of 1 and a write of 0 the reads give A, B, Select, Start, Up, Down, Left and Right of the pad at
 /// the second write, and then 1s. While the strobe is high every read gives A of the pad at the read.
 pub fn reads_give_the_buttons_in_turn()
-    ensures latched { (port : Port) (early pad later n : ℕ) → bits_read (8 + n) (port_after_write (port_after_write port 1 early) 0 pad) later ≡ map (pressed_bit pad) buttons_in_turn ++ replicate n 1 }
-    ensures strobing { (port : Port) (early pad n : ℕ) → bits_read n (port_after_write port 1 early) pad ≡ replicate n (pressed_bit pad Button.A) }
+    ensures latched { (port : Port) (early pad later n : ℕ)
+        → bits_read (8 + n) (port_after_write (port_after_write port 1 early) 0 pad) later
+        ≡ map (pressed_bit pad) buttons_in_turn ++ replicate n 1 }
+    ensures strobing { (port : Port) (early pad n : ℕ)
+        → bits_read n (port_after_write port 1 early) pad ≡ replicate n (pressed_bit pad Button.A) }
 {}
 
 #[cfg(test)]

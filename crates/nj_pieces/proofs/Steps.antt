@@ -61,7 +61,8 @@ length-tasks [] (suc left) = let fewer = length-tasks [] left in omega arith
 length-tasks (x ∷ rest) left = let fewer = length-tasks rest left in omega arith
 
 -- the owner puts a piece, before all marks
-pub puts_piece : (port : ℕ) (v : Tally) (p : ℕ) → port ≡ 0 → v.marks ≡ 0 → Pushes Holds port v (Piece p ∷ []) (λ w. w ≡ put v (Piece p ∷ []))
+pub puts_piece : (port : ℕ) (v : Tally) (p : ℕ) → port ≡ 0 → v.marks ≡ 0
+    → Pushes Holds port v (Piece p ∷ []) (λ w. w ≡ put v (Piece p ∷ []))
 puts_piece port v p is_root unmarked items views h at =
     let first : get_elem? views 0 ≡ some v = subst (λ k. get_elem? views k ≡ some v) is_root at in
     let w : Tally = put v (Piece p ∷ []) in
@@ -83,13 +84,23 @@ puts_piece port v p is_root unmarked items views h at =
       pieces_are = λ f.
           let s = total_set (weight f) views 0 v w first in
           let was : sum_by f v.dealt ≡ sum_by f (root_of views).dealt = ap (λ u. sum_by f u.dealt) (sym root) in
-          let now : sum_by f (root_of (set views 0 w)).dealt ≡ sum_by f (v.dealt ++ p ∷ []) = ap (λ u. sum_by f u.dealt) new_root in
+          let now : sum_by f (root_of (set views 0 w)).dealt ≡ sum_by f (v.dealt ++ p ∷ []) =
+          ap (λ u. sum_by f u.dealt) new_root in
           let balance = h.pieces_are f in omega (arith, sum_by_push f v.dealt p, sum_by_push f h.rest p);
-      ended = λ some_ended. absurd (let s = total_set ends views 0 v w first in let counted = h.marks_are in omega arith);
+      ended =
+          λ some_ended. absurd (let s = total_set ends views 0 v w first in let counted = h.marks_are in omega arith);
       fits = each_set (λ _ u. Fits (root_of (set views 0 w)) u) views 0 w
-          (record { within = mine.within; idle = mine.idle; told = λ some_seat. absurd (let has = total_has seats views 0 v first in omega arith) })
+          (record {
+            within = mine.within;
+            idle = mine.idle;
+            told = λ some_seat. absurd (let has = total_has seats views 0 v first in omega arith);
+          })
           (λ j u other e. let theirs = h.fits j u e in
-          record { within = theirs.within; idle = theirs.idle; told = λ some_seat. absurd (let has = total_has seats views j u e in omega arith) });
+          record {
+            within = theirs.within;
+            idle = theirs.idle;
+            told = λ some_seat. absurd (let has = total_has seats views j u e in omega arith);
+          });
     } in
     subst (λ k. (u : Tally) × Holds (items ++ Piece p ∷ []) (set views k u) × (u ≡ w)) (sym is_root) (w, kept, refl)
 
@@ -102,7 +113,8 @@ puts_end port v is_root items views h at =
     let new_root = root_set views v w first in
     let was : (root_of views).marks ≡ v.marks = ap (λ u. u.marks) root in
     let now : (root_of (set views 0 w)).marks ≡ v.marks + 1 = ap (λ u. u.marks) new_root in
-    let deal : (root_of (set views 0 w)).dealt ≡ (root_of views).dealt = ap (λ u. u.dealt) new_root ∙ sym (ap (λ u. u.dealt) root) in
+    let deal : (root_of (set views 0 w)).dealt ≡ (root_of views).dealt = ap (λ u. u.dealt) new_root
+    ∙ sym (ap (λ u. u.dealt) root) in
     let mine = h.fits 0 v first in
     let kept : Holds (items ++ End ∷ []) (set views 0 w) = record {
       rest = h.rest;
@@ -116,7 +128,12 @@ puts_end port v is_root items views h at =
           let balance = h.pieces_are f in omega arith;
       ended = λ some_ended. h.ended (let s = total_set ends views 0 v w first in omega arith);
       fits = each_set (λ _ u. Fits (root_of (set views 0 w)) u) views 0 w
-          (record { within = let within = mine.within in omega arith; idle = λ none. absurd (omega arith); told = λ some_seat. sym (ap (λ u. u.dealt) new_root) })
+          (record {
+            within = let within = mine.within in
+                omega arith;
+            idle = λ none. absurd (omega arith);
+            told = λ some_seat. sym (ap (λ u. u.dealt) new_root);
+          })
           (λ j u other e. let theirs = h.fits j u e in
           record { within = theirs.within; idle = theirs.idle; told = λ some_seat. theirs.told some_seat ∙ sym deal });
     } in
@@ -127,19 +144,24 @@ abbrev First : Task → List Task → List ℕ → ℕ → Type 0
 First x items rest left = ((p : ℕ) × (r : List ℕ) × (rest ≡ p ∷ r) × (x ≡ Piece p) × (items ≡ tasks r left))
     ⊎ ((l : ℕ) × (rest ≡ []) × (left ≡ suc l) × (x ≡ End) × (items ≡ tasks [] l))
 
-first_of : (x : Task) (items : List Task) (rest : List ℕ) (left : ℕ) → x ∷ items ≡ tasks rest left → First x items rest left
+first_of : (x : Task) (items : List Task) (rest : List ℕ) (left : ℕ) → x ∷ items ≡ tasks rest left
+    → First x items rest left
 first_of x items (p ∷ r) left e = inl (p, r, refl, cc, cc)
 first_of x items [] (suc l) e = inr (l, refl, refl, cc, cc)
 first_of x items [] zero e = absurd (cc)
 
 -- a pass takes the first piece
-piece_step : (port : ℕ) (v : Tally) (x : Task) (items : List Task) (views : List Tally) (h : Holds (x ∷ items) views) (p : ℕ) (r : List ℕ)
-    → get_elem? views port ≡ some v → 0 < v.seats → h.rest ≡ p ∷ r → items ≡ tasks r h.left → Holds items (set views port (with_piece v p))
+piece_step : (port : ℕ) (v : Tally) (x : Task) (items : List Task) (views : List Tally) (h : Holds (x ∷ items) views)
+    (p : ℕ) (r : List ℕ)
+    → get_elem? views port ≡ some v → 0 < v.seats → h.rest ≡ p ∷ r → items ≡ tasks r h.left
+    → Holds items (set views port (with_piece v p))
 piece_step port v x items views h p r at some_seat is items_are =
     let w : Tally = with_piece v p in
     let mine = h.fits port v at in
-    let marks : (root_of (set views port w)).marks ≡ (root_of views).marks = root_keeps (λ u. u.marks) views port v w at refl in
-    let deal : (root_of (set views port w)).dealt ≡ (root_of views).dealt = root_keeps (λ u. u.dealt) views port v w at refl in
+    let marks : (root_of (set views port w)).marks ≡ (root_of views).marks =
+    root_keeps (λ u. u.marks) views port v w at refl in
+    let deal : (root_of (set views port w)).dealt ≡ (root_of views).dealt =
+    root_keeps (λ u. u.dealt) views port v w at refl in
     let no_end : 0 < total ends (set views port w) → ⊥ = λ some_ended.
     let s = total_set ends views port v w at in
     let none : h.rest ≡ [] = h.ended (omega arith) in absurd (cc) in record {
@@ -150,24 +172,34 @@ piece_step port v x items views h p r at some_seat is items_are =
       marks_are = let s = total_set ends views port v w at in let counted = h.marks_are in omega arith;
       pieces_are = λ f.
           let s = total_set (weight f) views port v w at in
-          let same : sum_by f (root_of (set views port w)).dealt ≡ sum_by f (root_of views).dealt = ap (sum_by f) deal in
+          let same : sum_by f (root_of (set views port w)).dealt ≡ sum_by f (root_of views).dealt =
+          ap (sum_by f) deal in
           let first : sum_by f h.rest ≡ sum_by f (p ∷ r) = ap (sum_by f) is in
           let balance = h.pieces_are f in omega (arith, sum_by_push f v.taken p, sum_by-cons f p r);
       ended = λ some_ended. absurd (no_end some_ended);
       fits = each_set (λ _ u. Fits (root_of (set views port w)) u) views port w
-          (record { within = mine.within; idle = λ none. absurd (omega arith); told = λ seat. mine.told seat ∙ sym deal })
+          (record {
+            within = mine.within;
+            idle = λ none. absurd (omega arith);
+            told = λ seat. mine.told seat
+                ∙ sym deal;
+          })
           (λ j u other e. let theirs = h.fits j u e in
           record { within = theirs.within; idle = theirs.idle; told = λ seat. theirs.told seat ∙ sym deal });
     }
 
 -- a pass takes a mark, where no piece is left
-end_step : (port : ℕ) (v : Tally) (x : Task) (items : List Task) (views : List Tally) (h : Holds (x ∷ items) views) (l : ℕ)
-    → get_elem? views port ≡ some v → v.ends < v.seats → h.rest ≡ [] → h.left ≡ suc l → items ≡ tasks [] l → Holds items (set views port (with_end v))
+end_step : (port : ℕ) (v : Tally) (x : Task) (items : List Task) (views : List Tally)
+    (h : Holds (x ∷ items) views) (l : ℕ)
+    → get_elem? views port ≡ some v → v.ends < v.seats → h.rest ≡ [] → h.left ≡ suc l → items ≡ tasks [] l
+    → Holds items (set views port (with_end v))
 end_step port v x items views h l at some_right none left items_are =
     let w : Tally = with_end v in
     let mine = h.fits port v at in
-    let marks : (root_of (set views port w)).marks ≡ (root_of views).marks = root_keeps (λ u. u.marks) views port v w at refl in
-    let deal : (root_of (set views port w)).dealt ≡ (root_of views).dealt = root_keeps (λ u. u.dealt) views port v w at refl in record {
+    let marks : (root_of (set views port w)).marks ≡ (root_of views).marks =
+    root_keeps (λ u. u.marks) views port v w at refl in
+    let deal : (root_of (set views port w)).dealt ≡ (root_of views).dealt =
+    root_keeps (λ u. u.dealt) views port v w at refl in record {
       rest = [];
       left = l;
       items_are = items_are;
@@ -175,12 +207,18 @@ end_step port v x items views h l at some_right none left items_are =
       marks_are = let s = total_set ends views port v w at in let counted = h.marks_are in omega arith;
       pieces_are = λ f.
           let s = total_set (weight f) views port v w at in
-          let same : sum_by f (root_of (set views port w)).dealt ≡ sum_by f (root_of views).dealt = ap (sum_by f) deal in
+          let same : sum_by f (root_of (set views port w)).dealt ≡ sum_by f (root_of views).dealt =
+          ap (sum_by f) deal in
           let empty : sum_by f h.rest ≡ 0 = ap (sum_by f) none in
           let balance = h.pieces_are f in omega arith;
       ended = λ some_ended. refl;
       fits = each_set (λ _ u. Fits (root_of (set views port w)) u) views port w
-          (record { within = omega arith; idle = λ no_seat. absurd (omega arith); told = λ seat. mine.told seat ∙ sym deal })
+          (record {
+            within = omega arith;
+            idle = λ no_seat. absurd (omega arith);
+            told = λ seat. mine.told seat
+                ∙ sym deal;
+          })
           (λ j u other e. let theirs = h.fits j u e in
           record { within = theirs.within; idle = theirs.idle; told = λ seat. theirs.told seat ∙ sym deal });
     }
@@ -202,7 +240,11 @@ takes port v some_right (x ∷ []) items views filled few h at =
     let some_seat : 0 < v.seats = omega arith in
     ⊎_elim
     (λ (f : (p : ℕ) × (r : List ℕ) × (h.rest ≡ p ∷ r) × (x ≡ Piece p) × (items ≡ tasks r h.left)).
-    subst Goal (sym f.3) (with_piece v f.0, piece_step port v x items views h f.0 f.1 at some_seat f.2 f.4, (refl, is_of port v (x ∷ items) views h f.0 f.1 at some_seat f.2)))
+    subst Goal (sym f.3) (
+      with_piece v f.0,
+      piece_step port v x items views h f.0 f.1 at some_seat f.2 f.4,
+      (refl, is_of port v (x ∷ items) views h f.0 f.1 at some_seat f.2),
+    ))
     (λ (f : (l : ℕ) × (h.rest ≡ []) × (h.left ≡ suc l) × (x ≡ End) × (items ≡ tasks [] l)).
     subst Goal (sym f.3) (with_end v, end_step port v x items views h f.0 at some_right f.1 f.2 f.4, refl))
     (first_of x items h.rest h.left h.items_are)
@@ -229,7 +271,8 @@ alone f (x ∷ xs) v e all none =
       some_injective_here q = some-injective x v q
 
 -- what the owner's pass that has all marks knows at a moment: the pieces left are those that are not in its list
-settled : (v : Tally) (items : List Task) (views : List Tally) (h : Holds items views) → get_elem? views 0 ≡ some v → v.seats ≡ v.marks → h.rest ≡ [] → IsSettled v
+settled : (v : Tally) (items : List Task) (views : List Tally) (h : Holds items views) → get_elem? views 0 ≡ some v
+    → v.seats ≡ v.marks → h.rest ≡ [] → IsSettled v
 settled v items views h first whole none f =
     let root = root_is views v first in
     let all : total seats views ≡ v.seats = h.seats_are ∙ ap (λ u. u.marks) root ∙ sym whole in
@@ -260,14 +303,22 @@ drains port v is_root whole some_seat (x ∷ []) items views filled few h at =
     let same : sum_by g v.dealt ≡ sum_by g (root_of views).dealt = ap (λ u. sum_by g u.dealt) (sym root) in
     let start : sum_by g h.rest ≡ sum_by g (f.0 ∷ f.1) = ap (sum_by g) f.2 in
     let balance = h.pieces_are g in omega (arith, sum_by-cons g f.0 f.1) in
-    subst Goal (sym f.3) (with_piece v f.0, piece_step port v x items views h f.0 f.1 at some_seat f.2 f.4, (refl, no_end, most)))
+    subst Goal (sym f.3) (
+      with_piece v f.0,
+      piece_step port v x items views h f.0 f.1 at some_seat f.2 f.4,
+      (refl, no_end, most),
+    ))
     (λ (f : (l : ℕ) × (h.rest ≡ []) × (h.left ≡ suc l) × (x ≡ End) × (items ≡ tasks [] l)).
     let right : v.ends < v.seats =
     let has = total_has ends views port v at in
     let counted = h.marks_are in
     let left = f.2 in
     let marks : (root_of views).marks ≡ v.marks = ap (λ u. u.marks) root in omega arith in
-    subst Goal (sym f.3) (with_end v, end_step port v x items views h f.0 at right f.1 f.2 f.4, (refl, settled v (x ∷ items) views h first whole f.1)))
+    subst Goal (sym f.3) (
+      with_end v,
+      end_step port v x items views h f.0 at right f.1 f.2 f.4,
+      (refl, settled v (x ∷ items) views h first whole f.1),
+    ))
     (first_of x items h.rest h.left h.items_are)
 
 no_rest : (rest : List ℕ) (left : ℕ) → [] ≡ tasks rest left → rest ≡ []
@@ -279,30 +330,36 @@ pub finds_nothing : (port : ℕ) (v : Tally) → port ≡ 0 → v.seats ≡ v.ma
 finds_nothing port v is_root whole views h at =
     settled v [] views h (subst (λ k. get_elem? views k ≡ some v) is_root at) whole (no_rest h.rest h.left h.items_are)
 
--- a change of the owner's pass that keeps its rights, its pieces and what was dealt, with a new pass that has done nothing
+-- a change of the owner's pass that keeps its rights, its pieces and what was dealt; and a new pass that did nothing
 splits : (v w u : Tally) (items : List Task) (views : List Tally) → Holds items views → get_elem? views 0 ≡ some v
-    → w.seats + u.seats ≡ v.seats → w.marks ≡ v.marks → w.ends ≡ v.ends → u.ends ≡ 0 → w.dealt ≡ v.dealt → w.taken ≡ v.taken → u.taken ≡ []
+    → w.seats + u.seats ≡ v.seats → w.marks ≡ v.marks → w.ends ≡ v.ends → u.ends ≡ 0 → w.dealt ≡ v.dealt
+    → w.taken ≡ v.taken → u.taken ≡ []
     → ((root : Tally) → root.dealt ≡ w.dealt → Fits root w × Fits root u) → Holds items (set views 0 w ++ u ∷ [])
 splits v w u items views h first seats_same marks_same ends_same no_ends deal_same taken_same none fit =
     let middle : List Tally = set views 0 w in
     let root = root_is views v first in
-    let new_root : root_of (middle ++ u ∷ []) ≡ w = root_snoc middle w u (set_first views v w first) ∙ root_set views v w first in
-    let marks : (root_of (middle ++ u ∷ [])).marks ≡ (root_of views).marks = ap (λ y. y.marks) new_root ∙ marks_same ∙ sym (ap (λ y. y.marks) root) in
-    let deal : (root_of (middle ++ u ∷ [])).dealt ≡ (root_of views).dealt = ap (λ y. y.dealt) new_root ∙ deal_same ∙ sym (ap (λ y. y.dealt) root) in
+    let new_root : root_of (middle ++ u ∷ []) ≡ w = root_snoc middle w u (set_first views v w first)
+    ∙ root_set views v w first in
+    let marks : (root_of (middle ++ u ∷ [])).marks ≡ (root_of views).marks = ap (λ y. y.marks) new_root ∙ marks_same
+    ∙ sym (ap (λ y. y.marks) root) in
+    let deal : (root_of (middle ++ u ∷ [])).dealt ≡ (root_of views).dealt = ap (λ y. y.dealt) new_root ∙ deal_same
+    ∙ sym (ap (λ y. y.dealt) root) in
     let now = fit (root_of (middle ++ u ∷ [])) (ap (λ y. y.dealt) new_root) in
     let ends_now : total ends (middle ++ u ∷ []) ≡ total ends views =
     (let s = total_set ends views 0 v w first in let t = total_snoc ends middle u in omega arith) in record {
       rest = h.rest;
       left = h.left;
       items_are = h.items_are;
-      seats_are = let s = total_set seats views 0 v w first in let t = total_snoc seats middle u in let counted = h.seats_are in omega arith;
+      seats_are = let s = total_set seats views 0 v w first in let t = total_snoc seats middle u in
+          let counted = h.seats_are in omega arith;
       marks_are = let counted = h.marks_are in omega arith;
       pieces_are = λ f.
           let s = total_set (weight f) views 0 v w first in
           let t = total_snoc (weight f) middle u in
           let same : sum_by f w.taken ≡ sum_by f v.taken = ap (sum_by f) taken_same in
           let empty : sum_by f u.taken ≡ 0 = ap (sum_by f) none in
-          let dealt_now : sum_by f (root_of (middle ++ u ∷ [])).dealt ≡ sum_by f (root_of views).dealt = ap (sum_by f) deal in
+          let dealt_now : sum_by f (root_of (middle ++ u ∷ [])).dealt ≡ sum_by f (root_of views).dealt =
+          ap (sum_by f) deal in
           let balance = h.pieces_are f in omega arith;
       ended = λ some_ended. h.ended (omega arith);
       fits = each_snoc (Fits (root_of (middle ++ u ∷ []))) middle u
@@ -316,10 +373,12 @@ splits v w u items views h first seats_same marks_same ends_same no_ends deal_sa
       set_first (x ∷ xs) a b e = refl
 
 -- the owner gives one right away, before anything was taken by it
-pub cuts : (port : ℕ) (v : Tally) → port ≡ 0 → 0 < v.seats → v.ends ≡ 0 → v.taken ≡ [] → Forks Holds port v (cut v) (guest v)
+pub cuts : (port : ℕ) (v : Tally) → port ≡ 0 → 0 < v.seats → v.ends ≡ 0 → v.taken ≡ []
+    → Forks Holds port v (cut v) (guest v)
 cuts port v is_root some_seat no_ends none items views h at =
     subst (λ k. Holds items (set views k (cut v) ++ guest v ∷ [])) (sym is_root)
-    (splits v (cut v) (guest v) items views h (subst (λ k. get_elem? views k ≡ some v) is_root at) (omega arith) refl refl refl refl refl refl
+    (splits v (cut v) (guest v) items views h (subst (λ k. get_elem? views k ≡ some v) is_root at)
+    (omega arith) refl refl refl refl refl refl
     (λ root deal. (
       (record { within = omega arith; idle = λ no_seat. none; told = λ seat. sym deal }),
       (record { within = omega arith; idle = λ no_seat. refl; told = λ seat. sym deal }),
@@ -348,10 +407,14 @@ gives port v other u is_root items views h at apart at' =
     let there : get_elem? middle other ≡ some u = subst (λ k. get_elem? (set views k w) other ≡ some u) is_root at' in
     let later : 0 < other = not_first other (λ zero_is. apart (zero_is ∙ sym is_root)) in
     let root = root_is views v first in
-    let new_root : root_of (set middle other blank) ≡ w = root_else middle other blank later ∙ root_set views v w first in
-    let marks : (root_of (set middle other blank)).marks ≡ (root_of views).marks = ap (λ y. y.marks) new_root ∙ sym (ap (λ y. y.marks) root) in
-    let deal : (root_of (set middle other blank)).dealt ≡ (root_of views).dealt = ap (λ y. y.dealt) new_root ∙ sym (ap (λ y. y.dealt) root) in
-    let was : get_elem? views other ≡ some u = ⊎_elim (λ x. absurd (let e = x.0 in omega arith)) (λ x. x.1) (at_set views 0 other w u there) in
+    let new_root : root_of (set middle other blank) ≡ w = root_else middle other blank later
+    ∙ root_set views v w first in
+    let marks : (root_of (set middle other blank)).marks ≡ (root_of views).marks = ap (λ y. y.marks) new_root
+    ∙ sym (ap (λ y. y.marks) root) in
+    let deal : (root_of (set middle other blank)).dealt ≡ (root_of views).dealt = ap (λ y. y.dealt) new_root
+    ∙ sym (ap (λ y. y.dealt) root) in
+    let was : get_elem? views other ≡ some u =
+    ⊎_elim (λ x. absurd (let e = x.0 in omega arith)) (λ x. x.1) (at_set views 0 other w u there) in
     let mine = h.fits 0 v first in
     let theirs_u = h.fits other u was in
     let ends_now : total ends (set middle other blank) ≡ total ends views =
@@ -360,12 +423,14 @@ gives port v other u is_root items views h at apart at' =
       rest = h.rest;
       left = h.left;
       items_are = h.items_are;
-      seats_are = let s = total_set seats views 0 v w first in let t = total_set seats middle other u blank there in let counted = h.seats_are in omega arith;
+      seats_are = let s = total_set seats views 0 v w first in let t = total_set seats middle other u blank there in
+          let counted = h.seats_are in omega arith;
       marks_are = let counted = h.marks_are in omega arith;
       pieces_are = λ f.
           let s = total_set (weight f) views 0 v w first in
           let t = total_set (weight f) middle other u blank there in
-          let dealt_now : sum_by f (root_of (set middle other blank)).dealt ≡ sum_by f (root_of views).dealt = ap (sum_by f) deal in
+          let dealt_now : sum_by f (root_of (set middle other blank)).dealt ≡ sum_by f (root_of views).dealt =
+          ap (sum_by f) deal in
           let balance = h.pieces_are f in omega (arith, sum_by-append f v.taken u.taken);
       ended = λ some_ended. h.ended (omega arith);
       fits = each_set (λ _ y. Fits (root_of (set middle other blank)) y) middle other blank (blank_fits _)

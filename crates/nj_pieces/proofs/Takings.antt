@@ -35,17 +35,21 @@ is_counted p (y ∷ ys) some = by_test (y == p) refl (λ more. is_counted p ys m
 
 -- a piece of theirs
 pub is_dealt : (p : ℕ) (dealt : List ℕ) → IsOf dealt p → Contains dealt p
-is_dealt p dealt is_of = is_counted p dealt (subst (λ (b : Bool). (if b then 1 else 0) ≤ times p dealt) (eq-eqb p p refl) (is_of (λ y. if y == p then 1 else 0)))
+is_dealt p dealt is_of = is_counted p dealt (subst (λ (b : Bool). (if b then 1 else 0) ≤ times p dealt)
+    (eq-eqb p p refl) (is_of (λ y. if y == p then 1 else 0)))
 
 -- an access of a taker
-pub access_at : (pieces : Pieces) (taker : Taker) (at : ℕ) (a : Access) → IsTakerOf pieces taker → at < length pieces.thieves.items
+pub access_at : (pieces : Pieces) (taker : Taker) (at : ℕ) (a : Access) → IsTakerOf pieces taker
+    → at < length pieces.thieves.items
     → a ≡ get_or taker.accesses.items at a → (s : Thief)
     → IsAccess pieces.count (length pieces.thieves.items) at (get_or pieces.thieves.items at s) a
 access_at pieces taker at a is within same s =
-    subst (IsAccess pieces.count (length pieces.thieves.items) at (get_or pieces.thieves.items at s)) (sym same) (is.accesses.each at s a within)
+    subst (IsAccess pieces.count (length pieces.thieves.items) at (get_or pieces.thieves.items at s)) (sym same)
+    (is.accesses.each at s a within)
 
 -- an access stays one of its deque
-pub after_piece : (count workers number : ℕ) (thief : Thief) (a b : Access) (p : ℕ) → IsAccess count workers number thief a → SamePass a.ticket b.ticket
+pub after_piece : (count workers number : ℕ) (thief : Thief) (a b : Access) (p : ℕ)
+    → IsAccess count workers number thief a → SamePass a.ticket b.ticket
     → seen b ≡ with_piece (seen a) p → b.ended ≡ a.ended → IsAccess count workers number thief b
 after_piece count workers number thief a b p is same now ended = record {
   fifo = is.fifo;
@@ -55,7 +59,8 @@ after_piece count workers number thief a b p is same now ended = record {
   dealt = ap (λ v. v.dealt) now ∙ is.dealt;
 }
 
-pub after_mark : (count workers number : ℕ) (thief : Thief) (a b : Access) → IsAccess count workers number thief a → SamePass a.ticket b.ticket
+pub after_mark : (count workers number : ℕ) (thief : Thief) (a b : Access) → IsAccess count workers number thief a
+    → SamePass a.ticket b.ticket
     → seen b ≡ with_end (seen a) → a.ended ≡ false → b.ended ≡ true → IsAccess count workers number thief b
 after_mark count workers number thief a b is same now not_ended ended = record {
   fifo = is.fifo;
@@ -68,18 +73,23 @@ after_mark count workers number thief a b is same now not_ended ended = record {
 }
 
 -- accesses after a change of one
-accesses_set : (count : ℕ) (thieves : List Thief) (accesses : List Access) (at : ℕ) (b : Access) → AreAccesses count thieves accesses → at < length thieves
-    → ((s : Thief) → IsAccess count (length thieves) at (get_or thieves at s) b) → AreAccesses count thieves (set accesses at b)
+accesses_set : (count : ℕ) (thieves : List Thief) (accesses : List Access) (at : ℕ) (b : Access)
+    → AreAccesses count thieves accesses → at < length thieves
+    → ((s : Thief) → IsAccess count (length thieves) at (get_or thieves at s) b)
+    → AreAccesses count thieves (set accesses at b)
 accesses_set count thieves accesses at b are within is = record {
   many = length-set accesses at b ∙ are.many;
   each = λ k s d k_within. dite (ℕ_discrete k at)
       (λ e. subst (λ j. IsAccess count (length thieves) j (get_or thieves j s) (get_or (set accesses at b) j d)) (sym e)
-      (subst (IsAccess count (length thieves) at (get_or thieves at s)) (sym (get_or-set_same accesses at b d (let many = are.many in omega arith))) (is s)))
-      (λ other. subst (IsAccess count (length thieves) k (get_or thieves k s)) (sym (get_or-set_other accesses at k b d other)) (are.each k s d k_within));
+      (subst (IsAccess count (length thieves) at (get_or thieves at s))
+      (sym (get_or-set_same accesses at b d (let many = are.many in omega arith))) (is s)))
+      (λ other. subst (IsAccess count (length thieves) k (get_or thieves k s))
+      (sym (get_or-set_other accesses at k b d other)) (are.each k s d k_within));
 }
 
 -- the owner's end stays the worker's when it notes a piece
-owner_noted : (count workers number seats : ℕ) (thief : Thief) (o q : Owner) (p : ℕ) → IsOwner count workers number seats thief o → SameWorker o q
+owner_noted : (count workers number seats : ℕ) (thief : Thief) (o q : Owner) (p : ℕ)
+    → IsOwner count workers number seats thief o → SameWorker o q
     → worker_view q ≡ noted (worker_view o) p → IsOwner count workers number seats thief q
 owner_noted count workers number seats thief o q p is same now = record {
   deque = same.0 ∙ is.deque;
@@ -91,9 +101,12 @@ owner_noted count workers number seats thief o q p is same now = record {
 }
 
 -- the taker after a piece
-pub piece_taken : (pieces : Pieces) (taker : Taker) (at : ℕ) (a b : Access) (p : ℕ) (owner : Owner) (accesses : Vec Access Global) → IsTakerOf pieces taker
-    → at < length pieces.thieves.items → a ≡ get_or taker.accesses.items at a → SamePass a.ticket b.ticket → seen b ≡ with_piece (seen a) p → b.ended ≡ a.ended
-    → SameWorker taker.owner owner → worker_view owner ≡ noted (worker_view taker.owner) p → accesses.items ≡ set taker.accesses.items at b
+pub piece_taken : (pieces : Pieces) (taker : Taker) (at : ℕ) (a b : Access) (p : ℕ) (owner : Owner)
+    (accesses : Vec Access Global) → IsTakerOf pieces taker
+    → at < length pieces.thieves.items → a ≡ get_or taker.accesses.items at a → SamePass a.ticket b.ticket
+    → seen b ≡ with_piece (seen a) p → b.ended ≡ a.ended
+    → SameWorker taker.owner owner → worker_view owner ≡ noted (worker_view taker.owner) p
+    → accesses.items ≡ set taker.accesses.items at b
     → IsTakerOf pieces (record { number = taker.number; owner = owner; accesses = accesses })
 piece_taken pieces taker at a b p owner accesses is within there same now ended same_owner noted_now items = record {
   within = is.within;
@@ -102,20 +115,26 @@ piece_taken pieces taker at a b p owner accesses is within there same now ended 
   none_taken = ap (λ v. v.taken) noted_now ∙ is.none_taken;
   accesses = subst (AreAccesses pieces.count pieces.thieves.items) (sym items)
       (accesses_set pieces.count pieces.thieves.items taker.accesses.items at b is.accesses within
-      (λ s. after_piece pieces.count (length pieces.thieves.items) at (get_or pieces.thieves.items at s) a b p (access_at pieces taker at a is within there s) same now ended));
+      (λ s. after_piece pieces.count (length pieces.thieves.items) at (get_or pieces.thieves.items at s) a b p
+      (access_at pieces taker at a is within there s) same now ended));
   noted = λ h.
       let list : weight_of h accesses.items ≡ weight_of h (set taker.accesses.items at b) = ap (weight_of h) items in
-      let log : sum_by h (worker_view owner).log ≡ sum_by h ((worker_view taker.owner).log ++ p ∷ []) = ap (λ v. sum_by h v.log) noted_now in
+      let log : sum_by h (worker_view owner).log ≡ sum_by h ((worker_view taker.owner).log ++ p ∷ []) =
+      ap (λ v. sum_by h v.log) noted_now in
       let weight : sum_by h (seen b).taken ≡ sum_by h ((seen a).taken ++ p ∷ []) = ap (λ v. sum_by h v.taken) now in
-      let old : sum_by h (seen (get_or taker.accesses.items at a)).taken ≡ sum_by h (seen a).taken = ap (λ x. sum_by h (seen x).taken) (sym there) in
-      let change = sum_by-set (λ x. sum_by h (seen x).taken) taker.accesses.items at b a (let many = is.accesses.many in omega arith) in
+      let old : sum_by h (seen (get_or taker.accesses.items at a)).taken ≡ sum_by h (seen a).taken =
+      ap (λ x. sum_by h (seen x).taken) (sym there) in
+      let change = sum_by-set (λ x. sum_by h (seen x).taken) taker.accesses.items at b a (let many = is.accesses.many in
+      omega arith) in
       let balance = is.noted h in
       omega (arith, sum_by_push h (worker_view taker.owner).log p, sum_by_push h (seen a).taken p);
 }
 
 -- the taker after a mark
-pub mark_met : (pieces : Pieces) (taker : Taker) (at : ℕ) (a b : Access) (accesses : Vec Access Global) → IsTakerOf pieces taker
-    → at < length pieces.thieves.items → a ≡ get_or taker.accesses.items at a → SamePass a.ticket b.ticket → seen b ≡ with_end (seen a) → a.ended ≡ false → b.ended ≡ true
+pub mark_met : (pieces : Pieces) (taker : Taker) (at : ℕ) (a b : Access) (accesses : Vec Access Global)
+    → IsTakerOf pieces taker
+    → at < length pieces.thieves.items → a ≡ get_or taker.accesses.items at a → SamePass a.ticket b.ticket
+    → seen b ≡ with_end (seen a) → a.ended ≡ false → b.ended ≡ true
     → accesses.items ≡ set taker.accesses.items at b
     → IsTakerOf pieces (record { number = taker.number; owner = taker.owner; accesses = accesses })
 mark_met pieces taker at a b accesses is within there same now not_ended ended items = record {
@@ -125,19 +144,24 @@ mark_met pieces taker at a b accesses is within there same now not_ended ended i
   none_taken = is.none_taken;
   accesses = subst (AreAccesses pieces.count pieces.thieves.items) (sym items)
       (accesses_set pieces.count pieces.thieves.items taker.accesses.items at b is.accesses within
-      (λ s. after_mark pieces.count (length pieces.thieves.items) at (get_or pieces.thieves.items at s) a b (access_at pieces taker at a is within there s) same now not_ended ended));
+      (λ s. after_mark pieces.count (length pieces.thieves.items) at (get_or pieces.thieves.items at s) a b
+      (access_at pieces taker at a is within there s) same now not_ended ended));
   noted = λ h.
       let list : weight_of h accesses.items ≡ weight_of h (set taker.accesses.items at b) = ap (weight_of h) items in
       let weight : sum_by h (seen b).taken ≡ sum_by h (seen a).taken = ap (λ v. sum_by h v.taken) now in
-      let old : sum_by h (seen (get_or taker.accesses.items at a)).taken ≡ sum_by h (seen a).taken = ap (λ x. sum_by h (seen x).taken) (sym there) in
-      let change = sum_by-set (λ x. sum_by h (seen x).taken) taker.accesses.items at b a (let many = is.accesses.many in omega arith) in
+      let old : sum_by h (seen (get_or taker.accesses.items at a)).taken ≡ sum_by h (seen a).taken =
+      ap (λ x. sum_by h (seen x).taken) (sym there) in
+      let change = sum_by-set (λ x. sum_by h (seen x).taken) taker.accesses.items at b a (let many = is.accesses.many in
+      omega arith) in
       let balance = is.noted h in omega arith;
 }
 
 -- a taker that has met each end is done
-pub all_ended : (taker : Taker) → ((k : ℕ) (d : Access) → k < length taker.accesses.items → (get_or taker.accesses.items k d).ended ≡ true) → is_done taker ≡ true
+pub all_ended : (taker : Taker) → ((k : ℕ) (d : Access) → k < length taker.accesses.items
+    → (get_or taker.accesses.items k d).ended ≡ true) → is_done taker ≡ true
 unfolding is_done
-all_ended taker each = list_all-from_AllPass (λ (a : Access). a.ended) taker.accesses.items (λ k d within. each k d within)
+all_ended taker each =
+    list_all-from_AllPass (λ (a : Access). a.ended) taker.accesses.items (λ k d within. each k d within)
 
 -- a taker that is done has met each end
 pub each_ended : (taker : Taker) → is_done taker ≡ true → (k : ℕ) (d : Access) → k < length taker.accesses.items
@@ -150,13 +174,16 @@ pub dealt_below : (number workers count p : ℕ) → Contains (dealt_to number w
 dealt_below number workers count p there =
     let each : All (λ y. y < count) (dealt_to number workers count) =
     All-filter (λ y. y % workers == number) (λ y. y < count) (range_with_len 0 count)
-    (λ k d within. subst (λ (y : ℕ). y < count) (sym (get_or-range_with_len 0 count k d (let n = length-range_with_len 0 count in omega arith))) (let n = length-range_with_len 0 count in omega arith)) in
+    (λ k d within. subst (λ (y : ℕ). y < count) (sym (get_or-range_with_len 0 count k d (let n =
+    length-range_with_len 0 count in omega arith))) (let n = length-range_with_len 0 count in omega arith)) in
     subst (λ (y : ℕ). y < count) there.2 (each there.0 p there.1)
 
 -- what was dealt to a taker's worker
-pub own_dealt : (pieces : Pieces) (taker : Taker) → IsTakerOf pieces taker → dealt_of taker ≡ dealt_to taker.number (length pieces.thieves.items) pieces.count
+pub own_dealt : (pieces : Pieces) (taker : Taker) → IsTakerOf pieces taker
+    → dealt_of taker ≡ dealt_to taker.number (length pieces.thieves.items) pieces.count
 unfolding dealt_of
 own_dealt pieces taker is = by_list pieces.thieves.items refl where
-  by_list : (thieves : List Thief) → pieces.thieves.items ≡ thieves → (worker_view taker.owner).dealt ≡ dealt_to taker.number (length pieces.thieves.items) pieces.count
+  by_list : (thieves : List Thief) → pieces.thieves.items ≡ thieves
+      → (worker_view taker.owner).dealt ≡ dealt_to taker.number (length pieces.thieves.items) pieces.count
   by_list [] e = absurd (let none = ap length e in let within = is.within in omega arith)
   by_list (s ∷ rest) e = (is.owner s).dealt

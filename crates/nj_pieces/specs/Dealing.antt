@@ -2,7 +2,7 @@
 use Rattle.std.specs.Prelude.{ℕ, ◌==◌, ◌%◌, nat_lt, List, if◌then◌else◌}
 use Rattle.std.specs.List.{filter, range_with_len, sum_by}
 
--- the pieces below this count that go to the worker of this number: those whose remainder by the workers it is, in rising order
+-- the pieces below this count that go to the worker of this number, rising: those whose remainder by the workers it is
 abbrev pub dealt_to : ℕ → ℕ → ℕ → List ℕ
 dealt_to number workers count = filter (λ p. p % workers == number) (range_with_len 0 count)
 

@@ -1,4 +1,6 @@
--- The rule of one deque. Its pieces stand before its marks. Each mark that was put is the right of one pass, which takes one mark at most, so that a pass with an unused right never finds the deque empty. Each piece that was dealt was taken by one pass or is still there; and none is there once a mark was taken.
+-- The rule of one deque. Its pieces stand before its marks. Each mark that was put is the right of one pass, which
+-- takes one mark at most, so that a pass with an unused right never finds the deque empty. Each piece that was dealt
+-- was taken by one pass or is still there; and none is there once a mark was taken.
 use Rattle.std.specs.Prelude.{◌≡◌, ℕ, ◌+◌, ◌<◌, ◌≤◌, List, [], ◌∷◌, ◌++◌, map, replicate}
 use Rattle.std.specs.List.{sum_by}
 use mathlib.Core.Option.{some}

@@ -7,7 +7,8 @@ use Rattle.nj_pieces.specs.Tallies.{opening, guest}
 use Rattle.nj_pieces.specs.Dealing.{dealt_to}
 use Rattle.nj_pieces.specs.Takers.{Thief, seen}
 
--- the taker of the worker of this number has the owner's end of a deque with its pieces and so many marks, and the thief takes from that deque
+-- the taker of the worker of this number has the owner's end of a deque with its pieces and so many marks, and the
+-- thief takes from that deque
 pub record IsOpened (count workers number : ℕ) (taker : Taker) (thief : Thief) : Type 0 where
   pub numbered : taker.number ≡ number
   pub fifo : worker_flavor taker.owner ≡ 0

@@ -53,8 +53,8 @@ is_done taker = list_all (λ a. a.ended) taker.accesses.items
 unfoldable pub HasMetOwnEnd : Taker → Type 0
 HasMetOwnEnd taker = (d : Access) → (slice_index_or taker.accesses.items taker.number d).ended ≡ true
 
--- an access to the deque of this thief, which is the worker's of this number. It may take one mark, has taken it where it
--- has met the end, and knows which pieces were dealt to that worker
+-- an access to the deque of this thief, which is the worker's of this number. It may take one mark, has taken it where
+-- it has met the end, and knows which pieces were dealt to that worker
 pub record IsAccess (count workers number : ℕ) (thief : Thief) (access : Access) : Type 0 where
   pub fifo : stealer_flavor thief ≡ 0
   pub deque : IsPassOf (stealer_deque thief) access.ticket
@@ -84,7 +84,8 @@ weight_of h accesses = sum_by (λ a. sum_by h (seen a).taken) accesses
 -- a taker of these pieces
 pub record IsTakerOf (pieces : Pieces) (taker : Taker) : Type 0 where
   pub within : taker.number < length pieces.thieves.items
-  pub owner : (s : Thief) → IsOwner pieces.count (length pieces.thieves.items) taker.number 0 (slice_index_or pieces.thieves.items taker.number s) taker.owner
+  pub owner : (s : Thief) → IsOwner pieces.count (length pieces.thieves.items) taker.number 0
+      (slice_index_or pieces.thieves.items taker.number s) taker.owner
   pub none_ended : (worker_view taker.owner).ends ≡ 0
   pub none_taken : (worker_view taker.owner).taken ≡ []
   pub accesses : AreAccesses pieces.count pieces.thieves.items taker.accesses.items

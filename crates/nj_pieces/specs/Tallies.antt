@@ -46,20 +46,23 @@ IsTaken v (x ∷ y ∷ xs) w = ⊥
 abbrev pub IsSettled : Tally → Type 0
 IsSettled v = (h : ℕ → ℕ) → sum_by h v.dealt ≡ sum_by h v.taken
 
--- one task is taken by the pass that has all marks: a piece, where no mark was taken, or a mark, and then nothing is left
+-- one task is taken by the pass that has all marks: a piece, where no mark was taken; or a mark, where none is left
 abbrev pub DrainsOne : Tally → Task → Tally → Type 0
-DrainsOne v (Piece p) w = (w ≡ with_piece v p) × (v.ends ≡ 0) × ((h : ℕ → ℕ) → sum_by h v.taken + h p ≤ sum_by h v.dealt)
+DrainsOne v (Piece p) w =
+    (w ≡ with_piece v p) × (v.ends ≡ 0) × ((h : ℕ → ℕ) → sum_by h v.taken + h p ≤ sum_by h v.dealt)
 DrainsOne v End w = (w ≡ with_end v) × IsSettled v
 
+-- what the pass that has all marks takes is one task
 abbrev pub IsDrained : Tally → List Task → Tally → Type 0
 IsDrained v [] w = ⊥
 IsDrained v (x ∷ []) w = DrainsOne v x w
 IsDrained v (x ∷ y ∷ xs) w = ⊥
 
--- the right to one mark goes to a new pass, which knows the pieces that were dealt
+-- the right to one mark goes from this pass to a new one
 abbrev pub cut : Tally → Tally
 cut v = record v { seats = v.seats - 1 }
 
+-- the new pass, which knows the pieces that were dealt
 abbrev pub guest : Tally → Tally
 guest v = record { seats = 1; ends = 0; marks = 0; dealt = v.dealt; taken = []; log = [] }
 

@@ -20,7 +20,8 @@ impl Pieces {
         ensures count { IfOk result (λ dealing. count_of dealing.0 ≡ count) }
         ensures workers { IfOk result (λ dealing. workers_of dealing.0 ≡ workers) }
         ensures takers { IfOk result (λ dealing. AreTakersOf dealing.0 dealing.1.items) }
-        ensures dealt { IfOk result (λ dealing. (k : ℕ) (d : Taker) → k < workers → dealt_of (slice_index_or dealing.1.items k d) ≡ dealt_to k workers count) }
+        ensures dealt { IfOk result (λ dealing. (k : ℕ) (d : Taker) → k < workers
+            → dealt_of (slice_index_or dealing.1.items k d) ≡ dealt_to k workers count) }
         ensures none_taken { IfOk result (λ dealing. All (λ taker. taken_of taker ≡ []) dealing.1.items) }
         ensures none_done { IfOk result (λ dealing. All (λ taker. is_done taker ≡ false) dealing.1.items) }
     {
@@ -42,7 +43,8 @@ fn opened(alloc: Global, count: u64, workers: usize) -> Result<(Vec<Taker>, Vec<
     requires { (0 < workers) × (workers ≤ 64) × (count ≤ 65536) }
     ensures takers { IfOk result (λ pair. length pair.0.items ≡ workers) }
     ensures thieves { IfOk result (λ pair. length pair.1.items ≡ workers) }
-    ensures each { IfOk result (λ pair. (k : ℕ) (d : Taker) (s : Thief) → k < workers → IsOpened count workers k (slice_index_or pair.0.items k d) (slice_index_or pair.1.items k s)) }
+    ensures each { IfOk result (λ pair. (k : ℕ) (d : Taker) (s : Thief) → k < workers
+        → IsOpened count workers k (slice_index_or pair.0.items k d) (slice_index_or pair.1.items k s)) }
 {
     let mut takers = Vec::with_capacity(alloc, workers)?;
     let mut thieves = Vec::with_capacity(alloc, workers)?;
@@ -115,11 +117,15 @@ fn put_mark(owner: &mut Owner) -> Result<(), AllocError>
 
 // Gives each taker its accesses.
 fn seat(alloc: Global, takers: &mut [Taker]) -> Result<(), AllocError>
-    requires { (k : ℕ) (d : Taker) → k < length takers.old → MayCut (length takers.old) (slice_index_or takers.old k d) }
+    requires { (k : ℕ) (d : Taker) → k < length takers.old
+        → MayCut (length takers.old) (slice_index_or takers.old k d) }
     ensures many { length takers.new ≡ length takers.old }
-    ensures cut { OnOk result ((k : ℕ) (d : Taker) → k < length takers.old → IsCut (length takers.old) (slice_index_or takers.old k d) (slice_index_or takers.new k d)) }
-    ensures accesses { OnOk result ((j : ℕ) (d : Taker) → j < length takers.old → length (slice_index_or takers.new j d).accesses.items ≡ length takers.old) }
-    ensures seats { OnOk result ((j k : ℕ) (d : Taker) (a : Access) → j < length takers.old → k < length takers.old → IsSeat (slice_index_or takers.old k d) (slice_index_or (slice_index_or takers.new j d).accesses.items k a)) }
+    ensures cut { OnOk result ((k : ℕ) (d : Taker) → k < length takers.old
+        → IsCut (length takers.old) (slice_index_or takers.old k d) (slice_index_or takers.new k d)) }
+    ensures accesses { OnOk result ((j : ℕ) (d : Taker) → j < length takers.old
+        → length (slice_index_or takers.new j d).accesses.items ≡ length takers.old) }
+    ensures seats { OnOk result ((j k : ℕ) (d : Taker) (a : Access) → j < length takers.old → k < length takers.old
+        → IsSeat (slice_index_or takers.old k d) (slice_index_or (slice_index_or takers.new j d).accesses.items k a)) }
 {
     for at in 0..takers.len() {
         let accesses = cut_from(alloc, takers)?;
@@ -132,10 +138,13 @@ fn seat(alloc: Global, takers: &mut [Taker]) -> Result<(), AllocError>
 fn cut_from(alloc: Global, takers: &mut [Taker]) -> Result<Vec<Access>, AllocError>
     requires { (k : ℕ) (d : Taker) → k < length takers.old → MayCut 1 (slice_index_or takers.old k d) }
     ensures many { length takers.new ≡ length takers.old }
-    ensures cut { OnOk result ((k : ℕ) (d : Taker) → k < length takers.old → IsCut 1 (slice_index_or takers.old k d) (slice_index_or takers.new k d)) }
-    ensures kept { OnOk result ((k : ℕ) (d : Taker) → k < length takers.old → (slice_index_or takers.new k d).accesses ≡ (slice_index_or takers.old k d).accesses) }
+    ensures cut { OnOk result ((k : ℕ) (d : Taker) → k < length takers.old
+        → IsCut 1 (slice_index_or takers.old k d) (slice_index_or takers.new k d)) }
+    ensures kept { OnOk result ((k : ℕ) (d : Taker) → k < length takers.old
+        → (slice_index_or takers.new k d).accesses ≡ (slice_index_or takers.old k d).accesses) }
     ensures accesses { IfOk result (λ accesses. length accesses.items ≡ length takers.old) }
-    ensures seats { IfOk result (λ accesses. (k : ℕ) (d : Taker) (a : Access) → k < length takers.old → IsSeat (slice_index_or takers.old k d) (slice_index_or accesses.items k a)) }
+    ensures seats { IfOk result (λ accesses. (k : ℕ) (d : Taker) (a : Access) → k < length takers.old
+        → IsSeat (slice_index_or takers.old k d) (slice_index_or accesses.items k a)) }
 {
     let mut accesses = Vec::with_capacity(alloc, takers.len())?;
     for at in 0..takers.len() {

@@ -17,10 +17,13 @@ impl Pieces {
     #[tactic(auto, unfolding(crate::specs::Takers::count_of))]
     pub fn gather(self, takers: Vec<Taker>) -> Vec<u64>
         requires { AreTakersOf self takers.items }
-        ensures once { (piece : ℕ) → times piece result.items + sum_by (λ taker. times piece (taken_of taker)) takers.items ≡ once_below piece (count_of self) }
-        ensures whole { (h : ℕ → ℕ) → sum_by h result.items + sum_by (λ taker. sum_by h (taken_of taker)) takers.items ≡ sum_by h (range_with_len 0 (count_of self)) }
+        ensures once { (piece : ℕ) → times piece result.items
+            + sum_by (λ taker. times piece (taken_of taker)) takers.items ≡ once_below piece (count_of self) }
+        ensures whole { (h : ℕ → ℕ) → sum_by h result.items + sum_by (λ taker. sum_by h (taken_of taker)) takers.items
+            ≡ sum_by h (range_with_len 0 (count_of self)) }
         ensures ascending { IsSorted nat_cmp result.items }
-        ensures none_left { (k : ℕ) (d : Taker) → k < length takers.items → is_done (slice_index_or takers.items k d) ≡ true → result.items ≡ [] }
+        ensures none_left { (k : ℕ) (d : Taker) → k < length takers.items
+            → is_done (slice_index_or takers.items k d) ≡ true → result.items ≡ [] }
     {
         let mut takers = takers;
         let mut left = self.left;
@@ -35,13 +38,19 @@ impl Pieces {
 
 // Gives what all accesses have back to the owners of their deques.
 fn take_back(alloc: Global, takers: &mut [Taker])
-    requires ports { (k : ℕ) (d : Taker) → k < length takers.old → worker_port (slice_index_or takers.old k d).owner ≡ 0 }
-    requires many { (j : ℕ) (d : Taker) → j < length takers.old → length (slice_index_or takers.old j d).accesses.items ≡ length takers.old }
-    requires returns { (j k : ℕ) (d : Taker) (a : Access) → j < length takers.old → k < length takers.old → IsReturn (slice_index_or takers.old k d) (slice_index_or (slice_index_or takers.old j d).accesses.items k a) }
+    requires ports { (k : ℕ) (d : Taker) → k < length takers.old
+        → worker_port (slice_index_or takers.old k d).owner ≡ 0 }
+    requires many { (j : ℕ) (d : Taker) → j < length takers.old
+        → length (slice_index_or takers.old j d).accesses.items ≡ length takers.old }
+    requires returns { (j k : ℕ) (d : Taker) (a : Access) → j < length takers.old → k < length takers.old
+        → IsReturn (slice_index_or takers.old k d) (slice_index_or (slice_index_or takers.old j d).accesses.items k a) }
     ensures many { length takers.new ≡ length takers.old }
-    ensures owners { (k : ℕ) (d : Taker) → k < length takers.old → IsGathered (length takers.old) (slice_index_or takers.old k d) (slice_index_or takers.new k d) }
-    ensures weights { (h : ℕ → ℕ) → sum_by (weight_back h) takers.new ≡ sum_by (weight_back h) takers.old + sum_by (weight_out h) takers.old }
-    ensures ended { (j k : ℕ) (d : Taker) → j < length takers.old → k < length takers.old → is_done (slice_index_or takers.old j d) ≡ true → 0 < (worker_view (slice_index_or takers.new k d).owner).ends }
+    ensures owners { (k : ℕ) (d : Taker) → k < length takers.old
+        → IsGathered (length takers.old) (slice_index_or takers.old k d) (slice_index_or takers.new k d) }
+    ensures weights { (h : ℕ → ℕ)
+        → sum_by (weight_back h) takers.new ≡ sum_by (weight_back h) takers.old + sum_by (weight_out h) takers.old }
+    ensures ended { (j k : ℕ) (d : Taker) → j < length takers.old → k < length takers.old →
+        is_done (slice_index_or takers.old j d) ≡ true → 0 < (worker_view (slice_index_or takers.new k d).owner).ends }
 {
     for from in 0..takers.len() {
         let accesses = mem::replace(&mut takers[from].accesses, Vec::new(alloc));
@@ -51,11 +60,14 @@ fn take_back(alloc: Global, takers: &mut [Taker])
 
 // Gives what these accesses have back to the owners, each to its own.
 fn give(takers: &mut [Taker], accesses: Vec<Access>)
-    requires ports { (k : ℕ) (d : Taker) → k < length takers.old → worker_port (slice_index_or takers.old k d).owner ≡ 0 }
+    requires ports { (k : ℕ) (d : Taker) → k < length takers.old
+        → worker_port (slice_index_or takers.old k d).owner ≡ 0 }
     requires many { length accesses.items ≡ length takers.old }
-    requires returns { (k : ℕ) (d : Taker) (a : Access) → k < length takers.old → IsReturn (slice_index_or takers.old k d) (slice_index_or accesses.items k a) }
+    requires returns { (k : ℕ) (d : Taker) (a : Access) → k < length takers.old
+        → IsReturn (slice_index_or takers.old k d) (slice_index_or accesses.items k a) }
     ensures many { length takers.new ≡ length takers.old }
-    ensures given { (k : ℕ) (d : Taker) (a : Access) → k < length takers.old → IsGiven (slice_index_or takers.old k d) (slice_index_or accesses.items k a) (slice_index_or takers.new k d) }
+    ensures given { (k : ℕ) (d : Taker) (a : Access) → k < length takers.old
+        → IsGiven (slice_index_or takers.old k d) (slice_index_or accesses.items k a) (slice_index_or takers.new k d) }
 {
     let mut accesses = accesses;
     while let Some(access) = accesses.pop() {
@@ -69,8 +81,10 @@ fn drain(owner: Owner, left: &mut Vec<u64>)
     requires port { worker_port owner ≡ 0 }
     requires whole { (worker_view owner).seats ≡ (worker_view owner).marks }
     requires some_mark { 0 < (worker_view owner).marks }
-    requires room { vec_len left.old + length (worker_view owner).dealt ≤ vec_capacity left.old + length (worker_view owner).taken }
-    ensures weights { (h : ℕ → ℕ) → sum_by h left.new.items + sum_by h (worker_view owner).taken ≡ sum_by h left.old.items + sum_by h (worker_view owner).dealt }
+    requires room { vec_len left.old + length (worker_view owner).dealt
+        ≤ vec_capacity left.old + length (worker_view owner).taken }
+    ensures weights { (h : ℕ → ℕ) → sum_by h left.new.items + sum_by h (worker_view owner).taken
+        ≡ sum_by h left.old.items + sum_by h (worker_view owner).dealt }
     ensures capacity { vec_capacity left.new ≡ vec_capacity left.old }
     ensures none_left { 0 < (worker_view owner).ends → left.new.items ≡ left.old.items }
 {

@@ -43,12 +43,15 @@ impl Pieces {
     fn take_at<R: Wait>(&self, rt: &R, taker: &mut Taker, at: usize) -> Option<u64>
         requires taker { IsTakerOf self.now taker.old }
         requires within { at < length self.now.thieves.items }
-        ensures piece { IfSome result (λ piece. (worker_view taker.new.owner).log ≡ (worker_view taker.old.owner).log ++ piece ∷ []) }
+        ensures piece { IfSome result (λ piece. (worker_view taker.new.owner).log
+            ≡ (worker_view taker.old.owner).log ++ piece ∷ []) }
         ensures from { IfSome result (λ piece. Contains (dealt_to at (length self.now.thieves.items) self.now.count) piece) }
         ensures already { ((d : Access) → (slice_index_or taker.old.accesses.items at d).ended ≡ true) → result ≡ None }
         ensures none { IfNone result ((worker_view taker.new.owner).log ≡ (worker_view taker.old.owner).log) }
         ensures ended { IfNone result ((d : Access) → (slice_index_or taker.new.accesses.items at d).ended ≡ true) }
-        ensures kept { (k : ℕ) (d : Access) → k < length self.now.thieves.items → (slice_index_or taker.old.accesses.items k d).ended ≡ true → (slice_index_or taker.new.accesses.items k d).ended ≡ true }
+        ensures kept { (k : ℕ) (d : Access) → k < length self.now.thieves.items
+            → (slice_index_or taker.old.accesses.items k d).ended ≡ true
+            → (slice_index_or taker.new.accesses.items k d).ended ≡ true }
         ensures same { IsTakerOf self.now taker.new }
         ensures number { taker.new.number ≡ taker.old.number }
         ensures dealt { (worker_view taker.new.owner).dealt ≡ (worker_view taker.old.owner).dealt }
@@ -69,7 +72,8 @@ fn steal<R: Wait>(rt: &R, thief: &Thief, access: &mut Access) -> Option<u64>
     requires deque { IsPassOf (stealer_deque thief.now) access.old.ticket }
     requires right { (view access.old.ticket).ends < (view access.old.ticket).seats }
     ensures same { SamePass access.old.ticket access.new.ticket }
-    ensures piece { IfSome result (λ piece. (view access.new.ticket ≡ with_piece (view access.old.ticket) piece) × IsOf (view access.old.ticket).dealt piece) }
+    ensures piece { IfSome result (λ piece. (view access.new.ticket ≡ with_piece (view access.old.ticket) piece)
+        × IsOf (view access.old.ticket).dealt piece) }
     ensures mark { IfNone result (view access.new.ticket ≡ with_end (view access.old.ticket)) }
     ensures ended { IfSome result (λ piece. access.new.ended ≡ access.old.ended) }
     ensures met { IfNone result (access.new.ended ≡ true) }

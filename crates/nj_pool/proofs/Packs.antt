@@ -16,12 +16,14 @@ octets (byte ∷ bytes) are = (omega (arith, are 0), octets bytes (λ i. are (su
 
 -- one packing more is that of an image, and tells it
 pub packed_more : (base room after image packed : List ℕ) (limit bytes more : ℕ) (packings later : List (List ℕ))
-    → ((image base : List ℕ) → IsImageSize base → length image ≡ length base → unpacked base (packing image base) ≡ image)
+    → ((image base : List ℕ) → IsImageSize base → length image ≡ length base
+    → unpacked base (packing image base) ≡ image)
     → ((image base : List ℕ) → length image ≡ length base → AreBytes image → IsPacking base (packing image base))
     → IsPacked base room limit bytes packings → length after ≡ length room → length image ≡ length base → AreBytes image
     → packed ≡ packing image base → later ≡ packings ++ packed ∷ [] → more ≡ bytes + need base image → more ≤ limit
     → IsPacked base after limit more later
-packed_more base room after image packed limit bytes more packings later told packs pool wide long octets is added counted within =
+packed_more base room after image packed limit bytes more packings later told packs pool wide long octets is added
+    counted within =
     let same : later ≡ packings ++ packing image base ∷ [] = added ∙ ap (λ p. packings ++ p ∷ []) is in
     let images : images_in base later ≡ images_in base packings ++ image ∷ [] =
     ap (images_in base) same ∙ (map-append (unpacked base) packings (packing image base ∷ [])
@@ -29,7 +31,8 @@ packed_more base room after image packed limit bytes more packings later told pa
     record {
       size = pool.size;
       wide = wide ∙ pool.wide;
-      are = subst (All (IsPacking base)) (sym same) (All-push (IsPacking base) packings (packing image base) pool.are (packs image base long octets));
+      are = subst (All (IsPacking base)) (sym same)
+          (All-push (IsPacking base) packings (packing image base) pool.are (packs image base long octets));
       counted = omega (
         arith,
         counted,

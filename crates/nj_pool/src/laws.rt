@@ -8,7 +8,8 @@ use nj_image::a_packing_tells_its_image;
 
 /// A state needs at most the bytes of its image and 16 more.
 pub fn a_need_is_bounded()
-    ensures { (base image : List ℕ) → IsImageSize base → length image ≡ length base → need base image ≤ length base + 16 }
+    ensures { (base image : List ℕ) → IsImageSize base → length image ≡ length base
+        → need base image ≤ length base + 16 }
 {
     a_packing_tells_its_image();
 }

@@ -36,14 +36,21 @@ impl Model for FrontPool {
 
     ghost Value = { Front };
 
-    ghost view = { λ p. record { base = p.base.items; limit = p.limit; images = images_in p.base.items p.packings; words = p.trail.words; depth = p.trail.depth; born = p.born } };
+    ghost view = { λ p. record {
+      base = p.base.items;
+      limit = p.limit;
+      images = images_in p.base.items p.packings;
+      words = p.trail.words;
+      depth = p.trail.depth;
+      born = p.born;
+    } };
 
     ghost invariant = { λ p. IsPacked p.base.items p.room.items p.limit p.bytes p.packings };
 }
 
 impl FrontPool {
-    /// An empty pool for images as long as `base`: 4,480 bytes, or 12,672. The limit is in bytes. A state needs the less,
-    /// the fewer pages of its image differ from the base's.
+    /// An empty pool for images as long as `base`: 4,480 bytes, or 12,672. The limit is in bytes. A state needs the
+    /// less, the fewer pages of its image differ from the base's.
     pub fn new(alloc: Global, base: &[u8], limit: u64) -> Result<FrontPool, AllocError>
         requires { IsImageSize base.now }
         ensures { IfOk result (λ pool. pool ≡ empty_front base.now limit) }

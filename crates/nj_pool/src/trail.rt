@@ -37,7 +37,8 @@ impl Trail {
     // Adds a whole word, before any step.
     pub(crate) fn push_root(&mut self, alloc: Global, word: &[u8]) -> Result<(), AllocError>
         requires { self.old.depth ≡ 0 }
-        ensures { self.new ≡ (if is_ok result then record self.old { words = self.old.words ++ word.now ∷ [] } else self.old) }
+        ensures { self.new
+            ≡ (if is_ok result then record self.old { words = self.old.words ++ word.now ∷ [] } else self.old) }
     {
         push_copy(alloc, &mut self.roots, word)
     }

@@ -40,6 +40,10 @@ impl Picture for DotPicture {
         }
     }
 
+    fn defer(&mut self, _dots: u32) -> bool {
+        true
+    }
+
     fn read(&mut self, reg: u8, pattern: &[u8]) -> u8 {
         self.screen.read(reg, pattern)
     }
@@ -50,6 +54,10 @@ impl Picture for DotPicture {
 
     fn nmi_line(&self) -> bool {
         self.screen.nmi_line()
+    }
+
+    fn has_ended(&self) -> bool {
+        self.screen.ended
     }
 
     fn take_end(&mut self) -> bool {

@@ -17,16 +17,20 @@ pub moved_none : (n : ℕ) (o : Option ℕ) → moved n o ≡ None → o ≡ Non
 moved_none n None e = refl
 moved_none n (Some k) e = cc
 
-pub moved_some : (n : ℕ) (o : Option ℕ) (frame : ℕ) → moved n o ≡ Some frame → (k : ℕ) × ((o ≡ Some k) × (frame ≡ n + k))
+pub moved_some :
+    (n : ℕ) (o : Option ℕ) (frame : ℕ) → moved n o ≡ Some frame → (k : ℕ) × ((o ≡ Some k) × (frame ≡ n + k))
 moved_some n None frame e = cc
 moved_some n (Some k) frame e = (k, (refl, cc))
 
 -- ---- one frame
 
-pub left_same : (pad shown : ℕ) (whole movie : List ℕ) → shown ≡ pad → first_left (pad ∷ whole) (shown ∷ movie) ≡ moved 1 (first_left whole movie)
+pub left_same :
+    (pad shown : ℕ) (whole movie : List ℕ) → shown ≡ pad →
+    first_left (pad ∷ whole) (shown ∷ movie) ≡ moved 1 (first_left whole movie)
 left_same pad shown whole movie e = let same : (shown == pad) ≡ true = grind (arith, nat_tests) in rw same refl
 
-pub left_other : (pad shown : ℕ) (whole movie : List ℕ) → shown ≢ pad → first_left (pad ∷ whole) (shown ∷ movie) ≡ Some 0
+pub left_other :
+    (pad shown : ℕ) (whole movie : List ℕ) → shown ≢ pad → first_left (pad ∷ whole) (shown ∷ movie) ≡ Some 0
 left_other pad shown whole movie h = let other : (shown == pad) ≡ false = grind (arith, nat_tests) in rw other refl
 
 -- ---- movies that begin as another
@@ -52,7 +56,9 @@ left_prefix [] more = refl
 left_prefix (pad ∷ whole) more = left_same pad pad whole (whole ++ more) refl ∙ ap (moved 1) (left_prefix whole more)
 
 -- behind a beginning that both have
-pub left-append : (begun whole movie : List ℕ) → first_left (begun ++ whole) (begun ++ movie) ≡ moved (length begun) (first_left whole movie)
+pub left-append :
+    (begun whole movie : List ℕ) →
+    first_left (begun ++ whole) (begun ++ movie) ≡ moved (length begun) (first_left whole movie)
 left-append [] whole movie = sym (moved-zero (first_left whole movie))
 left-append (pad ∷ begun) whole movie =
     left_same pad pad (begun ++ whole) (begun ++ movie) refl
@@ -113,11 +119,14 @@ left_length whole movie e =
 -- what is left of both, by the next frame
 left_at : (whole movie : List ℕ) (frame pad shown : ℕ) → frame < length whole → frame < length movie →
     pad ≡ get_or whole frame pad → shown ≡ get_or movie frame shown →
-    first_left (drop frame whole) (drop frame movie) ≡ first_left (pad ∷ drop (frame + 1) whole) (shown ∷ drop (frame + 1) movie)
+    first_left (drop frame whole) (drop frame movie)
+    ≡ first_left (pad ∷ drop (frame + 1) whole) (shown ∷ drop (frame + 1) movie)
 left_at whole movie frame pad shown h k is_pad is_shown =
     ap₂ first_left
-    (drop-cons whole frame pad h ∙ ap₂ (λ x n. x ∷ drop n whole) (sym is_pad) (let e : suc frame ≡ frame + 1 = omega arith in e))
-    (drop-cons movie frame shown k ∙ ap₂ (λ x n. x ∷ drop n movie) (sym is_shown) (let e : suc frame ≡ frame + 1 = omega arith in e))
+    (drop-cons whole frame pad h
+    ∙ ap₂ (λ x n. x ∷ drop n whole) (sym is_pad) (let e : suc frame ≡ frame + 1 = omega arith in e))
+    (drop-cons movie frame shown k
+    ∙ ap₂ (λ x n. x ∷ drop n movie) (sym is_shown) (let e : suc frame ≡ frame + 1 = omega arith in e))
 
 -- one more frame is the same
 pub left_next : (whole movie : List ℕ) (frame pad shown : ℕ) → frame < length whole → frame < length movie →
@@ -126,7 +135,9 @@ pub left_next : (whole movie : List ℕ) (frame pad shown : ℕ) → frame < len
     first_left whole movie ≡ moved (frame + 1) (first_left (drop (frame + 1) whole) (drop (frame + 1) movie))
 left_next whole movie frame pad shown h k is_pad is_shown e so_far =
     so_far
-    ∙ ap (moved frame) (left_at whole movie frame pad shown h k is_pad is_shown ∙ left_same pad shown (drop (frame + 1) whole) (drop (frame + 1) movie) e)
+    ∙ ap (moved frame)
+    (left_at whole movie frame pad shown h k is_pad is_shown
+    ∙ left_same pad shown (drop (frame + 1) whole) (drop (frame + 1) movie) e)
     ∙ moved-moved frame 1 (first_left (drop (frame + 1) whole) (drop (frame + 1) movie))
 
 -- the next frame differs
@@ -136,7 +147,9 @@ pub left_here : (whole movie : List ℕ) (frame pad shown : ℕ) → frame < len
     Some frame ≡ first_left whole movie
 left_here whole movie frame pad shown h k is_pad is_shown e so_far =
     sym (so_far
-    ∙ ap (moved frame) (left_at whole movie frame pad shown h k is_pad is_shown ∙ left_other pad shown (drop (frame + 1) whole) (drop (frame + 1) movie) e)
+    ∙ ap (moved frame)
+    (left_at whole movie frame pad shown h k is_pad is_shown
+    ∙ left_other pad shown (drop (frame + 1) whole) (drop (frame + 1) movie) e)
     ∙ ap Some (add-zero frame))
 
 -- the movie ends before the next frame

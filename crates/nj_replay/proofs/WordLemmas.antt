@@ -12,14 +12,24 @@ use Rattle.nj_replay.proofs.Broken.{broken, broken_behind}
 -- ---- steps and their first pads
 
 -- the steps of the first pads have at least the frames
-covers : (hold left : ℕ) (pads : List ℕ) → 1 ≤ hold → length pads ≤ length (held_pads hold (first_from hold left pads)) + left
+covers :
+    (hold left : ℕ) (pads : List ℕ) → 1 ≤ hold →
+    length pads ≤ length (held_pads hold (first_from hold left pads)) + left
 covers hold left [] some = omega arith
 covers hold zero (pad ∷ pads) some =
-    omega (arith, some, covers hold (hold - 1) pads some, length-append (replicate hold pad) (held_pads hold (first_from hold (hold - 1) pads)), length-replicate hold pad)
+    omega (
+      arith,
+      some,
+      covers hold (hold - 1) pads some,
+      length-append (replicate hold pad) (held_pads hold (first_from hold (hold - 1) pads)),
+      length-replicate hold pad,
+    )
 covers hold (suc left) (pad ∷ pads) some = omega (arith, covers hold left pads some)
 
 -- frames that do not leave the steps of their first pads are these steps
-pub whole_steps : (hold : ℕ) (pads : List ℕ) → 1 ≤ hold → first_left (held_pads hold (first_pads hold pads)) pads ≡ None → pads ≡ held_pads hold (first_pads hold pads)
+pub whole_steps :
+    (hold : ℕ) (pads : List ℕ) → 1 ≤ hold → first_left (held_pads hold (first_pads hold pads)) pads ≡ None →
+    pads ≡ held_pads hold (first_pads hold pads)
 whole_steps hold pads some e =
     let whole = held_pads hold (first_pads hold pads) in
     left_none whole pads e
@@ -45,19 +55,26 @@ first_pads-held (suc n) (pad ∷ word) some =
 -- ---- what is read
 
 -- a reading is one of three
-read_ok : (a b : Option ℕ) (word read : Word) → refused_or a NotStart (refused_or b NotHeld (Ok word)) ≡ Ok read → (a ≡ None) × ((b ≡ None) × (word ≡ read))
+read_ok :
+    (a b : Option ℕ) (word read : Word) → refused_or a NotStart (refused_or b NotHeld (Ok word)) ≡ Ok read →
+    (a ≡ None) × ((b ≡ None) × (word ≡ read))
 read_ok None None word read e = (refl, (refl, cc))
 read_ok None (Some k) word read e = cc
 read_ok (Some k) b word read e = cc
 
-read_err : (a b : Option ℕ) (word : Word) (refused : ReplayRefused) → refused_or a NotStart (refused_or b NotHeld (Ok word)) ≡ Err refused →
-    ((k : ℕ) × ((a ≡ Some k) × (refused ≡ NotStart k))) ⊎ ((k : ℕ) × ((a ≡ None) × ((b ≡ Some k) × (refused ≡ NotHeld k))))
+read_err :
+    (a b : Option ℕ) (word : Word) (refused : ReplayRefused) →
+    refused_or a NotStart (refused_or b NotHeld (Ok word)) ≡ Err refused →
+    ((k : ℕ) × ((a ≡ Some k) × (refused ≡ NotStart k)))
+    ⊎ ((k : ℕ) × ((a ≡ None) × ((b ≡ Some k) × (refused ≡ NotHeld k))))
 read_err None None word refused e = cc
 read_err None (Some k) word refused e = inr (k, (refl, (refl, cc)))
 read_err (Some k) b word refused e = inl (k, (refl, cc))
 
 -- the movie leaves the start
-pub not_start : (hold : ℕ) (start movie : List ℕ) (frame : ℕ) → first_left start movie ≡ Some frame → word_of hold start movie ≡ Err (NotStart frame)
+pub not_start :
+    (hold : ℕ) (start movie : List ℕ) (frame : ℕ) → first_left start movie ≡ Some frame →
+    word_of hold start movie ≡ Err (NotStart frame)
 unfolding word_of
 not_start hold start movie frame e = rw e refl
 
@@ -85,24 +102,32 @@ is_read hold start movie e f =
 
 -- ---- the laws
 
-pub read_is_played : (hold : ℕ) (start movie : List ℕ) (word : Word) → 1 ≤ hold → word_of hold start movie ≡ Ok word → movie ≡ start ++ held_pads hold word
+pub read_is_played :
+    (hold : ℕ) (start movie : List ℕ) (word : Word) → 1 ≤ hold → word_of hold start movie ≡ Ok word →
+    movie ≡ start ++ held_pads hold word
 unfolding word_of
 read_is_played hold start movie word some e =
     let behind = drop (length start) movie in
     let first = first_pads hold behind in
     let parts = read_ok (first_left start movie) (first_left (start ++ held_pads hold first) movie) first word e in
     let held : first_left (held_pads hold first) behind ≡ None =
-    moved_none (length start) (first_left (held_pads hold first) behind) (sym (left_behind start (held_pads hold first) movie parts.0) ∙ parts.1.0) in
+    moved_none (length start) (first_left (held_pads hold first) behind)
+    (sym (left_behind start (held_pads hold first) movie parts.0) ∙ parts.1.0) in
     left_none start movie parts.0
     ∙ ap (λ m. start ++ m) (whole_steps hold behind some held)
     ∙ ap (λ w. start ++ held_pads hold w) parts.1.1
 
-pub played_is_read : (hold : ℕ) (start movie : List ℕ) (word : Word) → 1 ≤ hold → movie ≡ start ++ held_pads hold word → word_of hold start movie ≡ Ok word
+pub played_is_read :
+    (hold : ℕ) (start movie : List ℕ) (word : Word) → 1 ≤ hold → movie ≡ start ++ held_pads hold word →
+    word_of hold start movie ≡ Ok word
 played_is_read hold start movie word some e =
-    let behind : drop (length start) movie ≡ held_pads hold word = ap (drop (length start)) e ∙ drop_at start (held_pads hold word) (length start) refl in
-    let first : first_pads hold (drop (length start) movie) ≡ word = ap (first_pads hold) behind ∙ first_pads-held hold word some in
+    let behind : drop (length start) movie ≡ held_pads hold word =
+    ap (drop (length start)) e ∙ drop_at start (held_pads hold word) (length start) refl in
+    let first : first_pads hold (drop (length start) movie) ≡ word =
+    ap (first_pads hold) behind ∙ first_pads-held hold word some in
     let begun : first_left start movie ≡ None = ap (first_left start) e ∙ left_prefix start (held_pads hold word) in
-    let held : first_left (held_pads hold (first_pads hold (drop (length start) movie))) (drop (length start) movie) ≡ None =
+    let held : first_left (held_pads hold (first_pads hold (drop (length start) movie))) (drop (length start) movie)
+    ≡ None =
     ap₂ (λ w m. first_left (held_pads hold w) m) first behind
     ∙ ap (first_left (held_pads hold word)) (sym (append-nil (held_pads hold word)))
     ∙ left_prefix (held_pads hold word) [] in
@@ -112,20 +137,28 @@ played_is_read hold start movie word some e =
 refused_by : (hold : ℕ) (start movie : List ℕ) (refused : ReplayRefused) → 1 ≤ hold →
     (let first = first_pads hold (drop (length start) movie) in
     ((k : ℕ) × ((first_left start movie ≡ Some k) × (refused ≡ NotStart k)))
-    ⊎ ((k : ℕ) × ((first_left start movie ≡ None) × ((first_left (start ++ held_pads hold first) movie ≡ Some k) × (refused ≡ NotHeld k))))) →
+    ⊎ ((k : ℕ)
+    × ((first_left start movie ≡ None)
+    × ((first_left (start ++ held_pads hold first) movie ≡ Some k) × (refused ≡ NotHeld k))))) →
     IsFirstRefusal hold start movie refused
-refused_by hold start movie refused some (inl (k, (left, is))) = subst (IsFirstRefusal hold start movie) (sym is) (left_some start movie k left)
+refused_by hold start movie refused some (inl (k, (left, is))) =
+    subst (IsFirstRefusal hold start movie) (sym is) (left_some start movie k left)
 refused_by hold start movie refused some (inr (k, (begun, (left, is)))) =
     let behind = drop (length start) movie in
     let first = first_pads hold behind in
-    let found = moved_some (length start) (first_left (held_pads hold first) behind) k (sym (left_behind start (held_pads hold first) movie begun) ∙ left) in
+    let found =
+    moved_some (length start) (first_left (held_pads hold first) behind) k
+    (sym (left_behind start (held_pads hold first) movie begun) ∙ left) in
     let here : LeavesStep hold start (start ++ behind) (length start + found.0) =
     broken_behind hold start behind found.0 (broken hold behind found.0 some found.1.0) in
     let P : List ℕ → ℕ → Type 0 = λ m n. LeavesStep hold start m n in
     subst (IsFirstRefusal hold start movie) (sym is) (subst₂ P (sym (left_none start movie begun)) (sym found.1.1) here)
 
-pub refused_first : (hold : ℕ) (start movie : List ℕ) (refused : ReplayRefused) → 1 ≤ hold → word_of hold start movie ≡ Err refused → IsFirstRefusal hold start movie refused
+pub refused_first :
+    (hold : ℕ) (start movie : List ℕ) (refused : ReplayRefused) → 1 ≤ hold → word_of hold start movie ≡ Err refused →
+    IsFirstRefusal hold start movie refused
 unfolding word_of
 refused_first hold start movie refused some e =
     let first = first_pads hold (drop (length start) movie) in
-    refused_by hold start movie refused some (read_err (first_left start movie) (first_left (start ++ held_pads hold first) movie) first refused e)
+    refused_by hold start movie refused some
+    (read_err (first_left start movie) (first_left (start ++ held_pads hold first) movie) first refused e)

@@ -1,8 +1,8 @@
 //! The replayer: what a movie comes to, run from power-on and judged at the end of each step.
 //!
 //! A movie is first read as a word: it has to be the start movie, followed by each pad of the word held for a step.
-//! Only then the machine runs, and what is told is what the game of specs/Words of nj_game says of that word. Read `word_of`
-//! (specs/Reading) and then `replay_of` (specs/Replay) first.
+//! Only then the machine runs, and what is told is what the game of specs/Words of nj_game says of that word. Read
+//! `word_of` (specs/Reading) and then `replay_of` (specs/Replay) first.
 #![tactic(auto)]
 
 ghost use Rattle.std.specs.Prelude.{◌≡◌, ◌≤◌, ◌+◌, ◌^◌, ◌⊎◌, length, MatchResult, Ok, Err};

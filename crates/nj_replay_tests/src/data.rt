@@ -30,8 +30,8 @@ pub(crate) fn pairs() -> &'static str {
 }"#
 }
 
-/// Movies by the script with a goal, behind three frames without a button: each frame's pad, R for Right, and the answer
-/// with the frames that were run.
+/// Movies by the script with a goal, behind three frames without a button: each frame's pad, R for Right, and the
+/// answer with the frames that were run.
 pub(crate) fn of_goal() -> &'static str {
     r#"...RRRRR => step=5 frames=8 reward=105 won, 8 run
 ...RRRR => step=4 frames=7 reward=4, 7 run"#

@@ -17,7 +17,8 @@ module _ {X : Type 0} (before : X → X → Bool) where
       elim (before x y) as (λ b. IsPermutation (x ∷ y ∷ ys) (cond b (x ∷ y ∷ ys) (y ∷ put_in before x ys))) [
         | true ↦ IsPermutation-refl (x ∷ y ∷ ys)
         | false ↦ IsPermutation-trans (x ∷ y ∷ ys) (y ∷ x ∷ ys) (y ∷ put_in before x ys)
-            (IsPermutation-middle (x ∷ []) y ys) (IsPermutation-cons y (x ∷ ys) (put_in before x ys) (put_in_moves x ys))
+            (IsPermutation-middle (x ∷ []) y ys)
+            (IsPermutation-cons y (x ∷ ys) (put_in before x ys) (put_in_moves x ys))
       ]
 
   -- a list in order is a rearrangement of it
@@ -48,7 +49,8 @@ module _ {X : Type 0} (before : X → X → Bool) where
         elim (before x y) as (λ b. before x y ≡ b → Ascends (cond b (x ∷ y ∷ ys) (y ∷ put_in before x ys))) [
           | true ↦ λ e. (
             All-cons (λ z. before z x ≡ false) y ys (order.one_way x y e)
-                (All-weaker (λ z. before z y ≡ false) (λ z. before z x ≡ false) (λ z h. order.chain z y x h (order.one_way x y e)) ys up.0),
+                (All-weaker (λ z. before z y ≡ false) (λ z. before z x ≡ false)
+                (λ z h. order.chain z y x h (order.one_way x y e)) ys up.0),
             up,
           )
           | false ↦ λ e. (All-put_in before (λ z. before z y ≡ false) x ys e up.0, put_ascends x ys up.1)
@@ -74,4 +76,5 @@ module _ {X : Type 0} (before : X → X → Bool) where
       pub in_order_any : (xs ys : List X) → IsPermutation xs ys → in_order before xs ≡ in_order before ys
       in_order_any xs ys moved =
           sorted_in_order ys (in_order before xs)
-          (IsPermutation-trans ys xs (in_order before xs) (IsPermutation-sym xs ys moved) (in_order_moves xs)) (in_order_sorted xs)
+          (IsPermutation-trans ys xs (in_order before xs) (IsPermutation-sym xs ys moved) (in_order_moves xs))
+          (in_order_sorted xs)

@@ -23,14 +23,17 @@ use Rattle.nj_rows.specs.Best.{first, better}
 
 preference_total : IsTotalOrder preference
 unfolding preference
-preference_total = then_total (back_total (on_total (λ (r : Row). r.reward) int_cmp_total)) (on_total (λ (r : Row). r.number) nat_cmp_total)
+preference_total =
+    then_total (back_total (on_total (λ (r : Row). r.reward) int_cmp_total))
+    (on_total (λ (r : Row). r.number) nat_cmp_total)
 
 remainder_total : IsTotalOrder remainder
 unfolding remainder
 remainder_total =
     then_total
     (then_total (on_total (λ (r : Row). r.key) nat_cmp_total) (on_total (λ (r : Row). r.level) nat_cmp_total))
-    (then_total (then_total (on_total (λ (r : Row). place_of r.verdict) nat_cmp_total) (on_total (λ (r : Row). r.pad) nat_cmp_total))
+    (then_total (then_total (on_total (λ (r : Row). place_of r.verdict) nat_cmp_total)
+    (on_total (λ (r : Row). r.pad) nat_cmp_total))
     (on_total (λ (r : Row). r.bucket) (lists_total int_cmp_total)))
 
 row_order_total : IsTotalOrder row_order
@@ -79,18 +82,32 @@ unfolding row_order preference remainder
 equal_rows a b h =
     let both = then_ties (preference a b) (remainder a b) h in
     let first = then_ties (int_cmp b.reward a.reward) (nat_cmp a.number b.number) both.0 in
-    let rest = then_ties (ordering_then (nat_cmp a.key b.key) (nat_cmp a.level b.level)) (ordering_then (ordering_then (nat_cmp (place_of a.verdict) (place_of b.verdict)) (nat_cmp a.pad b.pad)) (slice_cmp int_cmp a.bucket b.bucket)) both.1 in
+    let rest =
+    then_ties (ordering_then (nat_cmp a.key b.key) (nat_cmp a.level b.level))
+    (ordering_then (ordering_then (nat_cmp (place_of a.verdict) (place_of b.verdict)) (nat_cmp a.pad b.pad))
+    (slice_cmp int_cmp a.bucket b.bucket)) both.1 in
     let third = then_ties (nat_cmp a.key b.key) (nat_cmp a.level b.level) rest.0 in
-    let fourth = then_ties (ordering_then (nat_cmp (place_of a.verdict) (place_of b.verdict)) (nat_cmp a.pad b.pad)) (slice_cmp int_cmp a.bucket b.bucket) rest.1 in
+    let fourth =
+    then_ties (ordering_then (nat_cmp (place_of a.verdict) (place_of b.verdict)) (nat_cmp a.pad b.pad))
+    (slice_cmp int_cmp a.bucket b.bucket) rest.1 in
     let last = then_ties (nat_cmp (place_of a.verdict) (place_of b.verdict)) (nat_cmp a.pad b.pad) fourth.0 in
     let reward : a.reward ≡ b.reward = sym (equal_rewards b.reward a.reward first.0) in
     let number : a.number ≡ b.number = equal_numbers a.number b.number first.1 in
     let key : a.key ≡ b.key = equal_numbers a.key b.key third.0 in
     let level : a.level ≡ b.level = equal_numbers a.level b.level third.1 in
-    let verdict : a.verdict ≡ b.verdict = equal_verdicts a.verdict b.verdict (equal_numbers (place_of a.verdict) (place_of b.verdict) last.0) in
+    let verdict : a.verdict ≡ b.verdict =
+    equal_verdicts a.verdict b.verdict (equal_numbers (place_of a.verdict) (place_of b.verdict) last.0) in
     let pad : a.pad ≡ b.pad = equal_numbers a.pad b.pad last.1 in
     let bucket : a.bucket ≡ b.bucket = equal_values a.bucket b.bucket fourth.1 in
-    λ i. record { number = number i; key = key i; reward = reward i; level = level i; verdict = verdict i; pad = pad i; bucket = bucket i }
+    λ i. record {
+      number = number i;
+      key = key i;
+      reward = reward i;
+      level = level i;
+      verdict = verdict i;
+      pad = pad i;
+      bucket = bucket i;
+    }
 
 -- what is neither before nor after is equal
 neither : (o p : Ordering) → p ≡ ordering_reverse o → is_lt o ≡ false → is_lt p ≡ false → o ≡ Equal
@@ -112,16 +129,19 @@ pub preferred : (a b : Row) → a.number ≢ b.number → is_row_before a b ≡ 
 unfolding row_order preference
 preferred a b differ =
     ap is_lt (then_untied (preference a b) (remainder a b)
-    (λ h. differ (equal_numbers a.number b.number (then_ties (int_cmp b.reward a.reward) (nat_cmp a.number b.number) h).1)))
+    (λ h. differ (equal_numbers a.number b.number
+    (then_ties (int_cmp b.reward a.reward) (nat_cmp a.number b.number) h).1)))
 
 -- the first win of rows by their order
 abbrev pub winner_of : List Row → Option Row
 winner_of rows = slice_get (in_order is_row_before (filter is_win_row rows)) 0
 
-head_put : (row : Row) (rows : List Row) → slice_get (put_in is_row_before row rows) 0 ≡ Some (first row (slice_get rows 0))
+head_put : (row : Row) (rows : List Row)
+    → slice_get (put_in is_row_before row rows) 0 ≡ Some (first row (slice_get rows 0))
 head_put row [] = refl
 head_put row (other ∷ rows) =
-    elim (is_row_before row other) as (λ b. slice_get (cond b (row ∷ other ∷ rows) (other ∷ put_in is_row_before row rows)) 0 ≡ Some (cond b row other)) [
+    elim (is_row_before row other) as (λ b.
+    slice_get (cond b (row ∷ other ∷ rows) (other ∷ put_in is_row_before row rows)) 0 ≡ Some (cond b row other)) [
       | true ↦ refl
       | false ↦ refl
     ]
@@ -129,7 +149,8 @@ head_put row (other ∷ rows) =
 -- the winner with one row more in front
 pub winner_more : (row : Row) (rows : List Row) → winner_of (row ∷ rows) ≡ better row (winner_of rows)
 winner_more row rows =
-    elim (is_win_row row) as (λ b. slice_get (in_order is_row_before (cond b (row ∷ filter is_win_row rows) (filter is_win_row rows))) 0
+    elim (is_win_row row) as (λ b.
+    slice_get (in_order is_row_before (cond b (row ∷ filter is_win_row rows) (filter is_win_row rows))) 0
     ≡ cond b (Some (first row (winner_of rows))) (winner_of rows)) [
       | true ↦ head_put row (in_order is_row_before (filter is_win_row rows))
       | false ↦ refl
@@ -139,7 +160,8 @@ winner_more row rows =
 abbrev NoWins : List Row → Type 0
 NoWins rows = All (λ row. is_win_row row ≡ false) rows
 
-better_none : (b : Bool) (row : Row) (best : Option Row) → cond b (Some (first row best)) best ≡ None → (b ≡ false) × (best ≡ None)
+better_none : (b : Bool) (row : Row) (best : Option Row) → cond b (Some (first row best)) best ≡ None
+    → (b ≡ false) × (best ≡ None)
 better_none true row best h = absurd (cc)
 better_none false row best h = (refl, h)
 
@@ -154,21 +176,25 @@ no_wins : (rows : List Row) → NoWins rows → winner_of rows ≡ None
 no_wins [] all = refl
 no_wins (row ∷ rows) all =
     winner_more row rows
-    ∙ ap (λ b. cond b (Some (first row (winner_of rows))) (winner_of rows)) (All-head (λ row. is_win_row row ≡ false) row rows all)
+    ∙ ap (λ b. cond b (Some (first row (winner_of rows))) (winner_of rows))
+    (All-head (λ row. is_win_row row ≡ false) row rows all)
     ∙ no_wins rows (All-tail (λ row. is_win_row row ≡ false) row rows all)
 
 pub none_exactly : (rows : List Row) (result : Option Row) → result ≡ winner_of rows → (result ≡ None) ↔ NoWins rows
 none_exactly rows result is = (λ h. no_winner rows (sym is ∙ h), λ all. is ∙ no_wins rows all)
 
 -- what a sort by a closure that compares rows gives
-pub sorted_rows : {F : Type 0} {g : Mut F (Bor Row × (Bor Row × Unit {0})) Ordering} {f : F} (xs ys : List Row) → IsPermutation xs ys
+pub sorted_rows : {F : Type 0} {g : Mut F (Bor Row × (Bor Row × Unit {0})) Ordering} {f : F} (xs ys : List Row)
+    → IsPermutation xs ys
     → ((lt : Row → Row → Bool) → IsStrictWeakOrder lt → ComparesAs g lt f → IsSortedBy lt ys)
-    → ((a : Bor Row × (Bor Row × Unit {0})) (r : Ordering) (f' : F) → Called g f a r f' → (r ≡ row_order a.0.now a.1.0.now) × (f' ≡ f))
+    → ((a : Bor Row × (Bor Row × Unit {0})) (r : Ordering) (f' : F) → Called g f a r f'
+    → (r ≡ row_order a.0.now a.1.0.now) × (f' ≡ f))
     → ys ≡ in_order is_row_before xs
 sorted_rows {g = g} {f = f} xs ys moved sorted h =
     sorted_in_order is_row_before row_order_sorts only_equal_tie xs ys moved
     (sorted is_row_before row_order_sorts
-    (always_returns_same g (λ a r. is_lt r ≡ is_row_before a.0.now a.1.0.now) f (λ a r f' k. (ap is_lt (h a r f' k).0, (h a r f' k).1))))
+    (always_returns_same g (λ a r. is_lt r ≡ is_row_before a.0.now a.1.0.now) f
+    (λ a r f' k. (ap is_lt (h a r f' k).0, (h a r f' k).1))))
 
 -- the winner from a place on
 pub winner_step : (rows : List Row) (i : ℕ) (default : Row) → i < length rows

@@ -21,7 +21,8 @@ pub fn keep_quota(
     quota: u32,
 ) -> Result<(), AllocError>
     ensures { rows.new.items
-        ≡ (if is_ok result then limited is_alike_row n quota (in_order is_row_before rows.old.items) else rows.old.items) }
+        ≡ (if is_ok result then limited is_alike_row n quota (in_order is_row_before rows.old.items)
+        else rows.old.items) }
 {
     if n <= quota as usize {
         keep(rows, n);

@@ -16,12 +16,14 @@ pub append_nil : (xs : List ℕ) → xs ++ [] ≡ xs
 append_nil [] = refl
 append_nil (x ∷ xs) = ap (λ ys. x ∷ ys) (append_nil xs)
 
-stands-without_other : (x q : ℕ) → (x == q) ≡ false → (xs : List ℕ) → stands q (filter (λ y. not (y == x)) xs) ≡ stands q xs
+stands-without_other :
+    (x q : ℕ) → (x == q) ≡ false → (xs : List ℕ) → stands q (filter (λ y. not (y == x)) xs) ≡ stands q xs
 stands-without_other x q other [] = refl
 stands-without_other x q other (y ∷ ys) = by_test (y == x) refl (stands-without_other x q other ys)
   where
     by_test : (b : Bool) → (y == x) ≡ b → stands q (filter (λ y. not (y == x)) ys) ≡ stands q ys
-        → stands q (cond (not b) (y ∷ filter (λ y. not (y == x)) ys) (filter (λ y. not (y == x)) ys)) ≡ ((y == q) || stands q ys)
+        → stands q (cond (not b) (y ∷ filter (λ y. not (y == x)) ys) (filter (λ y. not (y == x)) ys))
+        ≡ ((y == q) || stands q ys)
     by_test true same ih =
         let differs : (y == q) ≡ false = grind (arith, nat_tests) in
         rw (differs, ih) refl
@@ -50,29 +52,39 @@ without_absent : (x : ℕ) (xs : List ℕ) → stands x xs ≡ false → filter 
 without_absent x [] h = refl
 without_absent x (y ∷ ys) h = by_test (y == x) refl (stands x ys) refl (without_absent x ys)
   where
-    by_test : (b : Bool) → (y == x) ≡ b → (there : Bool) → stands x ys ≡ there → (stands x ys ≡ false → filter (λ y. not (y == x)) ys ≡ ys)
+    by_test :
+        (b : Bool) → (y == x) ≡ b → (there : Bool) → stands x ys ≡ there
+        → (stands x ys ≡ false → filter (λ y. not (y == x)) ys ≡ ys)
         → cond (not b) (y ∷ filter (λ y. not (y == x)) ys) (filter (λ y. not (y == x)) ys) ≡ y ∷ ys
     by_test true same there e ih = absurd (grind (arith, nat_tests, h))
     by_test false apart true e ih = absurd (grind (arith, nat_tests, h))
     by_test false apart false e ih = ap (λ zs. y ∷ zs) (ih e)
 
-without_last : (y x : ℕ) (zs : List ℕ) (b : Bool) → (x == y) ≡ b → filter (λ z. not (z == y)) (zs ++ x ∷ []) ≡ filter (λ z. not (z == y)) zs ++ (if b then [] else x ∷ [])
+without_last :
+    (y x : ℕ) (zs : List ℕ) (b : Bool) → (x == y) ≡ b
+    → filter (λ z. not (z == y)) (zs ++ x ∷ []) ≡ filter (λ z. not (z == y)) zs ++ (if b then [] else x ∷ [])
 without_last y x zs true e = rw (filter-append (λ z. not (z == y)) zs (x ∷ []), e) refl
 without_last y x zs false e = rw (filter-append (λ z. not (z == y)) zs (x ∷ []), e) refl
 
 -- a number more at the end: it counts only where it does not stand there yet
-pub distinct-snoc : (xs : List ℕ) (x : ℕ) → distinct (xs ++ x ∷ []) ≡ (if stands x xs then distinct xs else distinct xs ++ x ∷ [])
+pub distinct-snoc :
+    (xs : List ℕ) (x : ℕ) → distinct (xs ++ x ∷ []) ≡ (if stands x xs then distinct xs else distinct xs ++ x ∷ [])
 distinct-snoc [] x = refl
 distinct-snoc (y ∷ ys) x = by_tests (y == x) refl (stands x ys) refl (distinct-snoc ys x)
   where
-    by_tests : (same : Bool) → (y == x) ≡ same → (there : Bool) → stands x ys ≡ there → distinct (ys ++ x ∷ []) ≡ (if stands x ys then distinct ys else distinct ys ++ x ∷ [])
-        → y ∷ filter (λ z. not (z == y)) (distinct (ys ++ x ∷ [])) ≡ (if (y == x) || stands x ys then y ∷ filter (λ z. not (z == y)) (distinct ys) else (y ∷ filter (λ z. not (z == y)) (distinct ys)) ++ x ∷ [])
+    by_tests :
+        (same : Bool) → (y == x) ≡ same → (there : Bool) → stands x ys ≡ there
+        → distinct (ys ++ x ∷ []) ≡ (if stands x ys then distinct ys else distinct ys ++ x ∷ [])
+        → y ∷ filter (λ z. not (z == y)) (distinct (ys ++ x ∷ []))
+        ≡ (if (y == x) || stands x ys then y ∷ filter (λ z. not (z == y)) (distinct ys)
+        else (y ∷ filter (λ z. not (z == y)) (distinct ys)) ++ x ∷ [])
     by_tests true s true t ih = let e = rw t at ih in rw (e, s) refl
     by_tests false s true t ih = let e = rw t at ih in rw (e, s, t) refl
     by_tests true s false t ih =
         let e = rw t at ih in
         let back : (x == y) ≡ true = grind (arith, nat_tests) in
-        rw (e, s, without_last y x (distinct ys) true back) (ap (λ zs. y ∷ zs) (append_nil (filter (λ z. not (z == y)) (distinct ys))))
+        rw (e, s, without_last y x (distinct ys) true back)
+        (ap (λ zs. y ∷ zs) (append_nil (filter (λ z. not (z == y)) (distinct ys))))
     by_tests false s false t ih =
         let e = rw t at ih in
         let back : (x == y) ≡ false = grind (arith, nat_tests) in
@@ -95,16 +107,20 @@ apart_without x [] = tt
 apart_without x (y ∷ ys) = by_test (y == x) refl (apart_without x ys)
   where
     by_test : (b : Bool) → (y == x) ≡ b → AllByRecursion (λ y. nat_eq x y ≡ false) (filter (λ y. not (y == x)) ys)
-        → AllByRecursion (λ y. nat_eq x y ≡ false) (cond (not b) (y ∷ filter (λ y. not (y == x)) ys) (filter (λ y. not (y == x)) ys))
+        → AllByRecursion (λ y. nat_eq x y ≡ false)
+        (cond (not b) (y ∷ filter (λ y. not (y == x)) ys) (filter (λ y. not (y == x)) ys))
     by_test true e ih = ih
     by_test false e ih = (grind (arith, nat_tests), ih)
 
-All-filter_other : (z x : ℕ) (xs : List ℕ) → AllByRecursion (λ y. nat_eq z y ≡ false) xs → AllByRecursion (λ y. nat_eq z y ≡ false) (filter (λ y. not (y == x)) xs)
+All-filter_other :
+    (z x : ℕ) (xs : List ℕ) → AllByRecursion (λ y. nat_eq z y ≡ false) xs
+    → AllByRecursion (λ y. nat_eq z y ≡ false) (filter (λ y. not (y == x)) xs)
 All-filter_other z x [] h = tt
 All-filter_other z x (y ∷ ys) h = by_test (y == x) (All-filter_other z x ys h.1)
   where
     by_test : (b : Bool) → AllByRecursion (λ y. nat_eq z y ≡ false) (filter (λ y. not (y == x)) ys)
-        → AllByRecursion (λ y. nat_eq z y ≡ false) (cond (not b) (y ∷ filter (λ y. not (y == x)) ys) (filter (λ y. not (y == x)) ys))
+        → AllByRecursion (λ y. nat_eq z y ≡ false)
+        (cond (not b) (y ∷ filter (λ y. not (y == x)) ys) (filter (λ y. not (y == x)) ys))
     by_test true ih = ih
     by_test false ih = (h.0, ih)
 
@@ -113,7 +129,9 @@ unfolding IsDistinct
 IsDistinct-filter x [] h = tt
 IsDistinct-filter x (y ∷ ys) h = by_test (y == x) (All-filter_other y x ys h.0) (IsDistinct-filter x ys h.1)
   where
-    by_test : (b : Bool) → AllByRecursion (λ z. nat_eq y z ≡ false) (filter (λ y. not (y == x)) ys) → IsDistinct nat_eq (filter (λ y. not (y == x)) ys)
+    by_test :
+        (b : Bool) → AllByRecursion (λ z. nat_eq y z ≡ false) (filter (λ y. not (y == x)) ys)
+        → IsDistinct nat_eq (filter (λ y. not (y == x)) ys)
         → IsDistinct nat_eq (cond (not b) (y ∷ filter (λ y. not (y == x)) ys) (filter (λ y. not (y == x)) ys))
     by_test true apart ih = ih
     by_test false apart ih = (apart, ih)
@@ -122,7 +140,8 @@ IsDistinct-filter x (y ∷ ys) h = by_test (y == x) (All-filter_other y x ys h.0
 pub IsDistinct-distinct : (xs : List ℕ) → IsDistinct nat_eq (distinct xs)
 unfolding IsDistinct
 IsDistinct-distinct [] = tt
-IsDistinct-distinct (x ∷ xs) = (apart_without x (distinct xs), IsDistinct-filter x (distinct xs) (IsDistinct-distinct xs))
+IsDistinct-distinct (x ∷ xs) =
+    (apart_without x (distinct xs), IsDistinct-filter x (distinct xs) (IsDistinct-distinct xs))
 
 distinct-twice : (xs : List ℕ) → distinct (distinct xs) ≡ distinct xs
 distinct-twice xs = distinct-same (distinct xs) (IsDistinct-distinct xs)
@@ -172,13 +191,18 @@ pub distinct-present : (xs : List ℕ) (x : ℕ) → IsDistinct nat_eq xs → st
 distinct-present xs x h there = rw (distinct-snoc xs x, there) (sym (distinct-same xs h))
 
 -- a new number comes at the end
-pub distinct-absent : (xs : List ℕ) (x : ℕ) → IsDistinct nat_eq xs → stands x xs ≡ false → xs ++ x ∷ [] ≡ distinct (xs ++ x ∷ [])
+pub distinct-absent :
+    (xs : List ℕ) (x : ℕ) → IsDistinct nat_eq xs → stands x xs ≡ false → xs ++ x ∷ [] ≡ distinct (xs ++ x ∷ [])
 distinct-absent xs x h absent = rw (distinct-snoc xs x, absent) (ap (λ ys. ys ++ x ∷ []) (sym (distinct-same xs h)))
 
 -- where a byte is new, fewer than 256 different ones are there
-pub room_for_byte : (xs : List ℕ) (n x : ℕ) → ((i : ℕ) → get_or xs i 0 < 256) → length xs ≡ 256 → n ≤ 256 → x < 256 → IsDistinct nat_eq (take n xs) → stands x (take n xs) ≡ false → n < 256
+pub room_for_byte :
+    (xs : List ℕ) (n x : ℕ) → ((i : ℕ) → get_or xs i 0 < 256) → length xs ≡ 256 → n ≤ 256 → x < 256
+    → IsDistinct nat_eq (take n xs) → stands x (take n xs) ≡ false → n < 256
 room_for_byte xs n x bytes size at_most byte h absent =
-    let grown : IsDistinct nat_eq (take n xs ++ x ∷ []) = subst (IsDistinct nat_eq) (sym (distinct-absent (take n xs) x h absent)) (IsDistinct-distinct (take n xs ++ x ∷ [])) in
+    let grown : IsDistinct nat_eq (take n xs ++ x ∷ []) =
+    subst (IsDistinct nat_eq) (sym (distinct-absent (take n xs) x h absent))
+    (IsDistinct-distinct (take n xs ++ x ∷ [])) in
     let few = bytes_at_most (take n xs ++ x ∷ []) grown (below_of (take n xs) (λ i. bytes-take xs n i bytes)) in
     omega (arith, few, length-append (take n xs) (x ∷ []), length-take n xs)
   where
@@ -190,12 +214,16 @@ room_for_byte xs n x bytes size at_most byte h absent =
         by_test false e h = grind (arith, nat_tests)
 
 -- a loop over pads: the next one has come, and the others bring what is missing
-pub added-step : (before after pads all : List ℕ) (i p d : ℕ) → i < length pads → p ≡ get_or pads i d → after ≡ distinct (before ++ p ∷ [])
+pub added-step :
+    (before after pads all : List ℕ) (i p d : ℕ) → i < length pads → p ≡ get_or pads i d
+    → after ≡ distinct (before ++ p ∷ [])
     → distinct (before ++ drop i pads) ≡ all → distinct (after ++ drop (i + 1) pads) ≡ all
 added-step before after pads all i p d h e grown left =
-    let next : drop i pads ≡ p ∷ drop (i + 1) pads = rw (add-one, drop-cons pads i d) (ap (λ x. x ∷ drop (suc i) pads) (sym e)) in
+    let next : drop i pads ≡ p ∷ drop (i + 1) pads =
+    rw (add-one, drop-cons pads i d) (ap (λ x. x ∷ drop (suc i) pads) (sym e)) in
     ap (λ xs. distinct (xs ++ drop (i + 1) pads)) grown ∙ distinct-append (before ++ p ∷ []) (drop (i + 1) pads)
-    ∙ ap distinct (append_assoc before (p ∷ []) (drop (i + 1) pads)) ∙ ap (λ xs. distinct (before ++ xs)) (sym next) ∙ left
+    ∙ ap distinct (append_assoc before (p ∷ []) (drop (i + 1) pads)) ∙ ap (λ xs. distinct (before ++ xs)) (sym next)
+    ∙ left
 
 -- what has come differs
 pub added-differs : (xs after : List ℕ) → after ≡ distinct xs → IsDistinct nat_eq after
@@ -206,6 +234,9 @@ unfolding IsDistinct
 IsDistinct-none xs = tt
 
 -- when no pads are left, all are there
-pub added-end : (before pads all : List ℕ) (n : ℕ) → IsDistinct nat_eq before → length pads ≤ n → distinct (before ++ drop n pads) ≡ all → before ≡ all
+pub added-end :
+    (before pads all : List ℕ) (n : ℕ) → IsDistinct nat_eq before → length pads ≤ n
+    → distinct (before ++ drop n pads) ≡ all → before ≡ all
 added-end before pads all n h past left =
-    sym (distinct-same before h) ∙ ap distinct (sym (append_nil before)) ∙ ap (λ xs. distinct (before ++ xs)) (sym (drop_all n pads past)) ∙ left
+    sym (distinct-same before h) ∙ ap distinct (sym (append_nil before))
+    ∙ ap (λ xs. distinct (before ++ xs)) (sym (drop_all n pads past)) ∙ left

@@ -27,11 +27,15 @@ regroup true false false o n = refl
 regroup false true named o n = refl
 regroup false false named o n = refl
 
-met_from-parts : (k : ℕ) (rules : List Rule) (ram : List ℕ) (j : ℕ) → met_from k rules ram j ≡ (own_from k rules ram j || is_named rules ram j)
+met_from-parts :
+    (k : ℕ) (rules : List Rule) (ram : List ℕ) (j : ℕ)
+    → met_from k rules ram j ≡ (own_from k rules ram j || is_named rules ram j)
 unfolding own_from
 met_from-parts k [] ram j = refl
 met_from-parts k (rule ∷ rules) ram j =
-    rw (met_from-parts (k + 1) rules ram j) (regroup (all_hold_in ram rule.when) (k == j) (list_any (λ n. n == j) rule.also) (own_from (k + 1) rules ram j) (is_named rules ram j))
+    rw (met_from-parts (k + 1) rules ram j)
+    (regroup (all_hold_in ram rule.when) (k == j) (list_any (λ n. n == j) rule.also) (own_from (k + 1) rules ram j)
+    (is_named rules ram j))
 
 own_from-below : (k : ℕ) (rules : List Rule) (ram : List ℕ) (j : ℕ) → j < k → own_from k rules ram j ≡ false
 unfolding own_from
@@ -40,7 +44,8 @@ own_from-below k (rule ∷ rules) ram j h =
     let other : (k == j) ≡ false = grind (arith, nat_tests) in
     rw (other, own_from-below (k + 1) rules ram j (omega arith)) refl
 
-own_from-at : (k : ℕ) (rules : List Rule) (ram : List ℕ) (i j : ℕ) → j ≡ k + i → own_from k rules ram j ≡ own_hold rules ram i
+own_from-at :
+    (k : ℕ) (rules : List Rule) (ram : List ℕ) (i j : ℕ) → j ≡ k + i → own_from k rules ram j ≡ own_hold rules ram i
 unfolding own_from
 own_from-at k [] ram i j e = refl
 own_from-at k (rule ∷ rules) ram zero j e =
@@ -58,9 +63,11 @@ met_from-all rules ram j = rw (met_from-parts 0 rules ram j, own_from-at 0 rules
 -- a set below 2^128 that has the old numbers and those of the rules that memory satisfies, when no rules are left, is
 -- the status
 pub status_after-from : (rules : List Rule) (ram : List ℕ) (old status n : ℕ) → status < 2 ^ 128 → length rules ≤ n
-    → ((j : ℕ) → (is_in status j || met_from n (drop n rules) ram j) ≡ (is_in old j || met_from 0 rules ram j)) → status ≡ status_after rules ram old
+    → ((j : ℕ) → (is_in status j || met_from n (drop n rules) ram j) ≡ (is_in old j || met_from 0 rules ram j))
+    → status ≡ status_after rules ram old
 unfolding status_after
 status_after-from rules ram old status n h past e =
     let test : ℕ → Bool = λ k. is_in old k || is_met rules ram k in
     same_set 128 status (set_below 128 test) h (set_below-lt 128 test)
-    (λ j below. rw (is_in-set_below 128 test j below, ← met_from-all rules ram j, ← e j, drop_all n rules past) (sym (or_false (is_in status j))))
+    (λ j below. rw (is_in-set_below 128 test j below, ← met_from-all rules ram j, ← e j, drop_all n rules past)
+    (sym (or_false (is_in status j))))

@@ -50,7 +50,8 @@ unfolding set_below
 set_below-lt zero p = lit< tt
 set_below-lt (suc n) p = by_test (set_below-lt n p) (p n)
   where
-    by_test : set_below n p < 2 ^ n → (b : Bool) → (if b then bit_or (set_below n p) (2 ^ n) else set_below n p) < 2 ^ suc n
+    by_test :
+        set_below n p < 2 ^ n → (b : Bool) → (if b then bit_or (set_below n p) (2 ^ n) else set_below n p) < 2 ^ suc n
     by_test h true = rw pow-suc (omega (arith, or_add_and (set_below n p) (2 ^ n)))
     by_test h false = rw pow-suc (omega arith)
 
@@ -68,7 +69,9 @@ is_in-set_below (suc n) p j h = by_tests (is_in-set_below n p j) (p n) refl (n =
     above : is_in (set_below n p) n ≡ false
     above = is_in-above (set_below n p) n n (set_below-lt n p) (omega arith)
 
-    by_tests : (j < n → is_in (set_below n p) j ≡ p j) → (b : Bool) → p n ≡ b → (here : Bool) → (n == j) ≡ here → is_in (if b then bit_or (set_below n p) (2 ^ n) else set_below n p) j ≡ p j
+    by_tests :
+        (j < n → is_in (set_below n p) j ≡ p j) → (b : Bool) → p n ≡ b → (here : Bool) → (n == j) ≡ here →
+        is_in (if b then bit_or (set_below n p) (2 ^ n) else set_below n p) j ≡ p j
     by_tests smaller true e true same =
         let same_number : n ≡ j = grind (arith, nat_tests) in
         rw (is_in-or, is_in-one, same) (or_true (is_in (set_below n p) j) ∙ sym e ∙ ap p same_number)
@@ -85,7 +88,9 @@ is_in-set_below (suc n) p j h = by_tests (is_in-set_below n p j) (p n) refl (n =
 -- two sets of numbers below w with the same numbers are equal
 pub same_set : (w a b : ℕ) → a < 2 ^ w → b < 2 ^ w → ((j : ℕ) → j < w → is_in a j ≡ is_in b j) → a ≡ b
 unfolding is_in
-same_set w a b p q h = same_from_bits_below w a b p q (λ j below. same_bit (bit_at a j) (bit_at b j) (bit_at-lt a j) (bit_at-lt b j) (h j below))
+same_set w a b p q h =
+    same_from_bits_below w a b p q
+    (λ j below. same_bit (bit_at a j) (bit_at b j) (bit_at-lt a j) (bit_at-lt b j) (h j below))
   where
     same_bit : (x y : ℕ) → x < 2 → y < 2 → (x == 1) ≡ (y == 1) → x ≡ y
     same_bit x y p q e = grind (arith, nat_tests)

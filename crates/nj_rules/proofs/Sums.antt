@@ -31,7 +31,9 @@ pub abs_le-product : (a b : ℤ) (m n : ℕ) → unsigned_abs a ≤ m → unsign
 abs_le-product a b m n p q = rw unsigned_abs-mul (mul-le (unsigned_abs a) (unsigned_abs b) m n p q)
 
 -- the next summand leaves the sum of those that are left
-pub int_sum-drop : {X : Type 0} (f : X → ℤ) (xs : List X) (i : ℕ) (d : X) (a w : ℤ) → i < length xs → w ≡ f (slice_index_or xs i d) → a +ℤ int_sum (map f (drop i xs)) ≡ (a +ℤ w) +ℤ int_sum (map f (drop (i + 1) xs))
+pub int_sum-drop :
+    {X : Type 0} (f : X → ℤ) (xs : List X) (i : ℕ) (d : X) (a w : ℤ) → i < length xs → w ≡ f (slice_index_or xs i d) →
+    a +ℤ int_sum (map f (drop i xs)) ≡ (a +ℤ w) +ℤ int_sum (map f (drop (i + 1) xs))
 int_sum-drop f xs i d a w h e =
     rw (add-one, drop-cons xs i d, ← e) (omega (arith, ints))
 
@@ -40,10 +42,12 @@ pub ruleset bounds = (abs_le, abs_le-sum, abs_le-product)
 
 -- the worth of a weight fits
 pub worth_fits : (w v : ℤ) → unsigned_abs w ≤ 2 ^ 20 → neg_ℤ (pos 32768) ≤ℤ v → v ≤ℤ pos 65535 → FitsSigned w64 (w *ℤ v)
-worth_fits w v small low high = fits_signed_mul w64 w v (2 ^ 20) 65535 small (abs_le 65535 v (omega (arith, ints)) high) (lit< tt)
+worth_fits w v small low high =
+    fits_signed_mul w64 w v (2 ^ 20) 65535 small (abs_le 65535 v (omega (arith, ints)) high) (lit< tt)
 
 -- the worth of a weight is at most 2^36 away from 0
-pub abs_le-worth : (w v : ℤ) → unsigned_abs w ≤ 2 ^ 20 → neg_ℤ (pos 32768) ≤ℤ v → v ≤ℤ pos 65535 → unsigned_abs (w *ℤ v) ≤ 2 ^ 36
+pub abs_le-worth :
+    (w v : ℤ) → unsigned_abs w ≤ 2 ^ 20 → neg_ℤ (pos 32768) ≤ℤ v → v ≤ℤ pos 65535 → unsigned_abs (w *ℤ v) ≤ 2 ^ 36
 abs_le-worth w v small low high =
     let product = abs_le-product w v (2 ^ 20) 65535 small (abs_le 65535 v (omega (arith, ints)) high) in
     omega arith

@@ -10,7 +10,9 @@ use Rattle.nj_saved.specs.Reading.{Test, first_refusal, accepted_unless, identit
 use Rattle.nj_saved.proofs.Refusals.{Accepts, first_passes}
 
 -- nothing is refused of tests whose reading is accepted
-pub accepted : (file : List ℕ) (cart script : ℕ) (saved : Saved) → saved_of file cart script ≡ Ok saved → first_refusal (tests_of file cart script) ≡ None
+pub accepted :
+    (file : List ℕ) (cart script : ℕ) (saved : Saved) → saved_of file cart script ≡ Ok saved →
+    first_refusal (tests_of file cart script) ≡ None
 unfolding saved_of
 accepted file cart script saved is = by_case (first_refusal (tests_of file cart script)) is where
   by_case : (refusal : Option SavedRefused) → accepted_unless refusal (contents_of file) ≡ Ok saved → refusal ≡ None
@@ -22,7 +24,8 @@ pub first_of : (tests more : List Test) → first_refusal (tests ++ more) ≡ No
 first_of [] more is = refl
 first_of (test ∷ tests) more is = by_test test.0 (first_of tests more) is where
   by_test : (b : Bool) → (first_refusal (tests ++ more) ≡ None → first_refusal tests ≡ None) →
-      (if b then Some test.1 else first_refusal (tests ++ more)) ≡ None → (if b then Some test.1 else first_refusal tests) ≡ None
+      (if b then Some test.1 else first_refusal (tests ++ more)) ≡ None →
+      (if b then Some test.1 else first_refusal tests) ≡ None
   by_test true again is = absurd (cc)
   by_test false again is = again is
 
@@ -35,16 +38,20 @@ pub this_passes : {b : Bool} {refused : SavedRefused} {tests : List Test} → Ac
 this_passes {b = true} are = absurd (let is = are.none in cc)
 this_passes {b = false} are = refl
 
-pub then_passes : {b : Bool} {refused : SavedRefused} {tests : List Test} → Accepts ((b, refused) ∷ tests) → Accepts tests
+pub then_passes :
+    {b : Bool} {refused : SavedRefused} {tests : List Test} → Accepts ((b, refused) ∷ tests) → Accepts tests
 then_passes {b = true} are = absurd (let is = are.none in cc)
 then_passes {b = false} are = record { none = are.none }
 
 -- a version that is accepted is 1 or 2
-pub versions : (file : List ℕ) (cart script : ℕ) → first_refusal (identity_tests file cart script) ≡ None → (version_of file ≡ 1) ⊎ (version_of file ≡ 2)
+pub versions :
+    (file : List ℕ) (cart script : ℕ) → first_refusal (identity_tests file cart script) ≡ None →
+    (version_of file ≡ 1) ⊎ (version_of file ≡ 2)
 unfolding identity_tests
 versions file cart script is =
     let all : Accepts (identity_tests file cart script) = record { none = is } in
-    let known : (version_of file == 1 || version_of file == 2) ≡ true = not-false _ (this_passes (then_passes (then_passes all))) in
+    let known : (version_of file == 1 || version_of file == 2) ≡ true =
+    not-false _ (this_passes (then_passes (then_passes all))) in
     elim (or_cases (version_of file == 1) (version_of file == 2) known) [
       | inl e ↦ inl (eqb-true (version_of file) 1 e)
       | inr e ↦ inr (eqb-true (version_of file) 2 e)
@@ -55,29 +62,41 @@ pub record IsSealed (file : List ℕ) : Type 0 where
   pub hash : u64_at file (keys_end file) ≡ fnv_of (take (keys_end file) file)
   pub ends : keys_end file + 8 ≡ length file
 
--- nothing is refused of the name, the version and the numbers of cartridge and script, and of what stands behind the keys
-pub head_passes : (file : List ℕ) (cart script : ℕ) → first_refusal (tests_of file cart script) ≡ None → first_refusal (identity_tests file cart script) ≡ None
+-- nothing is refused of the name, the version and the numbers of cartridge and script, and of what stands behind the
+-- keys
+pub head_passes :
+    (file : List ℕ) (cart script : ℕ) → first_refusal (tests_of file cart script) ≡ None →
+    first_refusal (identity_tests file cart script) ≡ None
 unfolding tests_of
 head_passes file cart script is = first_of (identity_tests file cart script) _ is
 
-pub tail_passes : (file : List ℕ) (cart script : ℕ) → first_refusal (tests_of file cart script) ≡ None → first_refusal (tail_tests file (keys_end file)) ≡ None
+pub tail_passes :
+    (file : List ℕ) (cart script : ℕ) → first_refusal (tests_of file cart script) ≡ None →
+    first_refusal (tail_tests file (keys_end file)) ≡ None
 unfolding tests_of
 tail_passes file cart script is =
-    others_of (generations_tests file) _ (others_of (size_tests file) _ (others_of (identity_tests file cart script) _ is))
+    others_of (generations_tests file) _
+    (others_of (size_tests file) _ (others_of (identity_tests file cart script) _ is))
 
-pub sealed : (file : List ℕ) → version_of file ≡ 2 → first_refusal (tail_tests file (keys_end file)) ≡ None → IsSealed file
+pub sealed :
+    (file : List ℕ) → version_of file ≡ 2 → first_refusal (tail_tests file (keys_end file)) ≡ None → IsSealed file
 unfolding tail_tests hash_tests
 sealed file version is =
     let passes : Accepts (hash_tests file (keys_end file)) =
     record { none = ap first_refusal (sym (cond-true (version_of file == 2) _ _ (ap (λ v. v == 2) version))) ∙ is } in
     let long : keys_end file + 8 ≤ length file = ltb-false (length file) (keys_end file + 8) (this_passes passes) in
-    let short : length file ≤ keys_end file + 8 = ltb-false (keys_end file + 8) (length file) (this_passes (then_passes (then_passes passes))) in
+    let short : length file ≤ keys_end file + 8 =
+    ltb-false (keys_end file + 8) (length file) (this_passes (then_passes (then_passes passes))) in
     record {
-      hash = eqb-true (u64_at file (keys_end file)) (fnv_of (take (keys_end file) file)) (not-false _ (this_passes (then_passes passes)));
+      hash =
+          eqb-true (u64_at file (keys_end file)) (fnv_of (take (keys_end file) file))
+          (not-false _ (this_passes (then_passes passes)));
       ends = omega arith;
     }
 
-pub ended : (file : List ℕ) → version_of file ≡ 1 → first_refusal (tail_tests file (keys_end file)) ≡ None → length file ≤ keys_end file
+pub ended :
+    (file : List ℕ) → version_of file ≡ 1 → first_refusal (tail_tests file (keys_end file)) ≡ None →
+    length file ≤ keys_end file
 unfolding tail_tests
 ended file version is =
     let passes : Accepts (trailing file (keys_end file) ∷ []) =

@@ -15,7 +15,8 @@ undone x small =
     ∙ (ap (λ y. y % 2 ^ 64) (mul-one x) ∙ mod-eq_of_lt small)))
 
 same_factor : (x y : ℕ) → x < 2 ^ 64 → y < 2 ^ 64 → (x * 1099511628211) % 2 ^ 64 ≡ (y * 1099511628211) % 2 ^ 64 → x ≡ y
-same_factor x y small small' same = sym (undone x small) ∙ (ap (λ z. (z * 14886173955864302971) % 2 ^ 64) same ∙ undone y small')
+same_factor x y small small' same =
+    sym (undone x small) ∙ (ap (λ z. (z * 14886173955864302971) % 2 ^ 64) same ∙ undone y small')
 
 same_bit : (p q r : ℕ) → p < 2 → q < 2 → r < 2 → (p + r) % 2 ≡ (q + r) % 2 → p ≡ q
 same_bit p q r a b c same = omega arith
@@ -23,7 +24,8 @@ same_bit p q r a b c same = omega arith
 -- an exclusive or with the same number is undone by itself
 same_xor : (x y n : ℕ) → bit_xor x n ≡ bit_xor y n → x ≡ y
 same_xor x y n same =
-    same_from_bits x y (λ i. same_bit (bit_at x i) (bit_at y i) (bit_at n i) (bit_at-lt x i) (bit_at-lt y i) (bit_at-lt n i)
+    same_from_bits x y
+    (λ i. same_bit (bit_at x i) (bit_at y i) (bit_at n i) (bit_at-lt x i) (bit_at-lt y i) (bit_at-lt n i)
     (sym (bit_at_xor x n i) ∙ (ap (λ z. bit_at z i) same ∙ bit_at_xor y n i)))
 
 -- steps by one byte from two hashes
@@ -36,7 +38,9 @@ same_hash x y byte a b c same =
 same_byte : (x b c : ℕ) → x < 2 ^ 64 → b < 2 ^ 64 → c < 2 ^ 64 → fnv_step x b ≡ fnv_step x c → b ≡ c
 unfolding fnv_step
 same_byte x b c a b' c' same =
-    same_xor b c x (xor_comm b x ∙ (same_factor (bit_xor x b) (bit_xor x c) (xor_lt 64 x b a b') (xor_lt 64 x c a c') same ∙ xor_comm x c))
+    same_xor b c x
+    (xor_comm b x
+    ∙ (same_factor (bit_xor x b) (bit_xor x c) (xor_lt 64 x b a b') (xor_lt 64 x c a c') same ∙ xor_comm x c))
 
 step_fits : (x byte : ℕ) → fnv_step x byte < 2 ^ 64
 unfolding fnv_step
@@ -47,12 +51,15 @@ wide : (byte : ℕ) → byte < 256 → byte < 2 ^ 64
 wide byte small = omega arith
 
 -- the bytes that follow tell two hashes apart
-same_before : (bytes : List ℕ) (x y : ℕ) → All (λ b. b < 256) bytes → x < 2 ^ 64 → y < 2 ^ 64 → fnv_from x bytes ≡ fnv_from y bytes → x ≡ y
+same_before :
+    (bytes : List ℕ) (x y : ℕ) → All (λ b. b < 256) bytes → x < 2 ^ 64 → y < 2 ^ 64 →
+    fnv_from x bytes ≡ fnv_from y bytes → x ≡ y
 unfolding fnv_from
 same_before [] x y are a b same = same
 same_before (byte ∷ bytes) x y are a b same =
     same_hash x y byte a b (wide byte (are 0 0 (omega arith)))
-    (same_before bytes (fnv_step x byte) (fnv_step y byte) (λ k d inside. are (suc k) d (suc-le-suc inside)) (step_fits x byte) (step_fits y byte) same)
+    (same_before bytes (fnv_step x byte) (fnv_step y byte) (λ k d inside. are (suc k) d (suc-le-suc inside))
+    (step_fits x byte) (step_fits y byte) same)
 
 from_fits : (bytes : List ℕ) (x : ℕ) → x < 2 ^ 64 → fnv_from x bytes < 2 ^ 64
 unfolding fnv_from
@@ -72,6 +79,8 @@ unfolding fnv_of fnv_from
 same_text before behind b c are small small' same =
     let x : ℕ = fnv_from 14695981039346656037 before in
     let fits : x < 2 ^ 64 = from_fits before 14695981039346656037 (omega arith) in
-    let split : (d : ℕ) → fnv_of (before ++ d ∷ behind) ≡ fnv_from (fnv_step x d) behind = λ d. fold-append fnv_step 14695981039346656037 before (d ∷ behind) in
+    let split : (d : ℕ) → fnv_of (before ++ d ∷ behind) ≡ fnv_from (fnv_step x d) behind =
+    λ d. fold-append fnv_step 14695981039346656037 before (d ∷ behind) in
     same_byte x b c fits (wide b small) (wide c small')
-    (same_before behind (fnv_step x b) (fnv_step x c) are (step_fits x b) (step_fits x c) (sym (split b) ∙ (same ∙ split c)))
+    (same_before behind (fnv_step x b) (fnv_step x c) are (step_fits x b) (step_fits x c)
+    (sym (split b) ∙ (same ∙ split c)))

@@ -24,7 +24,8 @@ concat_push : (xs : List (List ℕ)) (y : List ℕ) → concat (xs ++ y ∷ []) 
 concat_push xs y = concat-append xs (y ∷ []) ∙ ap (λ zs. concat xs ++ zs) (append-nil y)
 
 -- the first lists, and one of them more
-concat_more : (xs : List (List ℕ)) (n : ℕ) → n < length xs → concat (take (n + 1) xs) ≡ concat (take n xs) ++ get_or xs n []
+concat_more :
+    (xs : List (List ℕ)) (n : ℕ) → n < length xs → concat (take (n + 1) xs) ≡ concat (take n xs) ++ get_or xs n []
 concat_more xs n inside = ap concat (take_more xs n [] inside) ∙ concat_push (take n xs) (get_or xs n [])
 
 -- one list, those before it and those behind it
@@ -84,11 +85,14 @@ both xs ys first second apart i j d less inside =
       | inl low ↦ λ e. first i j d less low
           (sym (get_or-append xs ys d i (omega (arith, less, low))) ∙ e ∙ get_or-append xs ys d j low)
       | inr high ↦
-          let right : get_or (xs ++ ys) j d ≡ get_or ys (j - length xs) d = get_or-append_right xs ys (length xs) j d refl high in
+          let right : get_or (xs ++ ys) j d ≡ get_or ys (j - length xs) d =
+          get_or-append_right xs ys (length xs) j d refl high in
           elim (cases_lt i (length xs)) [
             | inl low ↦ λ e. apart i (j - length xs) d low (omega (arith, inside, all, high))
                 (sym (get_or-append xs ys d i low) ∙ e ∙ right)
-            | inr past ↦ λ e. second (i - length xs) (j - length xs) d (omega (arith, less, past)) (omega (arith, inside, all, high))
+            | inr past ↦
+                λ e. second (i - length xs) (j - length xs) d (omega (arith, less, past))
+                (omega (arith, inside, all, high))
                 (sym (get_or-append_right xs ys (length xs) i d refl past) ∙ e ∙ right)
           ]
     ]
@@ -117,17 +121,20 @@ once_to generations are (suc n) within =
     → get_or (concat (take n generations)) i d ≢ get_or keys j d =
     λ i j d at there e.
     let has : has_key (take n generations) (get_or keys j 0) ≡ true =
-    ap (has_key (take n generations)) (sym (e ∙ get_or_default keys j d 0 there)) ∙ in_some (take n generations) i d at in
+    ap (has_key (take n generations)) (sym (e ∙ get_or_default keys j d 0 there)) ∙ in_some (take n generations) i d at
+    in
     let lacks : has_key (take n generations) (get_or keys j 0) ≡ false = next.new j there in cc in
     subst (λ zs. AllPairs (λ a b. a ≢ b) zs)
     (sym (ap (λ m. concat (take m generations)) (sym (add-one n)) ∙ concat_more generations n low))
-    (both (concat (take n generations)) keys (once_to generations are n (omega (arith, within))) (differ keys next.rising) apart)
+    (both (concat (take n generations)) keys (once_to generations are n (omega (arith, within)))
+    (differ keys next.rising) apart)
 
 -- ---- generations in the words of lists
 
 at : (generations : List (List ℕ)) → AreGenerations generations → (g : ℕ) (d : List ℕ) → g < length generations
     → IsNext (take g generations) (get_or generations g d)
-at generations are g d inside = subst (IsNext (take g generations)) (get_or_default generations g [] d inside) (are g inside)
+at generations are g d inside =
+    subst (IsNext (take g generations)) (get_or_default generations g [] d inside) (are g inside)
 
 pub come_once : (generations : List (List ℕ)) → AreGenerations generations → ComeOnce generations
 come_once generations are = record {
@@ -138,7 +145,8 @@ come_once generations are = record {
 }
 
 -- a key of a generation is in no older one
-is_new : (generations : List (List ℕ)) → AllPairs (λ a b. a ≢ b) (concat generations) → (g k : ℕ) → g < length generations
+is_new :
+    (generations : List (List ℕ)) → AllPairs (λ a b. a ≢ b) (concat generations) → (g k : ℕ) → g < length generations
     → k < length (get_or generations g []) → has_key (take g generations) (get_or (get_or generations g []) k 0) ≡ false
 is_new generations once g k inside low =
     let keys = get_or generations g [] in
@@ -150,7 +158,8 @@ is_new generations once g k inside low =
     let found = in_all (take g generations) q has in
     let place : found.0 < length older = found.1 in
     let size : length (older ++ keys) ≡ length older + length keys = length-append older keys in
-    let whole : length ((older ++ keys) ++ rest) ≡ length (older ++ keys) + length rest = length-append (older ++ keys) rest in
+    let whole : length ((older ++ keys) ++ rest) ≡ length (older ++ keys) + length rest =
+    length-append (older ++ keys) rest in
     let left : get_or ((older ++ keys) ++ rest) found.0 q ≡ q =
     get_or-append (older ++ keys) rest q found.0 (omega (arith, place, size))
     ∙ get_or-append older keys q found.0 place ∙ found.2 in
@@ -170,10 +179,11 @@ are_generations generations come g inside = record {
 -- ---- their order
 
 not_less : (y x : ℕ) → x < y → is_lt (nat_cmp y x) ≡ false
-not_less y x above = ap (λ b. is_lt (cond b Less (cond (y == x) Equal Greater))) (le-ltb y x (omega (arith, above))) ∙ tie (y == x) where
-  tie : (b : Bool) → is_lt (cond b Equal Greater) ≡ false
-  tie true = refl
-  tie false = refl
+not_less y x above =
+    ap (λ b. is_lt (cond b Less (cond (y == x) Equal Greater))) (le-ltb y x (omega (arith, above))) ∙ tie (y == x) where
+      tie : (b : Bool) → is_lt (cond b Equal Greater) ≡ false
+      tie true = refl
+      tie false = refl
 
 sorted : (keys : List ℕ) → IsStrictlyIncreasing (0 ∷ keys) → IsSorted nat_cmp keys
 sorted keys up k d low inside =
@@ -187,5 +197,6 @@ pub never_zero : (generations : List (List ℕ)) → AreGenerations generations 
 never_zero generations are g d inside k e low is =
     let keys = get_or generations g d in
     let above : 0 < get_or (0 ∷ keys) (suc k) e =
-    AllPairs-from_increasing (0 ∷ keys) (at generations are g d inside).rising 0 (suc k) e (omega arith) (omega (arith, low)) in
+    AllPairs-from_increasing (0 ∷ keys) (at generations are g d inside).rising 0 (suc k) e (omega arith)
+    (omega (arith, low)) in
     omega (arith, above, is)

@@ -63,16 +63,21 @@ module _ (version : ℕ) (saved : Saved) (more : List ℕ) where
   size = refl
 
   long : 44 ≤ length headed
-  long = let n : length headed ≡ length (head_bytes version saved) + length more = length-append (head_bytes version saved) more in
+  long =
+      let n : length headed ≡ length (head_bytes version saved) + length more =
+      length-append (head_bytes version saved) more in
       let m : length (head_bytes version saved) ≡ 44 = size in omega (arith, n, m)
 
   behind_head : drop 44 headed ≡ more
   behind_head = drop_at (head_bytes version saved) more 44 size
 
 -- a number that is in its range
-within : (file : List ℕ) (at low high n : ℕ) → u32_at file at ≡ n → low ≤ n → n ≤ high → not (is_in_range low high (u32_at file at)) ≡ false
+within :
+    (file : List ℕ) (at low high n : ℕ) → u32_at file at ≡ n → low ≤ n → n ≤ high →
+    not (is_in_range low high (u32_at file at)) ≡ false
 within file at low high n is least most =
-    ap (λ m. not (is_in_range low high m)) is ∙ ap not (and_from (nat_le low n) (nat_le n high) (le-leb low n least) (le-leb n high most))
+    ap (λ m. not (is_in_range low high m)) is
+    ∙ ap not (and_from (nat_le low n) (nat_le n high) (le-leb low n least) (le-leb n high most))
 
 -- a saved search in its ranges, with anything behind its last key
 module _ (version : ℕ) (saved : Saved) (tail : List ℕ) (ranges : IsInRange saved) (fits : Fits saved) where
@@ -94,18 +99,21 @@ module _ (version : ℕ) (saved : Saved) (tail : List ℕ) (ranges : IsInRange s
   words_there : words_end written ≡ 44 + length saved.words
   unfolding words_end
   words_there =
-      ap (λ n. 44 + n * step_of written) front_there ∙ (ap (λ n. 44 + words_of saved * n) step_there ∙ ap (λ n. 44 + n) ranges.whole)
+      ap (λ n. 44 + n * step_of written) front_there
+      ∙ (ap (λ n. 44 + words_of saved * n) step_there ∙ ap (λ n. 44 + n) ranges.whole)
 
   start : drop (place_of written 0) written ≡ flat_map generation_bytes saved.generations ++ tail
   start =
       ap (λ n. drop n written) words_there
-      ∙ behind written saved.words (flat_map generation_bytes saved.generations ++ tail) 44 (length saved.words) (behind_head version saved body) refl
+      ∙ behind written saved.words (flat_map generation_bytes saved.generations ++ tail) 44 (length saved.words)
+      (behind_head version saved body) refl
 
   few : (g : ℕ) → length (slice_index_or saved.generations g []) < 2 ^ 32
   few g =
       elim (cases_lt g (length saved.generations)) [
         | inl inside ↦
-            let one : length (slice_index_or saved.generations g []) ≤ key_count saved.generations = get_or-le-sum_by length saved.generations g [] inside in
+            let one : length (slice_index_or saved.generations g []) ≤ key_count saved.generations =
+            get_or-le-sum_by length saved.generations g [] inside in
             omega (arith, one, ranges.most_keys)
         | inr past ↦ subst (λ keys. length keys < 2 ^ 32) (sym (get_or_past saved.generations g [] past)) (omega arith)
       ]
@@ -118,18 +126,25 @@ module _ (version : ℕ) (saved : Saved) (tail : List ℕ) (ranges : IsInRange s
   generations_are_read : first_refusal (generations_tests written) ≡ None
   unfolding generations_tests
   generations_are_read =
-      ap (λ n. first_refusal (tests_below (λ g. generation_tests written (generations_below written g) (place_of written g)) n)) count_there
-      ∙ generations_pass written saved.generations (λ g. flat_map generation_bytes (drop (g + 1) saved.generations) ++ tail)
-      (each_there written tail saved.generations start few fits.keys) (generations_are written tail saved.generations start few fits.keys)
+      ap
+      (λ n. first_refusal
+      (tests_below (λ g. generation_tests written (generations_below written g) (place_of written g)) n)) count_there
+      ∙ generations_pass written saved.generations
+      (λ g. flat_map generation_bytes (drop (g + 1) saved.generations) ++ tail)
+      (each_there written tail saved.generations start few fits.keys)
+      (generations_are written tail saved.generations start few fits.keys)
       ranges.generations ranges.most_keys
 
   pub behind_keys : drop (keys_end written) written ≡ tail
   behind_keys =
       ap (λ n. drop (place_of written n) written) count_there
       ∙ (places written tail saved.generations start few fits.keys (length saved.generations) (omega arith)
-      ∙ ap (λ gs. flat_map generation_bytes gs ++ tail) (drop_all (length saved.generations) saved.generations (omega arith)))
+      ∙ ap (λ gs. flat_map generation_bytes gs ++ tail)
+      (drop_all (length saved.generations) saved.generations (omega arith)))
 
-  identity_read : version < 2 ^ 32 → (version == 1 || version == 2) ≡ true → first_refusal (identity_tests written saved.cart saved.script) ≡ None
+  identity_read :
+      version < 2 ^ 32 → (version == 1 || version == 2) ≡ true →
+      first_refusal (identity_tests written saved.cart saved.script) ≡ None
   unfolding identity_tests
   identity_read small known =
       let length_is : 44 ≤ length written = long version saved body in
@@ -140,22 +155,26 @@ module _ (version : ℕ) (saved : Saved) (tail : List ℕ) (ranges : IsInRange s
       (passes (le-ltb (length written) 16 (omega (arith, length_is)))
       (passes (ap not (eq-eqb (u64_at written 8) saved.cart (cart_is version saved body fits.cart)))
       (passes (le-ltb (length written) 24 (omega (arith, length_is)))
-      (passes (ap not (eq-eqb (u64_at written 16) saved.script (script_is version saved body fits.script))) no_more)))))) in
+      (passes (ap not (eq-eqb (u64_at written 16) saved.script (script_is version saved body fits.script)))
+      no_more)))))) in
       all.none
 
   reaches_words : words_end written ≤ length written
   reaches_words =
       let e : words_end written ≡ 44 + length saved.words = words_there in
-      let n : length written ≡ length (head_bytes version saved) + length body = length-append (head_bytes version saved) body in
+      let n : length written ≡ length (head_bytes version saved) + length body =
+      length-append (head_bytes version saved) body in
       let m : length (head_bytes version saved) ≡ 44 = size version saved body in
-      let k : length body ≡ length saved.words + length (flat_map generation_bytes saved.generations ++ tail) = length-append saved.words (flat_map generation_bytes saved.generations ++ tail) in
+      let k : length body ≡ length saved.words + length (flat_map generation_bytes saved.generations ++ tail) =
+      length-append saved.words (flat_map generation_bytes saved.generations ++ tail) in
       omega (arith, e, n, m, k)
 
   front_in_range : is_front (step_of written) (front_of written) ≡ true
   front_in_range =
       ap (λ n. is_front n (front_of written)) step_there ∙ (ap (is_front saved.step) front_there
       ∙ and_from (is_in_range 1 1048576 (words_of saved)) (nat_le (words_of saved * saved.step) 67108864)
-      (and_from (nat_le 1 (words_of saved)) (nat_le (words_of saved) 1048576) (le-leb 1 (words_of saved) ranges.some_words) (le-leb (words_of saved) 1048576 ranges.most_words))
+      (and_from (nat_le 1 (words_of saved)) (nat_le (words_of saved) 1048576)
+      (le-leb 1 (words_of saved) ranges.some_words) (le-leb (words_of saved) 1048576 ranges.most_words))
       (ap (λ n. nat_le n 67108864) ranges.whole ∙ le-leb (length saved.words) 67108864 ranges.most_pads))
 
   sizes_read : first_refusal (size_tests written) ≡ None
@@ -176,14 +195,16 @@ module _ (version : ℕ) (saved : Saved) (tail : List ℕ) (ranges : IsInRange s
       (passes (le-ltb (length written) 40 (omega (arith, length_is)))
       (passes (within written 36 0 33554432 saved.until until (omega arith) ranges.until)
       (passes (le-ltb (length written) 44 length_is)
-      (passes (within written 40 1 (step_of written + 1) (length saved.generations) count_there ranges.some_generations last)
+      (passes
+      (within written 40 1 (step_of written + 1) (length saved.generations) count_there ranges.some_generations last)
       (passes (le-ltb (length written) (words_end written) reaches_words) no_more)))))))))) in
       all.none
 
   -- the fields are those of the saved search
   words_read : slice_range written 44 (words_end written) ≡ saved.words
   words_read =
-      let count : words_end written - 44 ≡ length saved.words = (let e : words_end written ≡ 44 + length saved.words = words_there in omega (arith, e)) in
+      let count : words_end written - 44 ≡ length saved.words =
+      (let e : words_end written ≡ 44 + length saved.words = words_there in omega (arith, e)) in
       ap (λ n. take n (drop 44 written)) count
       ∙ (ap (take (length saved.words)) (behind_head version saved body)
       ∙ take_at saved.words (flat_map generation_bytes saved.generations ++ tail) (length saved.words) refl)
@@ -201,37 +222,49 @@ module _ (version : ℕ) (saved : Saved) (tail : List ℕ) (ranges : IsInRange s
   }
 
   -- so it is read as it was, where nothing is refused of what stands behind its last key
-  pub read_with : version < 2 ^ 32 → (version == 1 || version == 2) ≡ true → first_refusal (tail_tests written (keys_end written)) ≡ None →
+  pub read_with :
+      version < 2 ^ 32 → (version == 1 || version == 2) ≡ true →
+      first_refusal (tail_tests written (keys_end written)) ≡ None →
       saved_of written saved.cart saved.script ≡ Ok saved
   unfolding saved_of tests_of
   read_with small known tail_passes =
       ap (λ refusal. accepted_unless refusal (contents_of written))
       (both_pass (identity_tests written saved.cart saved.script) _ (identity_read small known)
-      (both_pass (size_tests written) _ sizes_read (both_pass (generations_tests written) _ generations_are_read tail_passes)))
+      (both_pass (size_tests written) _ sizes_read
+      (both_pass (generations_tests written) _ generations_are_read tail_passes)))
       ∙ ap Ok contents_are
 
 -- a file of version 1
-pub read_first : (saved : Saved) → IsInRange saved → Fits saved → saved_of (file_bytes 1 saved) saved.cart saved.script ≡ Ok saved
+pub read_first :
+    (saved : Saved) → IsInRange saved → Fits saved → saved_of (file_bytes 1 saved) saved.cart saved.script ≡ Ok saved
 unfolding file_bytes field_bytes tail_tests
 read_first saved ranges fits =
     let file : List ℕ = written 1 saved [] ranges fits in
-    let left : length file - keys_end file ≡ 0 = sym (length-drop (keys_end file) file) ∙ ap length (behind_keys 1 saved [] ranges fits) in
+    let left : length file - keys_end file ≡ 0 =
+    sym (length-drop (keys_end file) file) ∙ ap length (behind_keys 1 saved [] ranges fits) in
     let version : version_of file ≡ 1 = version_is 1 saved (body 1 saved [] ranges fits) (omega arith) in
-    let last : Accepts (trailing file (keys_end file) ∷ []) = passes (le-ltb (keys_end file) (length file) (omega (arith, left))) no_more in
+    let last : Accepts (trailing file (keys_end file) ∷ []) =
+    passes (le-ltb (keys_end file) (length file) (omega (arith, left))) no_more in
     let ends : first_refusal (tail_tests file (keys_end file)) ≡ None =
     ap first_refusal (cond-false (version_of file == 2) _ _ (ap (λ v. v == 2) version)) ∙ last.none in
-    ap (λ bytes. saved_of (head_bytes 1 saved ++ (saved.words ++ bytes)) saved.cart saved.script) (sym (append-nil (flat_map generation_bytes saved.generations)))
+    ap (λ bytes. saved_of (head_bytes 1 saved ++ (saved.words ++ bytes)) saved.cart saved.script)
+    (sym (append-nil (flat_map generation_bytes saved.generations)))
     ∙ read_with 1 saved [] ranges fits (omega arith) refl ends
 
 -- the hash stands behind all fields
-split : (saved : Saved) (hash : List ℕ) → field_bytes 2 saved ++ hash ≡ head_bytes 2 saved ++ (saved.words ++ (flat_map generation_bytes saved.generations ++ hash))
+split :
+    (saved : Saved) (hash : List ℕ) →
+    field_bytes 2 saved ++ hash
+    ≡ head_bytes 2 saved ++ (saved.words ++ (flat_map generation_bytes saved.generations ++ hash))
 unfolding field_bytes
 split saved hash =
     append_assoc (head_bytes 2 saved) (saved.words ++ flat_map generation_bytes saved.generations) hash
-    ∙ ap (λ bytes. head_bytes 2 saved ++ bytes) (append_assoc saved.words (flat_map generation_bytes saved.generations) hash)
+    ∙ ap (λ bytes. head_bytes 2 saved ++ bytes)
+    (append_assoc saved.words (flat_map generation_bytes saved.generations) hash)
 
 -- a file of version 2
-pub read_second : (saved : Saved) → IsInRange saved → Fits saved → saved_of (file_bytes 2 saved) saved.cart saved.script ≡ Ok saved
+pub read_second :
+    (saved : Saved) → IsInRange saved → Fits saved → saved_of (file_bytes 2 saved) saved.cart saved.script ≡ Ok saved
 unfolding file_bytes tail_tests hash_tests
 read_second saved ranges fits =
     let fields : List ℕ = field_bytes 2 saved in
@@ -249,8 +282,11 @@ read_second saved ranges fits =
     let version : version_of file ≡ 2 = version_is 2 saved (body 2 saved hash ranges fits) (omega arith) in
     let last : Accepts (hash_tests file (keys_end file)) =
     passes (le-ltb (length file) (keys_end file + 8) (omega (arith, left)))
-    (passes (ap not (eq-eqb (u64_at file (keys_end file)) (fnv_of (take (keys_end file) file)) (kept ∙ ap fnv_of (sym before))))
+    (passes
+    (ap not
+    (eq-eqb (u64_at file (keys_end file)) (fnv_of (take (keys_end file) file)) (kept ∙ ap fnv_of (sym before))))
     (passes (le-ltb (keys_end file + 8) (length file) (omega (arith, left))) no_more)) in
     let ends : first_refusal (tail_tests file (keys_end file)) ≡ None =
     ap first_refusal (cond-true (version_of file == 2) _ _ (ap (λ v. v == 2) version)) ∙ last.none in
-    ap (λ bytes. saved_of bytes saved.cart saved.script) whole ∙ read_with 2 saved hash ranges fits (omega arith) refl ends
+    ap (λ bytes. saved_of bytes saved.cart saved.script) whole
+    ∙ read_with 2 saved hash ranges fits (omega arith) refl ends

@@ -34,13 +34,16 @@ module _ (byte : (text : List ℕ) (pad : ℕ) → pad_of_text text ≡ Some pad
 
   ok_pad_in : (d : Data) → IfOk (pad_in d) (λ pad. pad < 256)
   unfolding pad_in pad_named
-  ok_pad_in d = ok_after (text_in (codes "pads") d) pad_named (λ pad. pad < 256) (λ name. ok_shown (pad_of_text name) name (byte name))
+  ok_pad_in d = ok_after (text_in (codes "pads") d) pad_named (λ pad. pad < 256)
+      (λ name. ok_shown (pad_of_text name) name (byte name))
 
   ok_pads_in : (d : Data) → IfOk (pads_in d) AreBytes
   unfolding pads_in
   ok_pads_in d =
-      ok_weaker (then_read (list (codes "pads") 256 d) (each (λ _. pad_in) [])) (λ pads. AreBytes pads × (length pads ≤ 256)) AreBytes (λ pads both. both.0)
-      (ok_members (λ _. pad_in) (λ pad. pad < 256) (list (codes "pads") 256 d) 256 (λ _. ok_pad_in) (ok_list (codes "pads") 256 d))
+      ok_weaker (then_read (list (codes "pads") 256 d) (each (λ _. pad_in) []))
+      (λ pads. AreBytes pads × (length pads ≤ 256)) AreBytes (λ pads both. both.0)
+      (ok_members (λ _. pad_in) (λ pad. pad < 256) (list (codes "pads") 256 d) 256 (λ _. ok_pad_in)
+      (ok_list (codes "pads") 256 d))
 
   ok_set_in : (properties : List Named) (d : Data) → IfOk (set_in properties d) HasBytes
   unfolding set_in
@@ -53,8 +56,10 @@ module _ (byte : (text : List ℕ) (pad : ℕ) → pad_of_text text ≡ Some pad
   ok_sets_in : (properties : List Named) (d : Data) → IfOk (sets_in properties d) (All HasBytes)
   unfolding sets_in
   ok_sets_in properties d =
-      ok_weaker (then_read (list (codes "inputs") 32 d) (each (λ _. set_in properties) [])) (λ sets. All HasBytes sets × (length sets ≤ 32)) (All HasBytes) (λ sets both. both.0)
-      (ok_members (λ _. set_in properties) HasBytes (list (codes "inputs") 32 d) 32 (λ _. ok_set_in properties) (ok_list (codes "inputs") 32 d))
+      ok_weaker (then_read (list (codes "inputs") 32 d) (each (λ _. set_in properties) []))
+      (λ sets. All HasBytes sets × (length sets ≤ 32)) (All HasBytes) (λ sets both. both.0)
+      (ok_members (λ _. set_in properties) HasBytes (list (codes "inputs") 32 d) 32 (λ _. ok_set_in properties)
+      (ok_list (codes "inputs") 32 d))
 
   ok_script_in : (d : Data) → IfOk (script_in d) NamesBytes
   unfolding script_in

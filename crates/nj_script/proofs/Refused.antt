@@ -5,6 +5,7 @@ use Rattle.nj_script.specs.declared.refusal.ScriptRefused.TheVariants.{NoMemory}
 use Rattle.nj_script.specs.Reading.{Reading, Refuses}
 
 -- a call answers the refusal, or want of memory
-pub refused_with : {A : Type 0} (reading : Reading A) (refusal answer : ScriptRefused) → reading ≡ Err refusal → (answer ≡ NoMemory) ⊎ (answer ≡ refusal) → Refuses reading answer
+pub refused_with : {A : Type 0} (reading : Reading A) (refusal answer : ScriptRefused) → reading ≡ Err refusal
+    → (answer ≡ NoMemory) ⊎ (answer ≡ refusal) → Refuses reading answer
 refused_with reading refusal answer e (inl memory) = inl memory
 refused_with reading refusal answer e (inr same) = inr (e ∙ ap Err (sym same))

@@ -13,7 +13,8 @@ use Rattle.nj_search.specs.declared.planning.PlanRefused.{PlanRefused}
 use Rattle.nj_search.specs.Plans.{cost_of, most_of, slots_of, need_of, steps_before, words_before, total_steps, rows_of, frames_of, refusals, refusal_of}
 
 -- where the first of a list is not refused the rest decides
-unrefused_by : (b : Bool) (x : PlanRefused) (rest : Option PlanRefused) → cond b (Some x) rest ≡ None → (b ≡ false) × (rest ≡ None)
+unrefused_by :
+    (b : Bool) (x : PlanRefused) (rest : Option PlanRefused) → cond b (Some x) rest ≡ None → (b ≡ false) × (rest ≡ None)
 unrefused_by true x rest h = absurd (cc)
 unrefused_by false x rest h = (refl, h)
 
@@ -25,7 +26,9 @@ pub record IsAccepted (plan : Plan) (limits : Limits) (saved : Option Saved) : T
   pub movie : frames_of plan limits saved ≤ 2 ^ 20
   pub front : words_before saved ≤ most_of limits plan.cartridge
 
-pub accepted : (plan : Plan) (limits : Limits) (saved : Option Saved) → refusal_of plan limits saved ≡ None → IsAccepted plan limits saved
+pub accepted :
+    (plan : Plan) (limits : Limits) (saved : Option Saved) → refusal_of plan limits saved ≡ None
+    → IsAccepted plan limits saved
 unfolding refusal_of refusals
 accepted plan limits saved none =
     let first = unrefused_by _ _ _ none in
@@ -41,11 +44,14 @@ accepted plan limits saved none =
       front = ltb-false _ _ fifth.0;
     }
 
-passed : (b : Bool) (x : PlanRefused) (rest : Option PlanRefused) → b ≡ false → rest ≡ None → cond b (Some x) rest ≡ None
+passed :
+    (b : Bool) (x : PlanRefused) (rest : Option PlanRefused) → b ≡ false → rest ≡ None → cond b (Some x) rest ≡ None
 passed b x rest is none = ap (λ c. cond c (Some x) rest) is ∙ none
 
 -- of a plan of which this holds nothing is refused
-pub unrefused : (plan : Plan) (limits : Limits) (saved : Option Saved) → IsAccepted plan limits saved → refusal_of plan limits saved ≡ None
+pub unrefused :
+    (plan : Plan) (limits : Limits) (saved : Option Saved) → IsAccepted plan limits saved
+    → refusal_of plan limits saved ≡ None
 unfolding refusal_of refusals
 unrefused plan limits saved is =
     passed _ _ _ (le-ltb limits.budget (cost_of plan.cartridge) is.budget)
@@ -60,33 +66,46 @@ unfolding cost_of
 some_cost cartridge = omega arith
 
 -- the budget pays for a word
-one_paid : (plan : Plan) (limits : Limits) (saved : Option Saved) → refusal_of plan limits saved ≡ None → 1 ≤ limits.budget / cost_of plan.cartridge
+one_paid :
+    (plan : Plan) (limits : Limits) (saved : Option Saved) → refusal_of plan limits saved ≡ None
+    → 1 ≤ limits.budget / cost_of plan.cartridge
 one_paid plan limits saved none =
     let budget : cost_of plan.cartridge ≤ limits.budget = (accepted plan limits saved none).budget in
     le-div 1 limits.budget (cost_of plan.cartridge) (some_cost plan.cartridge) (omega arith)
 
 -- a front has room for a word
-pub some_word : (plan : Plan) (limits : Limits) (saved : Option Saved) (most : ℕ) → refusal_of plan limits saved ≡ None → most ≡ most_of limits plan.cartridge → 1 ≤ most
+pub some_word :
+    (plan : Plan) (limits : Limits) (saved : Option Saved) (most : ℕ) → refusal_of plan limits saved ≡ None
+    → most ≡ most_of limits plan.cartridge → 1 ≤ most
 unfolding most_of
 some_word plan limits saved most none is = omega (arith, one_paid plan limits saved none)
 
 -- the candidates of a step fit in the slots
-pub fits_slots : (plan : Plan) (limits : Limits) (saved : Option Saved) (most inputs : ℕ) → refusal_of plan limits saved ≡ None → most ≡ most_of limits plan.cartridge
+pub fits_slots :
+    (plan : Plan) (limits : Limits) (saved : Option Saved) (most inputs : ℕ) → refusal_of plan limits saved ≡ None
+    → most ≡ most_of limits plan.cartridge
     → inputs ≡ length (named_pads plan.script.inputs.sets) → most * inputs ≤ 2 ^ limits.exponent
 fits_slots plan limits saved most inputs none is counted =
-    let seen : most_of limits plan.cartridge * length (named_pads plan.script.inputs.sets) ≤ 2 ^ limits.exponent = (accepted plan limits saved none).seen in
-    let e : most * inputs ≡ most_of limits plan.cartridge * length (named_pads plan.script.inputs.sets) = ap₂ (λ m n. m * n) is counted in
+    let seen : most_of limits plan.cartridge * length (named_pads plan.script.inputs.sets) ≤ 2 ^ limits.exponent =
+    (accepted plan limits saved none).seen in
+    let e : most * inputs ≡ most_of limits plan.cartridge * length (named_pads plan.script.inputs.sets) =
+    ap₂ (λ m n. m * n) is counted in
     omega (arith, seen, e)
 
 -- as each step has a frame, all steps are within the frames of a movie
-pub few_steps : (plan : Plan) (limits : Limits) (saved : Option Saved) → 1 ≤ plan.script.hold → refusal_of plan limits saved ≡ None
+pub few_steps :
+    (plan : Plan) (limits : Limits) (saved : Option Saved) → 1 ≤ plan.script.hold → refusal_of plan limits saved ≡ None
     → total_steps limits saved ≤ 2 ^ 20
 few_steps plan limits saved hold none =
-    let movie : length plan.start + plan.script.hold * total_steps limits saved ≤ 2 ^ 20 = (accepted plan limits saved none).movie in
-    let each : 1 * total_steps limits saved ≤ plan.script.hold * total_steps limits saved = mul-le-mul_right (total_steps limits saved) hold in
+    let movie : length plan.start + plan.script.hold * total_steps limits saved ≤ 2 ^ 20 =
+    (accepted plan limits saved none).movie in
+    let each : 1 * total_steps limits saved ≤ plan.script.hold * total_steps limits saved =
+    mul-le-mul_right (total_steps limits saved) hold in
     omega (arith, movie, each)
 
 -- a saved front fits
-pub front_fits : (plan : Plan) (limits : Limits) (saved : Option Saved) (most words : ℕ) → refusal_of plan limits saved ≡ None
+pub front_fits :
+    (plan : Plan) (limits : Limits) (saved : Option Saved) (most words : ℕ) → refusal_of plan limits saved ≡ None
     → most ≡ most_of limits plan.cartridge → words ≡ words_before saved → words ≤ most
-front_fits plan limits saved most words none is counted = omega (arith, (accepted plan limits saved none).front, is, counted)
+front_fits plan limits saved most words none is counted =
+    omega (arith, (accepted plan limits saved none).front, is, counted)

@@ -37,7 +37,9 @@ paid budget cost bytes most is few =
     let within : cost * (budget / cost) ≤ budget = mul-div-le budget cost in
     omega (arith, same, cheap, within)
 
-paid_words : (limits : Limits) (cartridge : Cartridge) (bytes most : ℕ) → 2 * bytes ≡ cost_of cartridge → most ≤ most_of limits cartridge
+paid_words :
+    (limits : Limits) (cartridge : Cartridge) (bytes most : ℕ) → 2 * bytes ≡ cost_of cartridge
+    → most ≤ most_of limits cartridge
     → 2 * (most * bytes) ≤ limits.budget
 unfolding most_of
 paid_words limits cartridge bytes most cost few =
@@ -45,7 +47,9 @@ paid_words limits cartridge bytes most cost few =
     paid limits.budget (cost_of cartridge) bytes most cost most_paid
 
 -- two fronts of no more than so many words take at most twice as much as one of so many
-two_fronts : (old new most bytes budget : ℕ) → old ≤ most → new ≤ most → 2 * (most * bytes) ≤ budget → old * bytes + new * bytes ≤ budget
+two_fronts :
+    (old new most bytes budget : ℕ) → old ≤ most → new ≤ most → 2 * (most * bytes) ≤ budget
+    → old * bytes + new * bytes ≤ budget
 two_fronts old new most bytes budget few fewer paid =
     let first : old * bytes ≤ most * bytes = mul-le-mul_right bytes few in
     let second : new * bytes ≤ most * bytes = mul-le-mul_right bytes fewer in
@@ -54,7 +58,8 @@ two_fronts old new most bytes budget few fewer paid =
 pub half : Begins → FullFrontsTakeHalf
 unfolding bounds_in
 half begins planned =
-    paid_words planned.limits planned.plan.cartridge (size_in planned.plan + 16) (most_of planned.limits planned.plan.cartridge)
+    paid_words planned.limits planned.plan.cartridge (size_in planned.plan + 16)
+    (most_of planned.limits planned.plan.cartridge)
     (word_cost begins planned.plan) (omega arith)
 
 pub both : Begins → ((held : Held) → length (kept_in held) ≤ held.bounds.most) → BothFrontsFit

@@ -74,7 +74,8 @@ pub first_counted : (xs : List ℕ) (other before after most : ℕ) → 0 < leng
 first_counted [] other before after most some is low high = absurd (omega arith)
 first_counted (x ∷ xs) other before after most some is low high =
     let at : before ≡ x = is in
-    let sum_set : sum (after ∷ xs) + x ≡ sum (x ∷ xs) + after = sum_by-set (λ n. n) (x ∷ xs) 0 after other some in record {
+    let sum_set : sum (after ∷ xs) + x ≡ sum (x ∷ xs) + after = sum_by-set (λ n. n) (x ∷ xs) 0 after other some in
+    record {
       many = refl;
       none_falls = (omega (arith, at, low), stay xs);
       others = refl;
@@ -112,6 +113,8 @@ pub all_counted : (planned : Planned) (held : Held) (limit workers : ℕ) (old m
     → IsGoing planned held → limit ≡ planned.limits.steps → AreCounted 1 old mid (frames_before planned)
     → AreCounted workers mid new (frames_a_step held * limit) → AreCounted workers old new (frames_most planned)
 all_counted planned held limit workers old mid new some is limited first second =
-    let steps : frames_a_step held * limit ≡ frames_a_step held * planned.limits.steps = ap (λ n. frames_a_step held * n) limited in
+    let steps : frames_a_step held * limit ≡ frames_a_step held * planned.limits.steps =
+    ap (λ n. frames_a_step held * n) limited in
     more_counted workers old mid new (frames_before planned) (frames_a_step held * limit) (frames_most planned)
-    (by_more workers old mid (frames_before planned) some first) second (omega (arith, all_frames planned held is, steps))
+    (by_more workers old mid (frames_before planned) some first) second
+    (omega (arith, all_frames planned held is, steps))

@@ -43,20 +43,26 @@ none_made begun limit before unspent = record {
   grown = omega arith;
 }
 
-pub same_frames : (old new : Held) → new.plan ≡ old.plan → new.bounds ≡ old.bounds → frames_a_step new ≡ frames_a_step old
+pub same_frames :
+    (old new : Held) → new.plan ≡ old.plan → new.bounds ≡ old.bounds → frames_a_step new ≡ frames_a_step old
 same_frames old new plan bounds =
     λ i. (plan i).script.hold * ((bounds i).most * ((bounds i).inputs + 1))
 
 -- the frames of one more step
-one_more : (begun now : Held) (limit made before frames frames' : ℕ) → AreMade begun now limit made before frames → frames' ≤ frames + frames_a_step now
+one_more :
+    (begun now : Held) (limit made before frames frames' : ℕ) → AreMade begun now limit made before frames
+    → frames' ≤ frames + frames_a_step now
     → frames' ≤ before + frames_a_step begun * (made + 1)
 one_more begun now limit made before frames frames' are_made ran =
     let each : frames_a_step now ≡ frames_a_step begun = same_frames begun now are_made.plan are_made.bounds in
     let e : frames_a_step begun * (made + 1) ≡ frames_a_step begun * made + frames_a_step begun = grind arith in
     omega (arith, are_made.frames, ran, each, e)
 
-pub one_more_made : (begun now new : Held) (limit made before frames frames' : ℕ) → made < limit → AreMade begun now limit made before frames
-    → IsFurther now new → frames' ≤ frames + frames_a_step now → frames ≤ frames' → AreMade begun new limit (made + 1) before frames'
+pub one_more_made :
+    (begun now new : Held) (limit made before frames frames' : ℕ) → made < limit
+    → AreMade begun now limit made before frames
+    → IsFurther now new → frames' ≤ frames + frames_a_step now → frames ≤ frames'
+    → AreMade begun new limit (made + 1) before frames'
 one_more_made begun now new limit made before frames frames' within are_made further ran grows =
     let left : limit - made ≡ (limit - (made + 1)) + 1 = omega arith in
     record {
@@ -70,15 +76,20 @@ one_more_made begun now new limit made before frames frames' within are_made fur
     }
 
 -- the frames within the bound of all steps
-pub frames_within : (begun now : Held) (limit made before frames frames' : ℕ) → made < limit → AreMade begun now limit made before frames
+pub frames_within :
+    (begun now : Held) (limit made before frames frames' : ℕ) → made < limit
+    → AreMade begun now limit made before frames
     → frames' ≤ frames + frames_a_step now → frames' ≤ before + frames_a_step begun * limit
 frames_within begun now limit made before frames frames' within are_made ran =
     let more : made + 1 ≤ limit = omega arith in
-    let h : frames_a_step begun * (made + 1) ≤ frames_a_step begun * limit = mul-le-mul_left (frames_a_step begun) more in
+    let h : frames_a_step begun * (made + 1) ≤ frames_a_step begun * limit =
+    mul-le-mul_left (frames_a_step begun) more in
     omega (arith, one_more begun now limit made before frames frames' are_made ran, h)
 
 -- what a step ends the search with is the answer of the whole
-pub told_at_end : (begun now : Held) (limit made before frames : ℕ) (keep : Bool) (outcome : Outcome) → made < limit → AreMade begun now limit made before frames
+pub told_at_end :
+    (begun now : Held) (limit made before frames : ℕ) (keep : Bool) (outcome : Outcome) → made < limit
+    → AreMade begun now limit made before frames
     → EndsIn now outcome → answer_of begun.plan keep (rest_of begun limit) ≡ unsaved outcome
 told_at_end begun now limit made before frames keep outcome within are_made told =
     let left : limit - made ≡ (limit - (made + 1)) + 1 = omega arith in
@@ -91,7 +102,9 @@ unfolding rest_of searched
 rest-zero held = refl
 
 -- what is answered at the limit is the answer of the whole
-pub told_at_limit : (begun now : Held) (limit made before frames : ℕ) (keep : Bool) (ended : Ended) → limit ≤ made → AreMade begun now limit made before frames
+pub told_at_limit :
+    (begun now : Held) (limit made before frames : ℕ) (keep : Bool) (ended : Ended) → limit ≤ made
+    → AreMade begun now limit made before frames
     → answer_of now.plan keep (LimitAt now.state) ≡ ended → answer_of begun.plan keep (rest_of begun limit) ≡ ended
 told_at_limit begun now limit made before frames keep ended all are_made told =
     let none : limit - made ≡ 0 = omega arith in
@@ -105,8 +118,11 @@ first_of [] = refl
 first_of (word ∷ words) = refl
 
 -- what is answered at the limit: of a front's first word, and what is saved
-pub limit_told : (held : Held) (keep : Bool) (step : ℕ) (judged : Judged) (movie : List ℕ) (saved : Option Saved) → step ≡ held.state.step
-    → judged ≡ judged_of held.plan (get_or held.state.front 0 []) → movie ≡ movie_of held.plan (get_or held.state.front 0 [])
+pub limit_told :
+    (held : Held) (keep : Bool) (step : ℕ) (judged : Judged) (movie : List ℕ) (saved : Option Saved)
+    → step ≡ held.state.step
+    → judged ≡ judged_of held.plan (get_or held.state.front 0 [])
+    → movie ≡ movie_of held.plan (get_or held.state.front 0 [])
     → saved ≡ saved_in keep (LimitAt held.state)
     → answer_of held.plan keep (LimitAt held.state) ≡ record { outcome = Limit step judged.reward movie; saved = saved }
 unfolding answer_of told_of
@@ -121,17 +137,21 @@ limit_told held keep step judged movie saved is_step is_judged is_movie is_saved
 
 -- the bounds that are given are those of the plan
 pub given_bounds : (planned : Planned) (given : Given) → given.front ≡ most_of planned.limits planned.plan.cartridge
-    → given.exponent ≡ planned.limits.exponent → given.inputs ≡ inputs_of planned.plan → bounds_of given planned.plan.script ≡ bounds_in planned
+    → given.exponent ≡ planned.limits.exponent → given.inputs ≡ inputs_of planned.plan
+    → bounds_of given planned.plan.script ≡ bounds_in planned
 unfolding bounds_in
 given_bounds planned given most exponent inputs =
     λ i. bounds_of (record { front = most i; exponent = exponent i; inputs = inputs i }) planned.plan.script
 
-pub opens_at_start : (planned : Planned) (bounds : Bounds) (held : Held) → bounds ≡ bounds_in planned → planned.saved ≡ None
+pub opens_at_start :
+    (planned : Planned) (bounds : Bounds) (held : Held) → bounds ≡ bounds_in planned → planned.saved ≡ None
     → held ≡ opened planned.plan bounds → held ≡ held_in planned
 unfolding held_in
 opens_at_start planned bounds held same none is = is ∙ ap (opened planned.plan) same ∙ sym (ap (held_from planned) none)
 
-pub opens_from_saved : (planned : Planned) (bounds : Bounds) (saved : Saved) (held : Held) → bounds ≡ bounds_in planned → planned.saved ≡ Some saved
+pub opens_from_saved :
+    (planned : Planned) (bounds : Bounds) (saved : Saved) (held : Held) → bounds ≡ bounds_in planned
+    → planned.saved ≡ Some saved
     → held ≡ resumed planned.plan bounds saved → held ≡ held_in planned
 unfolding held_in
 opens_from_saved planned bounds saved held same some is =
@@ -146,7 +166,8 @@ pub record IsOpened (planned : Planned) (held : Held) : Type 0 where
   pub unspent : held.spent ≡ false
   pub step : held.state.step ≡ 0
   pub front : held.state.front ≡ [] ∷ []
-  pub whole : outcome_of planned ≡ judged_first ((game_of planned.plan).judged []).verdict (rest_of held planned.limits.steps)
+  pub whole :
+      outcome_of planned ≡ judged_first ((game_of planned.plan).judged []).verdict (rest_of held planned.limits.steps)
 
 opened_so : (planned : Planned) → planned.saved ≡ None → IsOpened planned (opened planned.plan (bounds_in planned))
 unfolding opened opening outcome_of outcome rest_of
@@ -165,16 +186,24 @@ begun planned held none is =
     subst (IsOpened planned) (sym (is ∙ ap (held_from planned) none)) (opened_so planned none)
 
 -- the verdict of the start
-verdict_is : (planned : Planned) (held : Held) (judged : Judged) → IsOpened planned held → judged ≡ judged_of held.plan (get_or held.state.front 0 [])
+verdict_is :
+    (planned : Planned) (held : Held) (judged : Judged) → IsOpened planned held
+    → judged ≡ judged_of held.plan (get_or held.state.front 0 [])
     → ((game_of planned.plan).judged []).verdict ≡ search_verdict judged.verdict
 unfolding game_of
 verdict_is planned held judged is e =
-    ap (λ (j : Judged). search_verdict j.verdict) (sym (e ∙ ap₂ (λ (p : Plan) (f : List Word). judged_of p (get_or f 0 [])) is.going is.front))
+    ap (λ (j : Judged). search_verdict j.verdict)
+    (sym (e ∙ ap₂ (λ (p : Plan) (f : List Word). judged_of p (get_or f 0 [])) is.going is.front))
 
-ends_by : (planned : Planned) (held : Held) (judged : Judged) → IsOpened planned held → judged ≡ judged_of held.plan (get_or held.state.front 0 [])
-    → (verdict : Verdict) → judged.verdict ≡ verdict → outcome_of planned ≡ judged_first (search_verdict verdict) (rest_of held planned.limits.steps)
+ends_by :
+    (planned : Planned) (held : Held) (judged : Judged) → IsOpened planned held
+    → judged ≡ judged_of held.plan (get_or held.state.front 0 [])
+    → (verdict : Verdict) → judged.verdict ≡ verdict
+    → outcome_of planned ≡ judged_first (search_verdict verdict) (rest_of held planned.limits.steps)
 ends_by planned held judged is e verdict v =
-    is.whole ∙ ap (λ w. judged_first w (rest_of held planned.limits.steps)) (verdict_is planned held judged is e ∙ ap search_verdict v)
+    is.whole
+    ∙ ap (λ w. judged_first w (rest_of held planned.limits.steps))
+    (verdict_is planned held judged is e ∙ ap search_verdict v)
 
 -- a start that neither wins nor fails goes on
 pub going : (planned : Planned) (held : Held) (judged : Judged) → planned.saved ≡ None → held ≡ held_in planned
@@ -188,7 +217,9 @@ going planned held judged none is e v =
       whole = ends_by planned held judged at_start e ToldGo v;
     }
 
-told_start : (plan : Plan) (keep : Bool) → answer_of plan keep (WonAt 0 []) ≡ unsaved (Won 0 (reward_in plan []) (movie_of plan []))
+told_start :
+    (plan : Plan) (keep : Bool)
+    → answer_of plan keep (WonAt 0 []) ≡ unsaved (Won 0 (reward_in plan []) (movie_of plan []))
 unfolding answer_of told_of
 told_start plan keep = refl
 
@@ -197,7 +228,9 @@ unfolding answer_of told_of
 told_failed plan keep = refl
 
 -- a start that wins is told so
-pub start_wins : (planned : Planned) (held : Held) (judged : Judged) (movie : List ℕ) (outcome : Outcome) → planned.saved ≡ None → held ≡ held_in planned
+pub start_wins :
+    (planned : Planned) (held : Held) (judged : Judged) (movie : List ℕ) (outcome : Outcome) → planned.saved ≡ None
+    → held ≡ held_in planned
     → judged ≡ judged_of held.plan (get_or held.state.front 0 []) → judged.verdict ≡ ToldWin
     → movie ≡ movie_of held.plan (get_or held.state.front 0 []) → outcome ≡ Won 0 judged.reward movie
     → (keep : Bool) → ended_of planned keep ≡ unsaved outcome
@@ -207,7 +240,8 @@ start_wins planned held judged movie outcome none opened e v m told keep =
     ap (answer_of planned.plan keep) (ends_by planned held judged is e ToldWin v)
     ∙ told_start planned.plan keep
     ∙ ap unsaved (ap₂ (Won 0)
-    (ap (λ (j : Judged). j.reward) (sym (e ∙ ap₂ (λ (p : Plan) (f : List Word). judged_of p (get_or f 0 [])) is.going is.front)))
+    (ap (λ (j : Judged). j.reward)
+    (sym (e ∙ ap₂ (λ (p : Plan) (f : List Word). judged_of p (get_or f 0 [])) is.going is.front)))
     (sym (m ∙ ap₂ (λ (p : Plan) (f : List Word). movie_of p (get_or f 0 [])) is.going is.front)) ∙ sym told)
 
 -- a start that fails is told so
@@ -238,7 +272,8 @@ going_from planned held None is some opened = absurd (cc)
 going_from planned held (Some saved) is some opened = subst (IsGoing planned) (sym opened) (resumes planned saved is)
 
 -- a search that goes on from a saved one does not look at its start
-pub goes_on : (planned : Planned) (held : Held) → is_some planned.saved ≡ true → held ≡ held_in planned → IsGoing planned held
+pub goes_on :
+    (planned : Planned) (held : Held) → is_some planned.saved ≡ true → held ≡ held_in planned → IsGoing planned held
 unfolding held_in
 goes_on planned held some opened = going_from planned held planned.saved refl some opened
 
@@ -250,7 +285,8 @@ none_from (Some saved) is = absurd (cc)
 pub starts : (planned : Planned) → is_some planned.saved ≡ false → planned.saved ≡ None
 starts planned is = none_from planned.saved is
 
-unspent_from : (planned : Planned) (saved : Option Saved) → let held : Held = held_from planned saved in held.spent ≡ false
+unspent_from : (planned : Planned) (saved : Option Saved) → let held : Held =
+    held_from planned saved in held.spent ≡ false
 unfolding opened resumed
 unspent_from planned None = refl
 unspent_from planned (Some saved) = refl
@@ -263,7 +299,9 @@ unspent_in planned held is = ap (λ (h : Held). h.spent) is ∙ unspent_from pla
 -- ---- the answer of a search that goes on, and its frames
 
 -- what is answered of the rest is the answer of the whole
-pub answered : (planned : Planned) (held : Held) (keep : Bool) (limit : ℕ) (ended : Ended) → IsGoing planned held → limit ≡ planned.limits.steps
+pub answered :
+    (planned : Planned) (held : Held) (keep : Bool) (limit : ℕ) (ended : Ended) → IsGoing planned held
+    → limit ≡ planned.limits.steps
     → answer_of held.plan keep (rest_of held limit) ≡ ended → ended ≡ ended_of planned keep
 unfolding ended_of
 answered planned held keep limit ended is limited told =
@@ -277,7 +315,9 @@ unfolding ended_of answer_of
 kept_in_range planned keep ended is ranges = subst (λ (e : Ended). IfSome e.saved IsInRange) (sym is) ranges
 
 -- the frames before the first step are within those of the search
-pub start_within : (planned : Planned) (before after : ℕ) → after ≤ before + frames_before planned → after ≤ before + frames_most planned
+pub start_within :
+    (planned : Planned) (before after : ℕ) → after ≤ before + frames_before planned
+    → after ≤ before + frames_most planned
 unfolding frames_most
 start_within planned before after ran = omega arith
 
@@ -286,12 +326,18 @@ pub all_frames : (planned : Planned) (held : Held) → IsGoing planned held
     → frames_most planned ≡ frames_before planned + frames_a_step held * planned.limits.steps
 unfolding frames_most bounds_in
 all_frames planned held is =
-    ap₂ (λ (p : Plan) (b : Bounds). frames_before planned + p.script.hold * (b.most * (b.inputs + 1)) * planned.limits.steps)
+    ap₂
+    (λ (p : Plan) (b : Bounds). frames_before planned
+    + p.script.hold * (b.most * (b.inputs + 1)) * planned.limits.steps)
     (sym is.plan) (sym is.bounds)
 
 -- those before the first step and those of all steps are within those of the search
-pub frames_going : (planned : Planned) (held : Held) (limit before between after : ℕ) → IsGoing planned held → limit ≡ planned.limits.steps
-    → between ≤ before + frames_before planned → after ≤ between + frames_a_step held * limit → after ≤ before + frames_most planned
+pub frames_going :
+    (planned : Planned) (held : Held) (limit before between after : ℕ) → IsGoing planned held
+    → limit ≡ planned.limits.steps
+    → between ≤ before + frames_before planned → after ≤ between + frames_a_step held * limit
+    → after ≤ before + frames_most planned
 frames_going planned held limit before between after is limited start ran =
-    let steps : frames_a_step held * limit ≡ frames_a_step held * planned.limits.steps = ap (λ n. frames_a_step held * n) limited in
+    let steps : frames_a_step held * limit ≡ frames_a_step held * planned.limits.steps =
+    ap (λ n. frames_a_step held * n) limited in
     omega (arith, all_frames planned held is, start, ran, steps)

@@ -24,7 +24,8 @@ use Rattle.nj_search.proofs.Sound.{RulesTell, SearchesKeep, CanRun, IsAtEnd, at_
 
 -- what was written is read
 abbrev pub WrittenIsRead : Type 0
-WrittenIsRead = (saved : Saved) → IsInRange saved → Fits saved → read_of (file_bytes 2 saved) saved.cart saved.script ≡ Ok saved
+WrittenIsRead =
+    (saved : Saved) → IsInRange saved → Fits saved → read_of (file_bytes 2 saved) saved.cart saved.script ≡ Ok saved
 
 -- nothing of a state is lost
 abbrev pub StatesAreWhole : Type 0
@@ -45,7 +46,9 @@ can_run planned is = record {
 }
 
 -- limits of fewer steps
-steps_in_range : (planned : Planned) (steps fewer : ℕ) → 1 ≤ fewer → fewer ≤ steps → AreInRange (let p = with_steps planned steps in p.limits)
+steps_in_range :
+    (planned : Planned) (steps fewer : ℕ) → 1 ≤ fewer → fewer ≤ steps
+    → AreInRange (let p = with_steps planned steps in p.limits)
     → AreInRange (let p = with_steps planned fewer in p.limits)
 steps_in_range planned steps fewer some less is = record {
   some_budget = is.some_budget;
@@ -75,7 +78,9 @@ fewer_accepted planned steps fewer less is =
     }
 
 -- nor is it else out of range
-pub fewer_steps : (planned : Planned) (steps fewer : ℕ) → 1 ≤ fewer → fewer ≤ steps → CanRun (with_steps planned steps) → CanRun (with_steps planned fewer)
+pub fewer_steps :
+    (planned : Planned) (steps fewer : ℕ) → 1 ≤ fewer → fewer ≤ steps → CanRun (with_steps planned steps)
+    → CanRun (with_steps planned fewer)
 fewer_steps planned steps fewer some less can = record {
   limits = steps_in_range planned steps fewer some less can.limits;
   hold = can.hold;
@@ -90,7 +95,8 @@ fewer_steps planned steps fewer some less can = record {
 
 -- ---- the numbers of the two files
 
-numbered_range : (cart script : ℕ) (state : State) → IsInRange (saved_of state) → IsInRange (saved_with cart script state)
+numbered_range :
+    (cart script : ℕ) (state : State) → IsInRange (saved_of state) → IsInRange (saved_with cart script state)
 numbered_range cart script state is = record {
   first_step = is.first_step;
   last_step = is.last_step;
@@ -107,7 +113,8 @@ numbered_range cart script state is = record {
 }
 
 -- numbers of lists that fit, and zeros past them
-fit_at : (seen : List (List ℕ)) → All (All (λ key. key < 2 ^ 64)) seen → (g k : ℕ) → get_or (get_or seen g []) k 0 < 2 ^ 64
+fit_at :
+    (seen : List (List ℕ)) → All (All (λ key. key < 2 ^ 64)) seen → (g k : ℕ) → get_or (get_or seen g []) k 0 < 2 ^ 64
 fit_at seen fit g k =
     elim (cases_lt g (length seen)) [
       | inl inside ↦
@@ -118,10 +125,12 @@ fit_at seen fit g k =
       | inr past ↦ subst (λ keys. get_or keys k 0 < 2 ^ 64) (sym (get_or_past seen g [] past)) (omega arith)
     ]
 
-numbered_fits : (cart script : ℕ) (state : State) → cart < 2 ^ 64 → script < 2 ^ 64 → All (All (λ key. key < 2 ^ 64)) state.seen
+numbered_fits :
+    (cart script : ℕ) (state : State) → cart < 2 ^ 64 → script < 2 ^ 64 → All (All (λ key. key < 2 ^ 64)) state.seen
     → Fits (saved_with cart script state)
 unfolding saved_of
-numbered_fits cart script state cart_fits script_fits fit = record { cart = cart_fits; script = script_fits; keys = fit_at state.seen fit }
+numbered_fits cart script state cart_fits script_fits fit =
+    record { cart = cart_fits; script = script_fits; keys = fit_at state.seen fit }
 
 -- the state does not look at them
 numbered_state : (cart script : ℕ) (state : State) → state_in (saved_with cart script state) ≡ state_in (saved_of state)
@@ -129,13 +138,16 @@ unfolding state_in front_in
 numbered_state cart script state = refl
 
 -- what is forgotten at once is forgotten of the state that the saved search says
-forgets_at_once : (bounds : Bounds) (saved : Saved) (state : State) → state_in saved ≡ state → state_from bounds saved ≡ forgetful bounds state
+forgets_at_once :
+    (bounds : Bounds) (saved : Saved) (state : State) → state_in saved ≡ state
+    → state_from bounds saved ≡ forgetful bounds state
 unfolding state_from
 forgets_at_once bounds saved state same = ap (forgetful bounds) same
 
 -- ---- the law
 
-module _ (tell : RulesTell) (keep : SearchesKeep) (come : (generations : List (List ℕ)) → AreGenerations generations → ComeOnce generations)
+module _ (tell : RulesTell) (keep : SearchesKeep)
+    (come : (generations : List (List ℕ)) → AreGenerations generations → ComeOnce generations)
     (all : (generations : List (List ℕ)) → ComeOnce generations → AreGenerations generations)
     (written : WrittenIsRead) (whole : StatesAreWhole) (alike : AForgottenStateGoesOnAlike) (add : LimitsAdd) where
   module _ (planned : Planned) (a b cart script : ℕ) (state : State) (some_a : 1 ≤ a) (some_b : 1 ≤ b)
@@ -177,11 +189,16 @@ module _ (tell : RulesTell) (keep : SearchesKeep) (come : (generations : List (L
     resumed_accepted : IsAccepted planned.plan (let p = going_on planned saved b in p.limits) (Some saved)
     unfolding most_of saved_of
     resumed_accepted =
-        let whole_plan = accepted planned.plan (let p = with_steps planned (a + b) in p.limits) planned.saved is.accepted in record {
+        let whole_plan =
+        accepted planned.plan (let p = with_steps planned (a + b) in p.limits) planned.saved is.accepted in
+        record {
           budget = whole_plan.budget;
           seen = whole_plan.seen;
-          trail = subst (λ n. most_of planned.limits planned.plan.cartridge * n ≤ 2 ^ 26) (sym same_steps) whole_plan.trail;
-          movie = subst (λ n. length planned.plan.start + planned.plan.script.hold * n ≤ 2 ^ 20) (sym same_steps) whole_plan.movie;
+          trail =
+              subst (λ n. most_of planned.limits planned.plan.cartridge * n ≤ 2 ^ 26) (sym same_steps) whole_plan.trail;
+          movie =
+              subst (λ n. length planned.plan.start + planned.plan.script.hold * n ≤ 2 ^ 20) (sym same_steps)
+              whole_plan.movie;
           front = few;
         }
 

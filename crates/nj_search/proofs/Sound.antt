@@ -62,13 +62,19 @@ well_made : RulesTell → (planned : Planned) → CanRun planned → IsWellMade 
 unfolding bounds_in game_of key_of allowed_of judged_of
 well_made tell planned can =
     let script = planned.plan.script in record {
-      some = some_word planned.plan planned.limits planned.saved (most_of planned.limits planned.plan.cartridge) can.accepted refl;
+      some =
+          some_word planned.plan planned.limits planned.saved (most_of planned.limits planned.plan.cartridge)
+          can.accepted refl;
       slots = one-le-pow planned.limits.exponent 2 (omega arith);
       room = (accepted planned.plan planned.limits planned.saved can.accepted).seen;
       inputs = can.pads;
       allowed = λ word. tell.named script.inputs.sets (ram_after planned.plan word);
-      keyed = λ word. tell.never_zero script.hash.items (length script.rules.rules) (status_of planned.plan word) (ram_after planned.plan word);
-      fit = λ word. tell.fit script.hash.items (length script.rules.rules) (status_of planned.plan word) (ram_after planned.plan word);
+      keyed =
+          λ word. tell.never_zero script.hash.items (length script.rules.rules) (status_of planned.plan word)
+          (ram_after planned.plan word);
+      fit =
+          λ word. tell.fit script.hash.items (length script.rules.rules) (status_of planned.plan word)
+          (ram_after planned.plan word);
       level = λ word. omega (arith, tell.levels script.rules.rules (status_of planned.plan word), can.rules);
     }
 
@@ -79,19 +85,24 @@ front_length : (saved : Saved) → length (front_in saved) ≡ words_of saved
 unfolding front_in
 front_length saved = length-map-range_with_len (word_at saved.words saved.step) 0 (words_of saved)
 
-word_long : (saved : Saved) → IsInRange saved → (k : ℕ) → k < words_of saved → length (word_at saved.words saved.step k) ≡ saved.step
+word_long :
+    (saved : Saved) → IsInRange saved → (k : ℕ) → k < words_of saved
+    → length (word_at saved.words saved.step k) ≡ saved.step
 word_long saved ranges k inside =
     let size : words_of saved * saved.step ≡ length saved.words = ranges.whole in
-    let more : (k + 1) * saved.step ≤ words_of saved * saved.step = mul-le-mul_right saved.step (omega (arith, inside)) in
+    let more : (k + 1) * saved.step ≤ words_of saved * saved.step =
+    mul-le-mul_right saved.step (omega (arith, inside)) in
     let next : (k + 1) * saved.step ≡ k * saved.step + saved.step = grind arith in
-    let rest : length (drop (k * saved.step) saved.words) ≡ length saved.words - k * saved.step = length-drop (k * saved.step) saved.words in
+    let rest : length (drop (k * saved.step) saved.words) ≡ length saved.words - k * saved.step =
+    length-drop (k * saved.step) saved.words in
     length-take saved.step (drop (k * saved.step) saved.words) ∙ omega (arith, size, more, next, rest)
 
 -- each as long as the steps
 front_long : (saved : Saved) → IsInRange saved → All (λ word. length word ≡ saved.step) (front_in saved)
 unfolding front_in
 front_long saved ranges k d inside =
-    let below : k < words_of saved = (let e : length (front_in saved) ≡ words_of saved = front_length saved in omega (arith, inside, e)) in
+    let below : k < words_of saved =
+    (let e : length (front_in saved) ≡ words_of saved = front_length saved in omega (arith, inside, e)) in
     ap length (get_or-map-range_with_len (word_at saved.words saved.step) 0 (words_of saved) k k d below (omega arith))
     ∙ word_long saved ranges k below
 
@@ -111,7 +122,8 @@ keys_fit saved fits g d inside k e low =
 
 -- the state that a saved search says is sound
 saved_sound : ((generations : List (List ℕ)) → AreGenerations generations → ComeOnce generations)
-    → (most : ℕ) (saved : Saved) → IsInRange saved → Fits saved → words_of saved ≤ most → IsSound most 33554432 128 33554432 (state_in saved)
+    → (most : ℕ) (saved : Saved) → IsInRange saved → Fits saved → words_of saved ≤ most
+    → IsSound most 33554432 128 33554432 (state_in saved)
 unfolding state_in
 saved_sound come most saved ranges fits few =
     let count : length (front_in saved) ≡ words_of saved = front_length saved in
@@ -137,7 +149,9 @@ pub record IsAtEnd (planned : Planned) (state : State) : Type 0 where
   pub seen : 1 ≤ length state.seen
 
 -- a search that comes to its limit does not end at its start
-not_at_start : (verdict : Verdict) (rest : SearchOutcome) (state : State) → judged_first verdict rest ≡ LimitAt state → rest ≡ LimitAt state
+not_at_start :
+    (verdict : Verdict) (rest : SearchOutcome) (state : State) → judged_first verdict rest ≡ LimitAt state
+    → rest ≡ LimitAt state
 not_at_start Go rest state is = is
 not_at_start Win rest state is = absurd (cc)
 not_at_start Fail rest state is = absurd (cc)
@@ -146,25 +160,31 @@ not_at_start Fail rest state is = absurd (cc)
 one_and : (n : ℕ) → 1 ≤ n → n ≡ (n - 1) + 1
 one_and n some = omega arith
 
-end_from_start : RulesTell → SearchesKeep → (planned : Planned) → CanRun planned → planned.saved ≡ None → (state : State)
+end_from_start :
+    RulesTell → SearchesKeep → (planned : Planned) → CanRun planned → planned.saved ≡ None → (state : State)
     → outcome_from planned None ≡ LimitAt state → IsAtEnd planned state
 unfolding outcome bounds_in opening
 end_from_start tell keep planned can none state is =
     let game = game_of planned.plan in
     let bounds = bounds_in planned in
     let limit = planned.limits.steps in
-    let rest : searched game bounds limit (opening game) ≡ LimitAt state = not_at_start (game.judged []).verdict _ state is in
+    let rest : searched game bounds limit (opening game) ≡ LimitAt state =
+    not_at_start (game.judged []).verdict _ state is in
     let well = well_made tell planned can in
-    let latest : 0 + limit + planned.plan.script.tolerance ≤ 33554432 = omega (arith, can.tolerance, can.limits.most_steps) in
+    let latest : 0 + limit + planned.plan.script.tolerance ≤ 33554432 =
+    omega (arith, can.tolerance, can.limits.most_steps) in
     let made : state.step ≡ limit = (keep.fronts game bounds limit state is).step in
     record {
-      sound = keep.goes_on game bounds 128 33554432 limit (opening game) state well latest (keep.opening game bounds 128 33554432 well) rest;
+      sound =
+          keep.goes_on game bounds 128 33554432 limit (opening game) state well latest
+          (keep.opening game bounds 128 33554432 well) rest;
       step = omega (arith, made, ap steps_before none);
       seen = keep.some_seen game bounds (limit - 1) (opening game) state
           (ap (λ n. searched game bounds n (opening game)) (sym (one_and limit can.limits.some_steps)) ∙ rest);
     }
 
-end_from_saved : RulesTell → SearchesKeep → ((generations : List (List ℕ)) → AreGenerations generations → ComeOnce generations)
+end_from_saved :
+    RulesTell → SearchesKeep → ((generations : List (List ℕ)) → AreGenerations generations → ComeOnce generations)
     → (planned : Planned) → CanRun planned → (saved : Saved) → planned.saved ≡ Some saved → (state : State)
     → outcome_from planned (Some saved) ≡ LimitAt state → IsAtEnd planned state
 unfolding bounds_in state_from state_in
@@ -178,12 +198,17 @@ end_from_saved tell keep come planned can saved goes state is =
     let well = well_made tell planned can in
     let front : words_before planned.saved ≤ most_of planned.limits planned.plan.cartridge =
     (accepted planned.plan planned.limits planned.saved can.accepted).front in
-    let few : words_of saved ≤ most_of planned.limits planned.plan.cartridge = subst (λ s. words_before s ≤ most_of planned.limits planned.plan.cartridge) goes front in
-    let begun = keep.forgets bounds 33554432 128 33554432 (state_in saved) (saved_sound come bounds.most saved ranges fits few) in
+    let few : words_of saved ≤ most_of planned.limits planned.plan.cartridge =
+    subst (λ s. words_before s ≤ most_of planned.limits planned.plan.cartridge) goes front in
+    let begun =
+    keep.forgets bounds 33554432 128 33554432 (state_in saved) (saved_sound come bounds.most saved ranges fits few)
+    in
     let steps : limit + saved.step ≤ 2 ^ 20 =
-    subst (λ s. total_steps planned.limits s ≤ 2 ^ 20) goes (few_steps planned.plan planned.limits planned.saved can.hold can.accepted) in
+    subst (λ s. total_steps planned.limits s ≤ 2 ^ 20) goes
+    (few_steps planned.plan planned.limits planned.saved can.hold can.accepted) in
     let latest : saved.step + limit + planned.plan.script.tolerance ≤ 33554432 = omega (arith, can.tolerance, steps) in
-    let made : state.step ≡ saved.step + limit = (keep.fronts_from game bounds limit from state (front_even saved ranges bounds) is).step in
+    let made : state.step ≡ saved.step + limit =
+    (keep.fronts_from game bounds limit from state (front_even saved ranges bounds) is).step in
     record {
       sound = keep.goes_on game bounds 128 33554432 limit from state well latest begun is;
       step = omega (arith, made, ap steps_before goes);
@@ -191,30 +216,39 @@ end_from_saved tell keep come planned can saved goes state is =
           (ap (λ n. searched game bounds n from) (sym (one_and limit can.limits.some_steps)) ∙ is);
     }
 
-end_from : RulesTell → SearchesKeep → ((generations : List (List ℕ)) → AreGenerations generations → ComeOnce generations)
+end_from :
+    RulesTell → SearchesKeep → ((generations : List (List ℕ)) → AreGenerations generations → ComeOnce generations)
     → (planned : Planned) → CanRun planned → (saved : Option Saved) → planned.saved ≡ saved → (state : State)
     → outcome_from planned saved ≡ LimitAt state → IsAtEnd planned state
 end_from tell keep come planned can None is state ends = end_from_start tell keep planned can is state ends
-end_from tell keep come planned can (Some saved) is state ends = end_from_saved tell keep come planned can saved is state ends
+end_from tell keep come planned can (Some saved) is state ends =
+    end_from_saved tell keep come planned can saved is state ends
 
-pub at_end : RulesTell → SearchesKeep → ((generations : List (List ℕ)) → AreGenerations generations → ComeOnce generations)
-    → (planned : Planned) → CanRun planned → (state : State) → outcome_of planned ≡ LimitAt state → IsAtEnd planned state
+pub at_end :
+    RulesTell → SearchesKeep → ((generations : List (List ℕ)) → AreGenerations generations → ComeOnce generations)
+    → (planned : Planned) → CanRun planned → (state : State) → outcome_of planned ≡ LimitAt state
+    → IsAtEnd planned state
 unfolding outcome_of
 at_end tell keep come planned can state is = end_from tell keep come planned can planned.saved refl state is
 
 -- ---- what is saved of it
 
-concat_long : (n : ℕ) (front : List Word) → All (λ word. length word ≡ n) front → length (concat front) ≡ length front * n
+concat_long :
+    (n : ℕ) (front : List Word) → All (λ word. length word ≡ n) front → length (concat front) ≡ length front * n
 concat_long n [] long = sym (zero-mul n)
 concat_long n (word ∷ words) long =
     let here : length word ≡ n = All-head (λ w. length w ≡ n) word words long in
-    let rest : length (concat words) ≡ length words * n = concat_long n words (All-tail (λ w. length w ≡ n) word words long) in
-    let both : length (word ++ concat words) ≡ length word + length (concat words) = length-append word (concat words) in
+    let rest : length (concat words) ≡ length words * n =
+    concat_long n words (All-tail (λ w. length w ≡ n) word words long) in
+    let both : length (word ++ concat words) ≡ length word + length (concat words) =
+    length-append word (concat words) in
     let more : suc (length words) * n ≡ length words * n + n = suc-mul (length words) n in
     omega (arith, here, rest, both, more)
 
 -- as many words are counted as the front has
-pub words_saved : (state : State) → 1 ≤ state.step → All (λ word. length word ≡ state.step) state.front → words_of (saved_of state) ≡ length state.front
+pub words_saved :
+    (state : State) → 1 ≤ state.step → All (λ word. length word ≡ state.step) state.front
+    → words_of (saved_of state) ≡ length state.front
 unfolding saved_of
 words_saved state some long =
     ap (λ n. n / state.step) (concat_long state.step state.front long) ∙ mul-div_cancel (length state.front) some
@@ -238,9 +272,11 @@ pub saved_in_range : ((generations : List (List ℕ)) → ComeOnce generations �
 unfolding saved_of
 saved_in_range all planned can state end =
     let sound = end.sound in
-    let total : total_steps planned.limits planned.saved ≤ 2 ^ 20 = few_steps planned.plan planned.limits planned.saved can.hold can.accepted in
+    let total : total_steps planned.limits planned.saved ≤ 2 ^ 20 =
+    few_steps planned.plan planned.limits planned.saved can.hold can.accepted in
     let some : 1 ≤ state.step = omega (arith, end.step, can.limits.some_steps) in
-    let size : length (concat state.front) ≡ length state.front * state.step = concat_long state.step state.front sound.long in
+    let size : length (concat state.front) ≡ length state.front * state.step =
+    concat_long state.step state.front sound.long in
     let words : length (concat state.front) / state.step ≡ length state.front = words_saved state some sound.long in
     record {
       first_step = some;
@@ -259,9 +295,11 @@ saved_in_range all planned can state end =
     }
 
 -- whatever the end, what is saved is in its ranges
-pub saves_in_range : RulesTell → SearchesKeep → ((generations : List (List ℕ)) → AreGenerations generations → ComeOnce generations)
+pub saves_in_range :
+    RulesTell → SearchesKeep → ((generations : List (List ℕ)) → AreGenerations generations → ComeOnce generations)
     → ((generations : List (List ℕ)) → ComeOnce generations → AreGenerations generations)
-    → (planned : Planned) → CanRun planned → (ended : SearchOutcome) → outcome_of planned ≡ ended → (keep : Bool) → IfSome (saved_in keep ended) IsInRange
+    → (planned : Planned) → CanRun planned → (ended : SearchOutcome) → outcome_of planned ≡ ended → (keep : Bool)
+    → IfSome (saved_in keep ended) IsInRange
 saves_in_range tell keeps come all planned can (WonAt step word) is keep = tt
 saves_in_range tell keeps come all planned can (ExhaustedAt step) is keep = tt
 saves_in_range tell keeps come all planned can (LimitAt state) is true =

@@ -49,7 +49,9 @@ winner_by NextExhausted old row new e h = absurd h
 winner_by (Goes state) old row new e h = absurd h
 
 -- a step that is won leaves the search as it was, and its row is that of a winner
-pub winner_in : (old : Held) (row : Row) (new : Held) → IsStep old (WonRow row) new → (new ≡ old) × ((c : Candidate) × IsWonBy old row c)
+pub winner_in :
+    (old : Held) (row : Row) (new : Held) → IsStep old (WonRow row) new
+    → (new ≡ old) × ((c : Candidate) × IsWonBy old row c)
 unfolding IsStep
 winner_in old row new h = winner_by (next_in old) old row new refl h
 
@@ -61,7 +63,8 @@ still_won old row new h = subst (λ (held : Held). IsStep held (WonRow row) new)
 pub FewPads : Plan → Type 0
 FewPads plan = (word : Word) → length ((game_of plan).allowed word) ≤ 256
 
-pub few_pads : (plan : Plan) → ((sets : List InputSet) (ram : List ℕ) → length (allowed_pads sets ram) ≤ length (named_pads sets))
+pub few_pads :
+    (plan : Plan) → ((sets : List InputSet) (ram : List ℕ) → length (allowed_pads sets ram) ≤ length (named_pads sets))
     → length (named_pads plan.script.inputs.sets) ≤ 256 → FewPads plan
 unfolding FewPads game_of allowed_of
 few_pads plan law most word = omega (arith, law plan.script.inputs.sets (ram_after plan word), most)
@@ -72,7 +75,9 @@ pub record HasParent (held : Held) (row : Row) (c : Candidate) : Type 0 where
   pub parent : get_or held.state.front (row.number / 256) [] ≡ c.parent
   pub pad : row.pad ≡ c.pad
 
-pub has_parent : WinnersTellParents → (held : Held) (row : Row) (c : Candidate) → FewPads held.plan → IsWonBy held row c → HasParent held row c
+pub has_parent :
+    WinnersTellParents → (held : Held) (row : Row) (c : Candidate) → FewPads held.plan → IsWonBy held row c
+    → HasParent held row c
 unfolding FewPads next_in row_of
 has_parent law held row c few won =
     let number : row.number ≡ c.number = ap (λ (r : Row). r.number) won.row_is in
@@ -85,24 +90,31 @@ has_parent law held row c few won =
       pad = ap (λ (r : Row). r.pad) won.row_is;
     }
 
-held_pads-push : (hold : ℕ) (word : Word) (pad : ℕ) → held_pads hold (word ++ pad ∷ []) ≡ held_pads hold word ++ replicate hold pad
+held_pads-push :
+    (hold : ℕ) (word : Word) (pad : ℕ) → held_pads hold (word ++ pad ∷ []) ≡ held_pads hold word ++ replicate hold pad
 held_pads-push hold word pad =
-    flat_map-append (λ p. replicate hold p) word (pad ∷ []) ∙ ap (λ m. held_pads hold word ++ m) (append-nil (replicate hold pad))
+    flat_map-append (λ p. replicate hold p) word (pad ∷ [])
+    ∙ ap (λ m. held_pads hold word ++ m) (append-nil (replicate hold pad))
 
 -- the movie of a word goes on with one more pad
-pub movie_child : (plan : Plan) (word : Word) (pad : ℕ) → movie_of plan (word ++ pad ∷ []) ≡ movie_of plan word ++ replicate plan.script.hold pad
+pub movie_child :
+    (plan : Plan) (word : Word) (pad : ℕ)
+    → movie_of plan (word ++ pad ∷ []) ≡ movie_of plan word ++ replicate plan.script.hold pad
 unfolding movie_of
 movie_child plan word pad =
     ap (λ m. plan.start ++ m) (held_pads-push plan.script.hold word pad)
     ∙ sym (append_assoc plan.start (held_pads plan.script.hold word) (replicate plan.script.hold pad))
 
 -- the winner's reward is in its row
-reward_is : (held : Held) (row : Row) (c : Candidate) → IsWonBy held row c → (let judged = judged_of held.plan (word_of c) in judged.reward) ≡ row.reward
+reward_is :
+    (held : Held) (row : Row) (c : Candidate) → IsWonBy held row c
+    → (let judged = judged_of held.plan (word_of c) in judged.reward) ≡ row.reward
 unfolding row_of game_of
 reward_is held row c won = sym (ap (λ (r : Row). r.reward) won.row_is)
 
 told_won : (plan : Plan) (keep : Bool) (step : ℕ) (word : Word)
-    → answer_of plan keep (WonAt step word) ≡ unsaved (Won step (let judged = judged_of plan word in judged.reward) (movie_of plan word))
+    → answer_of plan keep (WonAt step word)
+    ≡ unsaved (Won step (let judged = judged_of plan word in judged.reward) (movie_of plan word))
 unfolding answer_of told_of
 told_won plan keep step word = refl
 
@@ -115,7 +127,8 @@ pub won_told : (held : Held) (row : Row) (c : Candidate) (begun movie : List ℕ
 won_told held row c begun movie steps keep won parent is_begun is_movie =
     let whole : movie_of held.plan (word_of c) ≡ movie =
     movie_child held.plan c.parent c.pad
-    ∙ ap₂ (λ (w : Word) (p : ℕ). movie_of held.plan w ++ replicate held.plan.script.hold p) (sym parent.parent) (sym parent.pad)
+    ∙ ap₂ (λ (w : Word) (p : ℕ). movie_of held.plan w ++ replicate held.plan.script.hold p) (sym parent.parent)
+    (sym parent.pad)
     ∙ ap (λ m. m ++ replicate held.plan.script.hold row.pad) (sym is_begun)
     ∙ sym is_movie in
     ap (answer_of held.plan keep) (rest_by held steps (NextWon c) won.next)
@@ -128,7 +141,9 @@ pub record IsWinner (held : Held) (row : Row) : Type 0 where
   pub won : IsWonBy held row candidate
   pub parent : HasParent held row candidate
 
-pub winner_stands : WinnersTellParents → ((sets : List InputSet) (ram : List ℕ) → length (allowed_pads sets ram) ≤ length (named_pads sets))
+pub winner_stands :
+    WinnersTellParents
+    → ((sets : List InputSet) (ram : List ℕ) → length (allowed_pads sets ram) ≤ length (named_pads sets))
     → (held : Held) (row : Row) (inputs : ℕ) → inputs ≡ length (named_pads held.plan.script.inputs.sets) → inputs ≤ 256
     → IsStep held (WonRow row) held → IsWinner held row
 winner_stands places named held row inputs counted few step =
@@ -143,10 +158,12 @@ winner_stands places named held row inputs counted few step =
 -- what is told of a winner is the outcome that is made of its row
 pub won_outcome : (held : Held) (row : Row) (script : Record) (hold step : ℕ) (begun movie : List ℕ) (outcome : Outcome)
     → IsWinner held row → script ≡ held.plan.script → hold ≡ script.hold → step ≡ held.state.step
-    → begun ≡ movie_of held.plan (get_or held.state.front (row.number / 256) []) → movie ≡ begun ++ replicate hold row.pad
+    → begun ≡ movie_of held.plan (get_or held.state.front (row.number / 256) [])
+    → movie ≡ begun ++ replicate hold row.pad
     → outcome ≡ Won (step + 1) row.reward movie
     → EndsIn held outcome
-won_outcome held row script hold step begun movie outcome winner is_script is_hold is_step is_begun is_movie is steps keep =
+won_outcome held row script hold step begun movie outcome winner is_script is_hold is_step is_begun is_movie is steps
+    keep =
     let held_for : hold ≡ held.plan.script.hold = is_hold ∙ ap (λ (s : Record). s.hold) is_script in
     won_told held row winner.candidate begun movie steps keep winner.won winner.parent is_begun
     (is_movie ∙ ap (λ n. begun ++ replicate n row.pad) held_for)
@@ -171,7 +188,8 @@ exhausted_in old new h = exhausted_by (next_in old) old new h
 pub exhausted_same : (old new : Held) → IsStep old NothingKept new → new ≡ old
 exhausted_same old new h = (exhausted_in old new h).0
 
-told_exhausted : (plan : Plan) (keep : Bool) (step : ℕ) → answer_of plan keep (ExhaustedAt step) ≡ unsaved (Exhausted step)
+told_exhausted :
+    (plan : Plan) (keep : Bool) (step : ℕ) → answer_of plan keep (ExhaustedAt step) ≡ unsaved (Exhausted step)
 unfolding answer_of told_of
 told_exhausted plan keep step = refl
 
@@ -187,12 +205,16 @@ exhausted_told old new step h is_step steps keep =
 
 -- ---- the search goes on
 
-goes_by : (n : Next) (old new : Held) → IsStepBy n old Go new → (state : State) × (n ≡ Goes state) × (new ≡ record old { state = state })
+goes_by :
+    (n : Next) (old new : Held) → IsStepBy n old Go new
+    → (state : State) × (n ≡ Goes state) × (new ≡ record old { state = state })
 goes_by (NextWon c) old new h = absurd h
 goes_by NextExhausted old new h = absurd h
 goes_by (Goes state) old new h = (state, refl, h)
 
-further_to : StepsAreCounted → (old : Held) (state : State) → old.spent ≡ false → next_in old ≡ Goes state → IsFurther old (record old { state = state })
+further_to :
+    StepsAreCounted → (old : Held) (state : State) → old.spent ≡ false → next_in old ≡ Goes state
+    → IsFurther old (record old { state = state })
 unfolding rest_of next_in
 further_to law old state unspent e = record {
   plan = refl;
@@ -211,23 +233,30 @@ further law old new unspent h =
 
 -- ---- the end of any step
 
-went_on : (old new : Held) → IsStep old Go new → (state : State) × (next_in old ≡ Goes state) × (new ≡ record old { state = state })
+went_on :
+    (old new : Held) → IsStep old Go new
+    → (state : State) × (next_in old ≡ Goes state) × (new ≡ record old { state = state })
 unfolding IsStep
 went_on old new h = goes_by (next_in old) old new h
 
 -- after a step the search is not spent
-pub unspent_after : (old new : Held) (stepped : Stepped) → old.spent ≡ false → IsStep old stepped new → new.spent ≡ false
+pub unspent_after :
+    (old new : Held) (stepped : Stepped) → old.spent ≡ false → IsStep old stepped new → new.spent ≡ false
 unspent_after old new (WonRow row) unspent h = ap (λ (held : Held). held.spent) (winner_in old row new h).0 ∙ unspent
 unspent_after old new NothingKept unspent h = ap (λ (held : Held). held.spent) (exhausted_same old new h) ∙ unspent
 unspent_after old new Go unspent h = ap (λ (held : Held). held.spent) (went_on old new h).2 ∙ unspent
 
 -- and no step has a greater number than the limit
-pub step_after : StepsAreCounted → (old new : Held) (stepped : Stepped) → old.spent ≡ false → IsStep old stepped new → old.state.step < 16777215
+pub step_after :
+    StepsAreCounted → (old new : Held) (stepped : Stepped) → old.spent ≡ false → IsStep old stepped new
+    → old.state.step < 16777215
     → new.state.step ≤ 16777215
 step_after law old new (WonRow row) unspent h lt =
-    let same : new.state.step ≡ old.state.step = ap (λ (held : Held). held.state.step) (winner_in old row new h).0 in omega arith
+    let same : new.state.step ≡ old.state.step = ap (λ (held : Held). held.state.step) (winner_in old row new h).0 in
+    omega arith
 step_after law old new NothingKept unspent h lt =
-    let same : new.state.step ≡ old.state.step = ap (λ (held : Held). held.state.step) (exhausted_same old new h) in omega arith
+    let same : new.state.step ≡ old.state.step = ap (λ (held : Held). held.state.step) (exhausted_same old new h) in
+    omega arith
 step_after law old new Go unspent h lt = omega (arith, (further law old new unspent h).step)
 
 -- the row of a step that was won is still that of the winner
@@ -237,7 +266,8 @@ can_end old new NothingKept h = tt
 can_end old new Go h = tt
 
 -- what a step ends the search with is told of the search before it
-pub told_step : (old new : Held) (stepped : Stepped) (told : Option Outcome) → IsStep old stepped new → IsEnded stepped new told
+pub told_step :
+    (old new : Held) (stepped : Stepped) (told : Option Outcome) → IsStep old stepped new → IsEnded stepped new told
     → IfSome told (EndsIn old)
 told_step old new (WonRow row) None h e = tt
 told_step old new (WonRow row) (Some outcome) h e = told_before old new outcome (winner_in old row new h).0 e
@@ -248,10 +278,13 @@ told_step old new Go told h e =
     subst (λ (t : Option Outcome). IfSome t (EndsIn old)) (sym e) tt
 
 -- and where it ends nothing the search is one step further
-pub further_step : StepsAreCounted → (old new : Held) (stepped : Stepped) (told : Option Outcome) → old.spent ≡ false → IsStep old stepped new
+pub further_step :
+    StepsAreCounted → (old new : Held) (stepped : Stepped) (told : Option Outcome) → old.spent ≡ false
+    → IsStep old stepped new
     → IsEnded stepped new told → IfNone told (IsFurther old new)
 further_step law old new (WonRow row) None unspent h e = absurd e
 further_step law old new (WonRow row) (Some outcome) unspent h e = tt
-further_step law old new NothingKept told unspent h e = subst (λ (t : Option Outcome). IfNone t (IsFurther old new)) (sym e) tt
+further_step law old new NothingKept told unspent h e =
+    subst (λ (t : Option Outcome). IfNone t (IsFurther old new)) (sym e) tt
 further_step law old new Go told unspent h e =
     subst (λ (t : Option Outcome). IfNone t (IsFurther old new)) (sym e) (further law old new unspent h)

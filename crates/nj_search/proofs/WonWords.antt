@@ -24,21 +24,27 @@ use Rattle.nj_search.proofs.Sound.{front_even}
 
 -- a movie is read as its word
 abbrev pub MoviesAreRead : Type 0
-MoviesAreRead = (hold : ℕ) (start movie : List ℕ) (word : Word) → 1 ≤ hold → (word_of hold start movie ≡ Ok word) ↔ (movie ≡ start ++ held_pads hold word)
+MoviesAreRead =
+    (hold : ℕ) (start movie : List ℕ) (word : Word) → 1 ≤ hold
+    → (word_of hold start movie ≡ Ok word) ↔ (movie ≡ start ++ held_pads hold word)
 
 -- a replay tells of its word
 abbrev pub ReplaysTell : Type 0
-ReplaysTell = (plan : Plan) (word : Word) → 1 ≤ plan.script.hold → replay_of plan (movie_of plan word) ≡ Ok (replayed_of plan word)
+ReplaysTell =
+    (plan : Plan) (word : Word) → 1 ≤ plan.script.hold
+    → replay_of plan (movie_of plan word) ≡ Ok (replayed_of plan word)
 
 -- each pad of a word is held for the frames of a step
 length-held : (hold : ℕ) (word : Word) → length (held_pads hold word) ≡ hold * length word
 length-held hold [] = omega arith
 length-held hold (pad ∷ word) = grind (arith, length-append, length-replicate, length-held hold word)
 
-length-movie : (plan : Plan) (word : Word) → length (movie_of plan word) ≡ length plan.start + plan.script.hold * length word
+length-movie :
+    (plan : Plan) (word : Word) → length (movie_of plan word) ≡ length plan.start + plan.script.hold * length word
 unfolding movie_of
 length-movie plan word =
-    length-append plan.start (held_pads plan.script.hold word) ∙ ap (λ n. length plan.start + n) (length-held plan.script.hold word)
+    length-append plan.start (held_pads plan.script.hold word)
+    ∙ ap (λ n. length plan.start + n) (length-held plan.script.hold word)
 
 -- the search's win is the rules' win
 wins_too : (verdict : Verdict) → search_verdict verdict ≡ Wins → verdict ≡ Win
@@ -51,7 +57,8 @@ unfolding game_of
 won_by plan word h = wins_too (judged_of plan word).verdict h
 
 won_as : (plan : Plan) (word : Word) (step : ℕ) → length word ≡ step → (judged_of plan word).verdict ≡ Win
-    → replayed_of plan word ≡ record { step = step; frames = length (movie_of plan word); reward = reward_in plan word; verdict = Win }
+    → replayed_of plan word
+    ≡ record { step = step; frames = length (movie_of plan word); reward = reward_in plan word; verdict = Win }
 unfolding replayed_of
 won_as plan word step long win =
     λ i. record { step = long i; frames = length (movie_of plan word); reward = reward_in plan word; verdict = win i }
@@ -61,7 +68,9 @@ record IsWonBy (planned : Planned) (saved : Option Saved) (step : ℕ) (word : W
   within : IsWonWithin (total_steps planned.limits saved) step word
   wins : ((game_of planned.plan).judged word).verdict ≡ Wins
 
-won_from : WonWordsAreAsLong → WonWins → WonWordsAreAsLongFrom → WonWinsFrom → (planned : Planned) (saved : Option Saved) (step : ℕ) (word : Word)
+won_from :
+    WonWordsAreAsLong → WonWins → WonWordsAreAsLongFrom → WonWinsFrom
+    → (planned : Planned) (saved : Option Saved) (step : ℕ) (word : Word)
     → IfSome saved IsInRange → outcome_from planned saved ≡ WonAt step word → IsWonBy planned saved step word
 unfolding state_from state_in
 won_from lengths wins lengths_from wins_from planned None step word ranges won =
@@ -77,13 +86,16 @@ won_from lengths wins lengths_from wins_from planned (Some saved) step word rang
       wins = wins_from (game_of planned.plan) (bounds_in planned) planned.limits.steps from step word won;
     }
 
-pub won_replays : WonWordsAreAsLong → WonWins → WonWordsAreAsLongFrom → WonWinsFrom → MoviesAreRead → ReplaysTell → AWonWordReplays
+pub won_replays :
+    WonWordsAreAsLong → WonWins → WonWordsAreAsLongFrom → WonWinsFrom → MoviesAreRead → ReplaysTell → AWonWordReplays
 unfolding outcome_of movie_of
 won_replays lengths wins lengths_from wins_from read tell planned step word hold ranges none won =
     let by = won_from lengths wins lengths_from wins_from planned planned.saved step word ranges won in
     let plan = planned.plan in
-    let within : length word ≤ total_steps planned.limits planned.saved = omega (arith, by.within.long, by.within.within) in
-    let fits : length planned.plan.start + planned.plan.script.hold * total_steps planned.limits planned.saved ≤ 2 ^ 20 =
+    let within : length word ≤ total_steps planned.limits planned.saved =
+    omega (arith, by.within.long, by.within.within) in
+    let fits :
+    length planned.plan.start + planned.plan.script.hold * total_steps planned.limits planned.saved ≤ 2 ^ 20 =
     (accepted planned.plan planned.limits planned.saved none).movie in
     record {
       long = by.within.long;

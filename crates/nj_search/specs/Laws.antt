@@ -17,8 +17,8 @@ use Rattle.nj_expand.specs.Saving.{saved_of, state_in}
 use Rattle.nj_search.specs.Plans.{Planned, AreInRange, inputs_of, refusal_of, bounds_in}
 use Rattle.nj_search.specs.Ends.{outcome_of, reward_in}
 
--- a plan that may be made: its limits, its script and its saved search are in their ranges, its script names at most all
--- 256 pads, and nothing of it is refused
+-- a plan that may be made: its limits, its script and its saved search are in their ranges, its script names at most
+-- all 256 pads, and nothing of it is refused
 pub record IsPlan (planned : Planned) : Type 0 where
   pub limits : AreInRange planned.limits
   pub script : IsScriptInRange planned.plan.script

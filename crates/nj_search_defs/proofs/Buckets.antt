@@ -12,15 +12,18 @@ use Rattle.nj_search_defs.specs.Laws.{BucketsAreBounded, LargeQuotasKeepTheFirst
 use Rattle.nj_search_defs.proofs.Limited.{limited_all, limited_quota}
 
 -- candidates of one bucket are alike with the same others
-alike_same : (game : Game) (a b : Candidate) → is_alike game a b ≡ true → (c : Candidate) → is_alike game a c ≡ is_alike game b c
+alike_same : (game : Game) (a b : Candidate) → is_alike game a b ≡ true → (c : Candidate)
+    → is_alike game a c ≡ is_alike game b c
 alike_same game a b is c =
     ap (λ values. same_values values (game.bucket (word_of c)))
-    ((slice_eq-Decides Decides-int_eq (game.bucket (word_of a)) (game.bucket (word_of b)) (is_alike game a b) refl).0 is)
+    ((slice_eq-Decides Decides-int_eq (game.bucket (word_of a)) (game.bucket (word_of b)) (is_alike game a b) refl).0
+    is)
 
 pub buckets_are_bounded : BucketsAreBounded
 unfolding kept_of kept
 buckets_are_bounded game bounds state c =
-    limited_quota (is_alike game) bounds.most bounds.quota (alike_same game) c (in_order (is_before game) (fresh_of game bounds state))
+    limited_quota (is_alike game) bounds.most bounds.quota (alike_same game) c
+    (in_order (is_before game) (fresh_of game bounds state))
 
 pub large_quotas_keep_the_first : LargeQuotasKeepTheFirst
 unfolding kept_of kept

@@ -16,7 +16,8 @@ module _ (slots room : ℕ) where
   forgotten_again [] = refl
   forgotten_again (keys ∷ rest) =
       elim (nat_le (key_count (keys ∷ rest) + room) slots) as (λ b. nat_le (key_count (keys ∷ rest) + room) slots ≡ b
-      → forgotten slots room (cond b (keys ∷ rest) (forgotten slots room rest)) ≡ cond b (keys ∷ rest) (forgotten slots room rest)) [
+      → forgotten slots room (cond b (keys ∷ rest) (forgotten slots room rest))
+      ≡ cond b (keys ∷ rest) (forgotten slots room rest)) [
         | true ↦ λ e. ap (λ b. cond b (keys ∷ rest) (forgotten slots room rest)) e
         | false ↦ λ e. forgotten_again rest
       ] refl
@@ -25,16 +26,19 @@ module _ (slots room : ℕ) where
   pub All-forgotten : (P : List ℕ → Type 0) (seen : Seen) → All P seen → All P (forgotten slots room seen)
   All-forgotten P [] all = all
   All-forgotten P (keys ∷ rest) all =
-      elim (nat_le (key_count (keys ∷ rest) + room) slots) as (λ b. All P (cond b (keys ∷ rest) (forgotten slots room rest))) [
+      elim (nat_le (key_count (keys ∷ rest) + room) slots) as (λ b.
+      All P (cond b (keys ∷ rest) (forgotten slots room rest))) [
         | true ↦ all
         | false ↦ All-forgotten P rest (All-tail P keys rest all)
       ]
 
   -- no key comes twice in what is left
-  pub forgotten_once : (seen : Seen) → AllPairs (λ a b. a ≢ b) (concat seen) → AllPairs (λ a b. a ≢ b) (concat (forgotten slots room seen))
+  pub forgotten_once : (seen : Seen) → AllPairs (λ a b. a ≢ b) (concat seen)
+      → AllPairs (λ a b. a ≢ b) (concat (forgotten slots room seen))
   forgotten_once [] once = once
   forgotten_once (keys ∷ rest) once =
-      elim (nat_le (key_count (keys ∷ rest) + room) slots) as (λ b. AllPairs (λ a b. a ≢ b) (concat (cond b (keys ∷ rest) (forgotten slots room rest)))) [
+      elim (nat_le (key_count (keys ∷ rest) + room) slots) as (λ b.
+      AllPairs (λ a b. a ≢ b) (concat (cond b (keys ∷ rest) (forgotten slots room rest)))) [
         | true ↦ once
         | false ↦ forgotten_once rest (AllPairs-right (λ a b. a ≢ b) keys (concat rest) once)
       ]
@@ -43,18 +47,21 @@ module _ (slots room : ℕ) where
   forgotten_few [] = omega arith
   forgotten_few (keys ∷ rest) =
       let less : length (forgotten slots room rest) ≤ length rest = forgotten_few rest in
-      elim (nat_le (key_count (keys ∷ rest) + room) slots) as (λ b. length (cond b (keys ∷ rest) (forgotten slots room rest)) ≤ length (keys ∷ rest)) [
+      elim (nat_le (key_count (keys ∷ rest) + room) slots) as (λ b.
+      length (cond b (keys ∷ rest) (forgotten slots room rest)) ≤ length (keys ∷ rest)) [
         | true ↦ omega arith
         | false ↦ omega (arith, less)
       ]
 
   -- what is left has room for as many keys more, where these have room alone
-  pub forgotten_fits : (n : ℕ) → n ≤ room → n ≤ slots → (seen : Seen) → key_count (forgotten slots room seen) + n ≤ slots
+  pub forgotten_fits : (n : ℕ) → n ≤ room → n ≤ slots → (seen : Seen)
+      → key_count (forgotten slots room seen) + n ≤ slots
   forgotten_fits n less alone [] = omega (arith, alone)
   forgotten_fits n less alone (keys ∷ rest) =
       elim (nat_le (key_count (keys ∷ rest) + room) slots) as (λ b. nat_le (key_count (keys ∷ rest) + room) slots ≡ b
       → key_count (cond b (keys ∷ rest) (forgotten slots room rest)) + n ≤ slots) [
-        | true ↦ λ e. let fits : key_count (keys ∷ rest) + room ≤ slots = leb-true (key_count (keys ∷ rest) + room) slots e in omega (arith, fits, less)
+        | true ↦ λ e. let fits : key_count (keys ∷ rest) + room ≤ slots =
+            leb-true (key_count (keys ∷ rest) + room) slots e in omega (arith, fits, less)
         | false ↦ λ e. forgotten_fits n less alone rest
       ] refl
 
@@ -63,11 +70,13 @@ same_seen : (bounds : Bounds) (state : State) → seen_of bounds (forgetful boun
 unfolding seen_of
 same_seen bounds state = forgotten_again bounds.slots (length state.front * bounds.inputs) state.seen
 
-same_step : (game : Game) (bounds : Bounds) (state : State) → next game bounds (forgetful bounds state) ≡ next game bounds state
+same_step : (game : Game) (bounds : Bounds) (state : State)
+    → next game bounds (forgetful bounds state) ≡ next game bounds state
 unfolding next kept_of fresh_of state_after lives_of
 same_step game bounds state =
     ap (λ (seen : Seen). won_or (winner game (lives_of game state))
-    (exhausted_or (kept game bounds.most bounds.quota (fresh game seen (lives_of game state))) (λ (ks : List Candidate). record {
+    (exhausted_or (kept game bounds.most bounds.quota (fresh game seen (lives_of game state)))
+    (λ (ks : List Candidate). record {
       step = state.step + 1;
       front = map word_of ks;
       seen = seen ++ generation game (fresh game seen (lives_of game state)) ∷ [];

@@ -37,11 +37,13 @@ module _ (slots room old step : ℕ) (seen : Seen) (sound : AreSound old step se
     rising = All-forgotten slots room (λ keys. IsStrictlyIncreasing (0 ∷ keys)) seen sound.rising;
     once = forgotten_once slots room seen sound.once;
     fit = All-forgotten slots room (All (λ key. key < 2 ^ 64)) seen sound.fit;
-    room = let few : key_count (forgotten slots room seen) + 0 ≤ slots = forgotten_fits slots room 0 (omega arith) (omega arith) seen in omega (arith, few);
+    room = let few : key_count (forgotten slots room seen) + 0 ≤ slots =
+        forgotten_fits slots room 0 (omega arith) (omega arith) seen in omega (arith, few);
   }
 
 -- the seen keys of a sound state
-of_state : (most slots levels latest : ℕ) (state : State) → IsSound most slots levels latest state → AreSound slots state.step state.seen
+of_state : (most slots levels latest : ℕ) (state : State) → IsSound most slots levels latest state
+    → AreSound slots state.step state.seen
 of_state most slots levels latest state sound = record {
   generations = sound.generations;
   filled = sound.filled;
@@ -55,7 +57,8 @@ pub forgetting_is_sound : ForgettingIsSound
 unfolding seen_of
 forgetting_is_sound bounds slots levels latest state sound =
     let seen : AreSound bounds.slots state.step (seen_of bounds state) =
-    left_sound bounds.slots (length state.front * bounds.inputs) slots state.step state.seen (of_state bounds.most slots levels latest state sound) in
+    left_sound bounds.slots (length state.front * bounds.inputs) slots state.step state.seen
+    (of_state bounds.most slots levels latest state sound) in
     record {
       some = sound.some;
       few = sound.few;
@@ -71,31 +74,40 @@ forgetting_is_sound bounds slots levels latest state sound =
     }
 
 -- with a generation more
-module _ (slots step : ℕ) (seen : Seen) (keys : List ℕ) (sound : AreSound slots step seen) (some : 1 ≤ length keys) (up : AllPairs (λ a b. a < b) keys)
-    (keyed : All (λ key. key ≢ 0) keys) (fit : All (λ key. key < 2 ^ 64) keys) (new : All (λ a. All (λ b. a ≢ b) keys) (concat seen)) (few : key_count seen + length keys ≤ slots) where
+module _ (slots step : ℕ) (seen : Seen) (keys : List ℕ) (sound : AreSound slots step seen) (some : 1 ≤ length keys)
+    (up : AllPairs (λ a b. a < b) keys)
+    (keyed : All (λ key. key ≢ 0) keys) (fit : All (λ key. key < 2 ^ 64) keys)
+    (new : All (λ a. All (λ b. a ≢ b) keys) (concat seen)) (few : key_count seen + length keys ≤ slots) where
   with_generation : AreSound slots (step + 1) (seen ++ keys ∷ [])
   with_generation = record {
     generations = omega (arith, length_push seen keys, sound.generations);
-    filled = All-append (λ ks. 1 ≤ length ks) seen (keys ∷ []) sound.filled (All-cons (λ ks. 1 ≤ length ks) keys [] some (All-nil (λ ks. 1 ≤ length ks)));
+    filled = All-append (λ ks. 1 ≤ length ks) seen (keys ∷ []) sound.filled
+        (All-cons (λ ks. 1 ≤ length ks) keys [] some (All-nil (λ ks. 1 ≤ length ks)));
     rising = All-append (λ ks. IsStrictlyIncreasing (0 ∷ ks)) seen (keys ∷ []) sound.rising
-        (All-cons (λ ks. IsStrictlyIncreasing (0 ∷ ks)) keys [] (up_from_0 keys up keyed) (All-nil (λ ks. IsStrictlyIncreasing (0 ∷ ks))));
+        (All-cons (λ ks. IsStrictlyIncreasing (0 ∷ ks)) keys [] (up_from_0 keys up keyed)
+        (All-nil (λ ks. IsStrictlyIncreasing (0 ∷ ks))));
     once = subst (AllPairs (λ a b. a ≢ b)) (sym (concat_push seen keys))
         (AllPairs-append (λ a b. a ≢ b) (concat seen) keys sound.once (up_differ keys up) new);
-    fit = All-append (All (λ key. key < 2 ^ 64)) seen (keys ∷ []) sound.fit (All-cons (All (λ key. key < 2 ^ 64)) keys [] fit (All-nil (All (λ key. key < 2 ^ 64))));
-    room = let more : key_count (seen ++ keys ∷ []) ≡ key_count seen + length keys = sum_by_push length seen keys in omega (arith, more, few);
+    fit = All-append (All (λ key. key < 2 ^ 64)) seen (keys ∷ []) sound.fit
+        (All-cons (All (λ key. key < 2 ^ 64)) keys [] fit (All-nil (All (λ key. key < 2 ^ 64))));
+    room = let more : key_count (seen ++ keys ∷ []) ≡ key_count seen + length keys =
+        sum_by_push length seen keys in omega (arith, more, few);
   }
 
 -- ---- what holds of the mark
 
-top_within : (game : Game) (levels : ℕ) → ((word : Word) → (game.judged word).level ≤ levels) → (cs : List Candidate) → top_level game cs ≤ levels
+top_within : (game : Game) (levels : ℕ) → ((word : Word) → (game.judged word).level ≤ levels) → (cs : List Candidate)
+    → top_level game cs ≤ levels
 top_within game levels few [] = omega arith
 top_within game levels few (c ∷ cs) = max-le (few (word_of c)) (top_within game levels few cs)
 
 module _ (game : Game) (levels latest step tolerance : ℕ) (cs : List Candidate) (mark : Mark) where
-  mark_level : ((word : Word) → (game.judged word).level ≤ levels) → mark.level ≤ levels → (raised game step tolerance cs mark).level ≤ levels
+  mark_level : ((word : Word) → (game.judged word).level ≤ levels) → mark.level ≤ levels
+      → (raised game step tolerance cs mark).level ≤ levels
   unfolding raised
   mark_level few low =
-      elim (nat_lt mark.level (top_level game cs)) as (λ b. (cond b (record { level = top_level game cs; until = step + tolerance }) mark).level ≤ levels) [
+      elim (nat_lt mark.level (top_level game cs)) as (λ b.
+      (cond b (record { level = top_level game cs; until = step + tolerance }) mark).level ≤ levels) [
         | true ↦ top_within game levels few cs
         | false ↦ low
       ]
@@ -103,7 +115,8 @@ module _ (game : Game) (levels latest step tolerance : ℕ) (cs : List Candidate
   mark_until : step + tolerance ≤ latest → mark.until ≤ latest → (raised game step tolerance cs mark).until ≤ latest
   unfolding raised
   mark_until within low =
-      elim (nat_lt mark.level (top_level game cs)) as (λ b. (cond b (record { level = top_level game cs; until = step + tolerance }) mark).until ≤ latest) [
+      elim (nat_lt mark.level (top_level game cs)) as (λ b.
+      (cond b (record { level = top_level game cs; until = step + tolerance }) mark).until ≤ latest) [
         | true ↦ within
         | false ↦ low
       ]
@@ -117,28 +130,39 @@ module _ (game : Game) (bounds : Bounds) (levels latest : ℕ) (made : IsWellMad
   -- the keys of the candidates have slots
   candidates_fit : (front : List Word) → length front ≤ bounds.most → length front * bounds.inputs ≤ bounds.slots
   candidates_fit front few =
-      let less : length front * bounds.inputs ≤ bounds.most * bounds.inputs = mul-le-mul_right bounds.inputs few in omega (arith, less, made.room)
+      let less : length front * bounds.inputs ≤ bounds.most * bounds.inputs = mul-le-mul_right bounds.inputs few in
+      omega (arith, less, made.room)
 
-  seen_after : (state new : State) → IsSound bounds.most bounds.slots levels latest state → next game bounds state ≡ Goes new
-      → AreSound bounds.slots (state.step + 1) (seen_of bounds state ++ generation game (fresh_of game bounds state) ∷ [])
+  seen_after : (state new : State) → IsSound bounds.most bounds.slots levels latest state
+      → next game bounds state ≡ Goes new
+      → AreSound bounds.slots (state.step + 1)
+      (seen_of bounds state ++ generation game (fresh_of game bounds state) ∷ [])
   unfolding seen_of
   seen_after state new sound goes =
       let room : ℕ = length state.front * bounds.inputs in
-      let few : length (generation game (fresh_of game bounds state)) ≤ length state.front * bounds.inputs = generation_few game bounds state bounds.inputs made.allowed in
-      let fits : key_count (seen_of bounds state) + length (generation game (fresh_of game bounds state)) ≤ bounds.slots =
-      forgotten_fits bounds.slots room (length (generation game (fresh_of game bounds state))) few (omega (arith, few, candidates_fit state.front sound.few)) state.seen in
+      let few : length (generation game (fresh_of game bounds state)) ≤ length state.front * bounds.inputs =
+      generation_few game bounds state bounds.inputs made.allowed in
+      let fits : key_count (seen_of bounds state) + length (generation game (fresh_of game bounds state))
+      ≤ bounds.slots =
+      forgotten_fits bounds.slots room (length (generation game (fresh_of game bounds state))) few
+      (omega (arith, few, candidates_fit state.front sound.few)) state.seen in
       with_generation bounds.slots state.step (seen_of bounds state) (generation game (fresh_of game bounds state))
-      (left_sound bounds.slots room bounds.slots state.step state.seen (of_state bounds.most bounds.slots levels latest state sound))
-      (generation_some game bounds state (some_kept game bounds state new goes)) (generation_up game bounds state few_bytes)
-      (All-generation game bounds state (λ key. key ≢ 0) made.keyed) (All-generation game bounds state (λ key. key < 2 ^ 64) made.fit)
+      (left_sound bounds.slots room bounds.slots state.step state.seen
+      (of_state bounds.most bounds.slots levels latest state sound))
+      (generation_some game bounds state (some_kept game bounds state new goes))
+      (generation_up game bounds state few_bytes)
+      (All-generation game bounds state (λ key. key ≢ 0) made.keyed)
+      (All-generation game bounds state (λ key. key < 2 ^ 64) made.fit)
       (generation_new game bounds state) fits
 
-  step_is_sound : (state new : State) → state.step + 1 + bounds.tolerance ≤ latest → IsSound bounds.most bounds.slots levels latest state
+  step_is_sound : (state new : State) → state.step + 1 + bounds.tolerance ≤ latest
+      → IsSound bounds.most bounds.slots levels latest state
       → next game bounds state ≡ Goes new → IsSound bounds.most bounds.slots levels latest new
   unfolding state_after
   step_is_sound state new within sound goes =
       let to : state_after game bounds state (kept_of game bounds state) ≡ new = goes_to game bounds state new goes in
-      let seen : AreSound bounds.slots new.step new.seen = subst (λ (s : State). AreSound bounds.slots s.step s.seen) to (seen_after state new sound goes) in
+      let seen : AreSound bounds.slots new.step new.seen =
+      subst (λ (s : State). AreSound bounds.slots s.step s.seen) to (seen_after state new sound goes) in
       record {
         some = some_word game bounds state new goes;
         few = front_is_bounded game bounds state new goes;
@@ -149,28 +173,36 @@ module _ (game : Game) (bounds : Bounds) (levels latest : ℕ) (made : IsWellMad
         once = seen.once;
         fit = seen.fit;
         room = seen.room;
-        level = subst (λ (s : State). s.mark.level ≤ levels) to (mark_level game levels latest (state.step + 1) bounds.tolerance (kept_of game bounds state) state.mark made.level sound.level);
-        until = subst (λ (s : State). s.mark.until ≤ latest) to (mark_until game levels latest (state.step + 1) bounds.tolerance (kept_of game bounds state) state.mark within sound.until);
+        level = subst (λ (s : State). s.mark.level ≤ levels) to
+            (mark_level game levels latest (state.step + 1) bounds.tolerance (kept_of game bounds state)
+            state.mark made.level sound.level);
+        until = subst (λ (s : State). s.mark.until ≤ latest) to
+            (mark_until game levels latest (state.step + 1) bounds.tolerance (kept_of game bounds state)
+            state.mark within sound.until);
       }
 
 -- ---- the first step of a search that comes to its limit
 
-goes_first : (step : ℕ) (n : Next) (f : State → Outcome) (state : State) → then_go_on step n f ≡ LimitAt state → (new : State) × (n ≡ Goes new) × (f new ≡ LimitAt state)
+goes_first : (step : ℕ) (n : Next) (f : State → Outcome) (state : State) → then_go_on step n f ≡ LimitAt state
+    → (new : State) × (n ≡ Goes new) × (f new ≡ LimitAt state)
 goes_first step (Won c) f state h = absurd (cc)
 goes_first step Exhausted f state h = absurd (cc)
 goes_first step (Goes new) f state h = (new, refl, h)
 
-first_step : (game : Game) (bounds : Bounds) (limit : ℕ) (from state : State) → searched game bounds (suc limit) from ≡ LimitAt state
+first_step : (game : Game) (bounds : Bounds) (limit : ℕ) (from state : State)
+    → searched game bounds (suc limit) from ≡ LimitAt state
     → (new : State) × (next game bounds from ≡ Goes new) × (searched game bounds limit new ≡ LimitAt state)
 unfolding searched
-first_step game bounds limit from state h = goes_first (from.step + 1) (next game bounds from) (searched game bounds limit) state h
+first_step game bounds limit from state h =
+    goes_first (from.step + 1) (next game bounds from) (searched game bounds limit) state h
 
 limit_of : State → Outcome → State
 limit_of other (LimitAt state) = state
 limit_of other (WonAt step word) = other
 limit_of other (ExhaustedAt step) = other
 
-no_step : (game : Game) (bounds : Bounds) (from state : State) → searched game bounds zero from ≡ LimitAt state → from ≡ state
+no_step : (game : Game) (bounds : Bounds) (from state : State) → searched game bounds zero from ≡ LimitAt state
+    → from ≡ state
 unfolding searched limit_of
 no_step game bounds from state h = ap (limit_of from) h
 
@@ -191,15 +223,18 @@ unfolding opening
 openings_are_sound game bounds levels latest made =
     let keys : List ℕ = game.key [] ∷ [] in
     let up : AllPairs (λ a b. a < b) (game.key [] ∷ []) = λ i j d lt within. absurd (omega (arith, lt, within)) in
-    let keyed : All (λ key. key ≢ 0) (game.key [] ∷ []) = All-cons (λ key. key ≢ 0) (game.key []) [] (made.keyed []) (All-nil (λ key. key ≢ 0)) in
-    let fit : All (λ key. key < 2 ^ 64) (game.key [] ∷ []) = All-cons (λ key. key < 2 ^ 64) (game.key []) [] (made.fit []) (All-nil (λ key. key < 2 ^ 64)) in
+    let keyed : All (λ key. key ≢ 0) (game.key [] ∷ []) =
+    All-cons (λ key. key ≢ 0) (game.key []) [] (made.keyed []) (All-nil (λ key. key ≢ 0)) in
+    let fit : All (λ key. key < 2 ^ 64) (game.key [] ∷ []) =
+    All-cons (λ key. key < 2 ^ 64) (game.key []) [] (made.fit []) (All-nil (λ key. key < 2 ^ 64)) in
     record {
       some = omega arith;
       few = omega (arith, made.some);
       long = All-cons (λ word. length word ≡ 0) [] [] refl (All-nil (λ word. length word ≡ 0));
       generations = omega arith;
       filled = All-cons (λ ks. 1 ≤ length ks) (game.key [] ∷ []) [] (omega arith) (All-nil (λ ks. 1 ≤ length ks));
-      rising = All-cons (λ ks. IsStrictlyIncreasing (0 ∷ ks)) (game.key [] ∷ []) [] (up_from_0 (game.key [] ∷ []) up keyed) (All-nil (λ ks. IsStrictlyIncreasing (0 ∷ ks)));
+      rising = All-cons (λ ks. IsStrictlyIncreasing (0 ∷ ks)) (game.key [] ∷ []) []
+          (up_from_0 (game.key [] ∷ []) up keyed) (All-nil (λ ks. IsStrictlyIncreasing (0 ∷ ks)));
       once = up_differ (game.key [] ∷ []) up;
       fit = All-cons (All (λ key. key < 2 ^ 64)) (game.key [] ∷ []) [] fit (All-nil (All (λ key. key < 2 ^ 64)));
       room = omega (arith, made.slots);
@@ -213,8 +248,10 @@ has_seen game bounds state new goes =
     subst (λ (s : State). 1 ≤ length s.seen) (goes_to game bounds state new goes)
     (omega (arith, length_push (seen_of bounds state) (generation game (fresh_of game bounds state))))
 
-seen_from : (game : Game) (bounds : Bounds) (limit : ℕ) (from state : State) → 1 ≤ length from.seen → searched game bounds limit from ≡ LimitAt state → 1 ≤ length state.seen
-seen_from game bounds zero from state some h = subst (λ (s : State). 1 ≤ length s.seen) (no_step game bounds from state h) some
+seen_from : (game : Game) (bounds : Bounds) (limit : ℕ) (from state : State) → 1 ≤ length from.seen
+    → searched game bounds limit from ≡ LimitAt state → 1 ≤ length state.seen
+seen_from game bounds zero from state some h =
+    subst (λ (s : State). 1 ≤ length s.seen) (no_step game bounds from state h) some
 seen_from game bounds (suc limit) from state some h =
     let first = first_step game bounds limit from state h in
     seen_from game bounds limit first.0 state (has_seen game bounds from first.0 first.1) first.2

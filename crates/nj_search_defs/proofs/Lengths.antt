@@ -19,28 +19,35 @@ exhausted_or-Won : (ks : List Candidate) (f : List Candidate → State) (c : Can
 exhausted_or-Won [] f c h = cc
 exhausted_or-Won (k ∷ ks) f c h = cc
 
-won_or-Won : (w : Option Candidate) (ks : List Candidate) (f : List Candidate → State) (c : Candidate) → won_or w (exhausted_or ks f) ≡ Won c → w ≡ Some c
+won_or-Won : (w : Option Candidate) (ks : List Candidate) (f : List Candidate → State) (c : Candidate)
+    → won_or w (exhausted_or ks f) ≡ Won c → w ≡ Some c
 won_or-Won (Some b) ks f c h = cc
 won_or-Won None ks f c h = absurd (exhausted_or-Won ks f c h)
 
 -- a step that is won is won by its winner
-pub winner_of : (game : Game) (bounds : Bounds) (state : State) (c : Candidate) → next game bounds state ≡ Won c → winner game (lives_of game state) ≡ Some c
+pub winner_of : (game : Game) (bounds : Bounds) (state : State) (c : Candidate) → next game bounds state ≡ Won c
+    → winner game (lives_of game state) ≡ Some c
 unfolding next
-winner_of game bounds state c h = won_or-Won (winner game (lives_of game state)) (kept_of game bounds state) (state_after game bounds state) c h
+winner_of game bounds state c h =
+    won_or-Won (winner game (lives_of game state)) (kept_of game bounds state) (state_after game bounds state) c h
 
-exhausted_or-some : (ks : List Candidate) (f : List Candidate → State) (new : State) → exhausted_or ks f ≡ Goes new → 1 ≤ length ks
+exhausted_or-some : (ks : List Candidate) (f : List Candidate → State) (new : State) → exhausted_or ks f ≡ Goes new
+    → 1 ≤ length ks
 exhausted_or-some [] f new h = absurd (cc)
 exhausted_or-some (k ∷ ks) f new h = omega arith
 
 -- a step that goes on keeps some candidate
-pub some_kept : (game : Game) (bounds : Bounds) (state new : State) → next game bounds state ≡ Goes new → 1 ≤ length (kept_of game bounds state)
+pub some_kept : (game : Game) (bounds : Bounds) (state new : State) → next game bounds state ≡ Goes new
+    → 1 ≤ length (kept_of game bounds state)
 unfolding next
 some_kept game bounds state new h =
     exhausted_or-some (kept_of game bounds state) (state_after game bounds state) new
-    (won_or-Goes (winner game (lives_of game state)) (exhausted_or (kept_of game bounds state) (state_after game bounds state)) new h)
+    (won_or-Goes (winner game (lives_of game state))
+    (exhausted_or (kept_of game bounds state) (state_after game bounds state)) new h)
 
 -- so its front has some word
-pub some_word : (game : Game) (bounds : Bounds) (state new : State) → next game bounds state ≡ Goes new → 1 ≤ length new.front
+pub some_word : (game : Game) (bounds : Bounds) (state new : State) → next game bounds state ≡ Goes new
+    → 1 ≤ length new.front
 unfolding state_after
 some_word game bounds state new h =
     let P : State → Type 0 = λ s. 1 ≤ length s.front in
@@ -67,13 +74,15 @@ lives_are_of game state =
     All-filter _ (IsOf game state.front) (candidates game state.front)
     (made game state.front 0 state.front (All-contains_itself state.front))
 
-won_long : (game : Game) (state : State) (c : Candidate) → IsEven state → Contains (lives_of game state) c → length (word_of c) ≡ state.step + 1
+won_long : (game : Game) (state : State) (c : Candidate) → IsEven state → Contains (lives_of game state) c
+    → length (word_of c) ≡ state.step + 1
 won_long game state c even live =
     longer state.step c.parent c.pad
     (All-contains (λ word. length word ≡ state.step) state.front c.parent even.long
     (All-contains (IsOf game state.front) (lives_of game state) c (lives_are_of game state) live).stood)
 
-leads : (game : Game) (bounds : Bounds) (state : State) (n : Next) → IsEven state → next game bounds state ≡ n → Leads state n
+leads : (game : Game) (bounds : Bounds) (state : State) (n : Next) → IsEven state → next game bounds state ≡ n
+    → Leads state n
 unfolding Leads
 leads game bounds state (Won c) even h =
     won_long game state c even (winner_is_best game (lives_of game state) c (winner_of game bounds state c h)).is_live
@@ -92,20 +101,28 @@ Ends limit (WonAt step word) = IsWonWithin limit step word
 Ends limit (ExhaustedAt step) = Unit {0}
 Ends limit (LimitAt state) = IsAtLimit limit state
 
-ends_by : (limit left : ℕ) (state : State) (n : Next) (f : State → Outcome) → state.step + suc left ≡ limit → Leads state n
+ends_by : (limit left : ℕ) (state : State) (n : Next) (f : State → Outcome) → state.step + suc left ≡ limit
+    → Leads state n
     → ((s : State) → s.step + left ≡ limit → IsEven s → Ends limit (f s)) → Ends limit (then_go_on (state.step + 1) n f)
 unfolding Leads Ends
 ends_by limit left state (Won c) f all led later = record { long = led; within = omega arith }
 ends_by limit left state Exhausted f all led later = tt
-ends_by limit left state (Goes s) f all led later = later s (let e : s.step ≡ state.step + 1 = led.0 in omega arith) led.1
+ends_by limit left state (Goes s) f all led later =
+    later s (let e : s.step ≡ state.step + 1 = led.0 in omega arith) led.1
 
-ends : (game : Game) (bounds : Bounds) (limit left : ℕ) (state : State) → state.step + left ≡ limit → IsEven state → Ends limit (searched game bounds left state)
+ends : (game : Game) (bounds : Bounds) (limit left : ℕ) (state : State) → state.step + left ≡ limit → IsEven state
+    → Ends limit (searched game bounds left state)
 unfolding Ends searched
 ends game bounds limit zero state all even =
     let e : state.step ≡ limit = omega arith in
-    record { step = e; some = even.some; long = subst (λ (n : ℕ). All (λ word. length word ≡ n) state.front) e even.long }
+    record {
+      step = e;
+      some = even.some;
+      long = subst (λ (n : ℕ). All (λ word. length word ≡ n) state.front) e even.long;
+    }
 ends game bounds limit (suc left) state all even =
-    ends_by limit left state (next game bounds state) (searched game bounds left) all (leads game bounds state (next game bounds state) even refl)
+    ends_by limit left state (next game bounds state) (searched game bounds left) all
+    (leads game bounds state (next game bounds state) even refl)
     (λ s rest even'. ends game bounds limit left s rest even')
 
 opens_even : (game : Game) → IsEven (opening game)

@@ -27,7 +27,8 @@ limits_add game bounds zero b state = ap (λ n. searched game bounds n state) (z
 limits_add game bounds (suc a) b state =
     let e : suc a + b ≡ suc (a + b) = omega arith in
     ap (λ n. searched game bounds n state) e
-    ∙ then_gone_on (state.step + 1) (next game bounds state) (searched game bounds (a + b)) (searched game bounds a) (searched game bounds b)
+    ∙ then_gone_on (state.step + 1) (next game bounds state) (searched game bounds (a + b))
+    (searched game bounds a) (searched game bounds b)
     (λ s. limits_add game bounds a b s)
 
 pub won_or-Goes : (w : Option Candidate) (n : Next) (new : State) → won_or w n ≡ Goes new → n ≡ Goes new
@@ -39,28 +40,33 @@ state_in other (Won c) = other
 state_in other Exhausted = other
 state_in other (Goes s) = s
 
-pub exhausted_or-Goes : (ks : List Candidate) (f : List Candidate → State) (new : State) → exhausted_or ks f ≡ Goes new → f ks ≡ new
+pub exhausted_or-Goes : (ks : List Candidate) (f : List Candidate → State) (new : State) → exhausted_or ks f ≡ Goes new
+    → f ks ≡ new
 unfolding state_in
 exhausted_or-Goes [] f new h = absurd (cc)
 exhausted_or-Goes (k ∷ ks) f new h = ap (state_in new) h
 
 -- a step that goes on leads to the state after it
-pub goes_to : (game : Game) (bounds : Bounds) (state new : State) → next game bounds state ≡ Goes new → state_after game bounds state (kept_of game bounds state) ≡ new
+pub goes_to : (game : Game) (bounds : Bounds) (state new : State) → next game bounds state ≡ Goes new
+    → state_after game bounds state (kept_of game bounds state) ≡ new
 unfolding next
 goes_to game bounds state new h =
     exhausted_or-Goes (kept_of game bounds state) (state_after game bounds state) new
-    (won_or-Goes (winner game (lives_of game state)) (exhausted_or (kept_of game bounds state) (state_after game bounds state)) new h)
+    (won_or-Goes (winner game (lives_of game state))
+    (exhausted_or (kept_of game bounds state) (state_after game bounds state)) new h)
 
 -- no more candidates are kept than a front may have
 pub few_kept : (game : Game) (bounds : Bounds) (state : State) → length (kept_of game bounds state) ≤ bounds.most
 unfolding kept_of kept
-few_kept game bounds state = limited_few (is_alike game) bounds.most bounds.quota (in_order (is_before game) (fresh_of game bounds state))
+few_kept game bounds state =
+    limited_few (is_alike game) bounds.most bounds.quota (in_order (is_before game) (fresh_of game bounds state))
 
 pub front_is_bounded : FrontIsBounded
 unfolding state_after
 front_is_bounded game bounds state new h =
     let P : State → Type 0 = λ s. length s.front ≤ bounds.most in
-    subst P (goes_to game bounds state new h) (rw (length-map (kept_of game bounds state) word_of) (few_kept game bounds state))
+    subst P (goes_to game bounds state new h)
+    (rw (length-map (kept_of game bounds state) word_of) (few_kept game bounds state))
 
 -- a candidate of a front: its parent is one of the words, and its pad one of those allowed after it
 pub record IsOf (game : Game) (front : List Word) (c : Candidate) : Type 0 where
@@ -71,22 +77,26 @@ extended : (game : Game) (front : List Word) (number : ℕ) (word : Word) (pads 
     → All (Contains (game.allowed word)) pads → All (IsOf game front) (extensions number word pads)
 extended game front number word [] stood all = All-nil (IsOf game front)
 extended game front number word (pad ∷ pads) stood all =
-    All-cons (IsOf game front) (record { number = number; parent = word; pad = pad }) (extensions (number + 1) word pads)
+    All-cons (IsOf game front) (record { number = number; parent = word; pad = pad })
+    (extensions (number + 1) word pads)
     (record { stood = stood; is_allowed = All-head (Contains (game.allowed word)) pad pads all })
     (extended game front (number + 1) word pads stood (All-tail (Contains (game.allowed word)) pad pads all))
 
-pub made : (game : Game) (front : List Word) (i : ℕ) (words : List Word) → All (Contains front) words → All (IsOf game front) (candidates_from game i words)
+pub made : (game : Game) (front : List Word) (i : ℕ) (words : List Word) → All (Contains front) words
+    → All (IsOf game front) (candidates_from game i words)
 made game front i [] all = All-nil (IsOf game front)
 made game front i (word ∷ words) all =
     All-append (IsOf game front) (extensions (256 * i) word (game.allowed word)) (candidates_from game (i + 1) words)
-    (extended game front (256 * i) word (game.allowed word) (All-head (Contains front) word words all) (All-contains_itself (game.allowed word)))
+    (extended game front (256 * i) word (game.allowed word) (All-head (Contains front) word words all)
+    (All-contains_itself (game.allowed word)))
     (made game front (i + 1) words (All-tail (Contains front) word words all))
 
 -- the kept of a step are candidates of its front
 kept_are_of : (game : Game) (bounds : Bounds) (state : State) → All (IsOf game state.front) (kept_of game bounds state)
 unfolding kept_of kept fresh_of fresh lives_of live candidates
 kept_are_of game bounds state =
-    All-limited (is_alike game) bounds.most bounds.quota (IsOf game state.front) (in_order (is_before game) (fresh_of game bounds state))
+    All-limited (is_alike game) bounds.most bounds.quota (IsOf game state.front)
+    (in_order (is_before game) (fresh_of game bounds state))
     (All-in_order (is_before game) (IsOf game state.front) (fresh_of game bounds state)
     (All-filter _ (IsOf game state.front) (lives_of game state)
     (All-filter _ (IsOf game state.front) (candidates game state.front)
@@ -112,7 +122,8 @@ words_are_equally_long game bounds state new long h =
     subst P (goes_to game bounds state new h)
     (All-map (λ word. length word ≡ state.step + 1) word_of (kept_of game bounds state)
     (All-weaker (IsOf game state.front) (λ c. length (word_of c) ≡ state.step + 1)
-    (λ c o. longer state.step c.parent c.pad (All-contains (λ word. length word ≡ state.step) state.front c.parent long o.stood))
+    (λ c o. longer state.step c.parent c.pad
+    (All-contains (λ word. length word ≡ state.step) state.front c.parent long o.stood))
     (kept_of game bounds state) (kept_are_of game bounds state)))
 
 wins_by : (v : Verdict) → is_win v ≡ true → v ≡ Win
@@ -124,11 +135,13 @@ wins_by Fail h = absurd (cc)
 filter_stood : (p : Candidate → Bool) (xs : List Candidate) → All (Contains xs) (filter p xs)
 filter_stood p xs = All-filter p (Contains xs) xs (All-contains_itself xs)
 
-first_of_filter : (game : Game) (p : Candidate → Bool) (best : Candidate) (xs : List Candidate) → All (λ c. is_before game c best ≡ false) (filter p xs)
+first_of_filter : (game : Game) (p : Candidate → Bool) (best : Candidate) (xs : List Candidate)
+    → All (λ c. is_before game c best ≡ false) (filter p xs)
     → All (λ c. p c ≡ true → is_before game c best ≡ false) xs
 first_of_filter game p best [] all = All-nil (λ c. p c ≡ true → is_before game c best ≡ false)
 first_of_filter game p best (x ∷ xs) all =
-    elim (p x) as (λ b. p x ≡ b → All (λ c. is_before game c best ≡ false) (cond b (x ∷ filter p xs) (filter p xs)) → All (λ c. p c ≡ true → is_before game c best ≡ false) (x ∷ xs)) [
+    elim (p x) as (λ b. p x ≡ b → All (λ c. is_before game c best ≡ false) (cond b (x ∷ filter p xs) (filter p xs))
+    → All (λ c. p c ≡ true → is_before game c best ≡ false) (x ∷ xs)) [
       | true ↦ λ e all. All-cons (λ c. p c ≡ true → is_before game c best ≡ false) x xs
           (λ h. All-head (λ c. is_before game c best ≡ false) x (filter p xs) all)
           (first_of_filter game p best xs (All-tail (λ c. is_before game c best ≡ false) x (filter p xs) all))
@@ -147,9 +160,12 @@ best_of game lives best wins (c ∷ cs) is stood win head h =
     subst P same (record {
       is_live = All-head (λ c. Contains lives c) c cs stood;
       wins = wins_by (judged_of game c).verdict (All-head (λ c. is_win (judged_of game c).verdict ≡ true) c cs win);
-      no_better = All-weaker (λ d. is_win (judged_of game d).verdict ≡ true → is_before game d c ≡ false) (λ d. (judged_of game d).verdict ≡ Win → is_before game d c ≡ false)
+      no_better =
+          All-weaker (λ d. is_win (judged_of game d).verdict ≡ true → is_before game d c ≡ false)
+          (λ d. (judged_of game d).verdict ≡ Win → is_before game d c ≡ false)
           (λ d k e. k (ap is_win e)) lives
-          (first_of_filter game (λ d. is_win (judged_of game d).verdict) c lives (subst (λ (w : List Candidate). All (λ d. is_before game d c ≡ false) w) is head));
+          (first_of_filter game (λ d. is_win (judged_of game d).verdict) c lives
+          (subst (λ (w : List Candidate). All (λ d. is_before game d c ≡ false) w) is head));
     })
 
 pub winner_is_best : WinnerIsBest
@@ -170,7 +186,8 @@ word_in (WonAt step word) = word
 word_in (ExhaustedAt step) = []
 word_in (LimitAt state) = []
 
-won_step : (game : Game) (step : ℕ) (w : Option Candidate) (ks : List Candidate) (g : List Candidate → State) (f : State → Outcome)
+won_step : (game : Game) (step : ℕ) (w : Option Candidate) (ks : List Candidate) (g : List Candidate → State) (f : State
+    → Outcome)
     → ((best : Candidate) → w ≡ Some best → (judged_of game best).verdict ≡ Win)
     → ((s : State) → WonFrom game (f s)) → WonFrom game (then_go_on step (won_or w (exhausted_or ks g)) f)
 unfolding WonFrom word_in
@@ -180,15 +197,18 @@ won_step game step (Some c) ks g f wins later =
 won_step game step None [] g f wins later = λ s word h. absurd (cc)
 won_step game step None (k ∷ ks) g f wins later = later (g (k ∷ ks))
 
-searched_wins : (game : Game) (bounds : Bounds) (limit : ℕ) (state : State) → WonFrom game (searched game bounds limit state)
+searched_wins : (game : Game) (bounds : Bounds) (limit : ℕ) (state : State)
+    → WonFrom game (searched game bounds limit state)
 unfolding WonFrom searched next
 searched_wins game bounds zero state = λ s word h. absurd (cc)
 searched_wins game bounds (suc limit) state =
-    won_step game (state.step + 1) (winner game (lives_of game state)) (kept_of game bounds state) (state_after game bounds state) (searched game bounds limit)
+    won_step game (state.step + 1) (winner game (lives_of game state)) (kept_of game bounds state)
+    (state_after game bounds state) (searched game bounds limit)
     (λ best h. (winner_is_best game (lives_of game state) best h).wins)
     (λ s. searched_wins game bounds limit s)
 
-first_wins : (game : Game) (v : Verdict) (o : Outcome) → (game.judged []).verdict ≡ v → WonFrom game o → WonFrom game (judged_first v o)
+first_wins : (game : Game) (v : Verdict) (o : Outcome) → (game.judged []).verdict ≡ v → WonFrom game o
+    → WonFrom game (judged_first v o)
 unfolding WonFrom word_in
 first_wins game Go o is wins = wins
 first_wins game Win o is wins =
@@ -199,7 +219,8 @@ first_wins game Fail o is wins = λ s word h. absurd (cc)
 pub won_wins : WonWins
 unfolding WonFrom outcome
 won_wins game bounds limit step word h =
-    first_wins game (game.judged []).verdict (searched game bounds limit (opening game)) refl (searched_wins game bounds limit (opening game)) step word h
+    first_wins game (game.judged []).verdict (searched game bounds limit (opening game)) refl
+    (searched_wins game bounds limit (opening game)) step word h
 
 pub won_wins_from : WonWinsFrom
 unfolding WonFrom

@@ -44,7 +44,8 @@ module _ {X : Type 0} (before : X → X → Bool) where
     put_headed x (y ∷ ys) xs first =
         elim (before x y) as (λ b. before x y ≡ b → IsHeaded (cond b (x ∷ y ∷ ys) (y ∷ put_in before x ys)) (x ∷ xs)) [
           | true ↦ λ e. All-cons (λ z. before z x ≡ false) x xs (not_itself x)
-              (All-weaker (λ z. before z y ≡ false) (λ z. before z x ≡ false) (λ z h. order.chain z y x h (order.one_way x y e)) xs first)
+              (All-weaker (λ z. before z y ≡ false) (λ z. before z x ≡ false)
+              (λ z h. order.chain z y x h (order.one_way x y e)) xs first)
           | false ↦ λ e. All-cons (λ z. before z y ≡ false) x xs e first
         ] refl
 

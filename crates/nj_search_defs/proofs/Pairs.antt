@@ -24,33 +24,41 @@ module _ {X : Type 0} (R : X → X → Type 0) where
   AllPairs-right (x ∷ xs) ys pairs = AllPairs-right xs ys (AllPairs-tail x (xs ++ ys) pairs)
 
   -- two lists, and each of the one with each of the other
-  pub AllPairs-append : (xs ys : List X) → AllPairs R xs → AllPairs R ys → All (λ x. All (R x) ys) xs → AllPairs R (xs ++ ys)
+  pub AllPairs-append : (xs ys : List X) → AllPairs R xs → AllPairs R ys → All (λ x. All (R x) ys) xs
+      → AllPairs R (xs ++ ys)
   AllPairs-append [] ys left right across = right
   AllPairs-append (x ∷ xs) ys left right across =
-      AllPairs-cons R x (xs ++ ys) (All-append (R x) xs ys (AllPairs-head x xs left) (All-head (λ y. All (R y) ys) x xs across))
+      AllPairs-cons R x (xs ++ ys) (All-append (R x) xs ys (AllPairs-head x xs left)
+      (All-head (λ y. All (R y) ys) x xs across))
       (AllPairs-append xs ys (AllPairs-tail x xs left) right (All-tail (λ y. All (R y) ys) x xs across))
 
 -- the keys with a generation more
 pub concat_push : (seen : List (List ℕ)) (keys : List ℕ) → concat (seen ++ keys ∷ []) ≡ concat seen ++ keys
 concat_push [] keys = append-nil keys
-concat_push (first ∷ later) keys = ap (λ xs. first ++ xs) (concat_push later keys) ∙ sym (append_assoc first (concat later) keys)
+concat_push (first ∷ later) keys =
+    ap (λ xs. first ++ xs) (concat_push later keys) ∙ sym (append_assoc first (concat later) keys)
 
 -- what holds of each key of each generation
 pub All-concat : (P : ℕ → Type 0) (seen : List (List ℕ)) → All (All P) seen → All P (concat seen)
 All-concat P [] all = All-nil P
 All-concat P (keys ∷ later) all =
-    All-append P keys (concat later) (All-head (All P) keys later all) (All-concat P later (All-tail (All P) keys later all))
+    All-append P keys (concat later) (All-head (All P) keys later all)
+    (All-concat P later (All-tail (All P) keys later all))
 
 -- ---- different numbers in order rise
 
-put_up : (x : ℕ) (xs : List ℕ) → AllPairs (λ a b. a < b) xs → All (λ y. x ≢ y) xs → AllPairs (λ a b. a < b) (put_in nat_lt x xs)
+put_up : (x : ℕ) (xs : List ℕ) → AllPairs (λ a b. a < b) xs → All (λ y. x ≢ y) xs
+    → AllPairs (λ a b. a < b) (put_in nat_lt x xs)
 put_up x [] up differ = AllPairs-cons (λ a b. a < b) x [] (All-nil (λ b. x < b)) up
 put_up x (y ∷ ys) up differ =
-    elim (nat_lt x y) as (λ b. nat_lt x y ≡ b → AllPairs (λ a b. a < b) (cond b (x ∷ y ∷ ys) (y ∷ put_in nat_lt x ys))) [
+    elim (nat_lt x y) as (λ b. nat_lt x y ≡ b
+    → AllPairs (λ a b. a < b) (cond b (x ∷ y ∷ ys) (y ∷ put_in nat_lt x ys))) [
       | true ↦ λ e. (
           let less : x < y = ltb-true x y e in
           AllPairs-cons (λ a b. a < b) x (y ∷ ys)
-          (All-cons (λ b. x < b) y ys less (All-weaker (λ b. y < b) (λ b. x < b) (λ b h. omega (arith, less, h)) ys (AllPairs-head (λ a b. a < b) y ys up))) up)
+          (All-cons (λ b. x < b) y ys less
+          (All-weaker (λ b. y < b) (λ b. x < b) (λ b h. omega (arith, less, h)) ys
+          (AllPairs-head (λ a b. a < b) y ys up))) up)
       | false ↦ λ e. (
           let least : y ≤ x = ltb-false x y e in
           let other : x ≢ y = All-head (λ b. x ≢ b) y ys differ in
@@ -72,7 +80,8 @@ up_differ xs up i j d lt within same = absurd (omega (arith, up i j d lt within,
 -- and where none is 0 they rise from 0
 pub up_from_0 : (xs : List ℕ) → AllPairs (λ a b. a < b) xs → All (λ b. b ≢ 0) xs → IsStrictlyIncreasing (0 ∷ xs)
 up_from_0 xs up some k within =
-    AllPairs-cons (λ a b. a < b) 0 xs (All-weaker (λ b. b ≢ 0) (λ b. 0 < b) (λ b h. omega (arith, h)) xs some) up k (k + 1) 0 (omega arith) within
+    AllPairs-cons (λ a b. a < b) 0 xs (All-weaker (λ b. b ≢ 0) (λ b. 0 < b) (λ b h. omega (arith, h)) xs some) up k
+    (k + 1) 0 (omega arith) within
 
 put_longer : {X : Type 0} (before : X → X → Bool) (x : X) (xs : List X) → length (put_in before x xs) ≡ length xs + 1
 put_longer before x [] = refl
@@ -87,5 +96,6 @@ pub length-in_order : {X : Type 0} (before : X → X → Bool) (xs : List X) →
 length-in_order before [] = refl
 length-in_order before (x ∷ xs) =
     let rest : length (in_order before xs) ≡ length xs = length-in_order before xs in
-    let one : length (put_in before x (in_order before xs)) ≡ length (in_order before xs) + 1 = put_longer before x (in_order before xs) in
+    let one : length (put_in before x (in_order before xs)) ≡ length (in_order before xs) + 1 =
+    put_longer before x (in_order before xs) in
     omega (arith, rest, one)

@@ -18,7 +18,8 @@ IsPlaced front c = slice_get front (c.number / 256) ≡ Some c.parent
 place_of : (i k : ℕ) → k < 256 → (256 * i + k) / 256 ≡ i
 place_of i k h = omega arith
 
-extended : (front : List Word) (i k number : ℕ) (word : Word) (pads : List ℕ) → slice_get front i ≡ Some word → number ≡ 256 * i + k → k + length pads ≤ 256
+extended : (front : List Word) (i k number : ℕ) (word : Word) (pads : List ℕ) → slice_get front i ≡ Some word
+    → number ≡ 256 * i + k → k + length pads ≤ 256
     → All (IsPlaced front) (extensions number word pads)
 unfolding IsPlaced
 extended front i k number word [] stood is most = All-nil (IsPlaced front)
@@ -28,16 +29,19 @@ extended front i k number word (pad ∷ pads) stood is most =
     (ap (slice_get front) here ∙ stood)
     (extended front i (k + 1) (number + 1) word pads stood (omega arith) (omega arith))
 
-made : (game : Game) (front : List Word) (i : ℕ) (words : List Word) → ((word : Word) → length (game.allowed word) ≤ 256)
+made : (game : Game) (front : List Word) (i : ℕ) (words : List Word)
+    → ((word : Word) → length (game.allowed word) ≤ 256)
     → ((j : ℕ) → slice_get front (i + j) ≡ slice_get words j) → All (IsPlaced front) (candidates_from game i words)
 made game front i [] most rest = All-nil (IsPlaced front)
 made game front i (word ∷ words) most rest =
     let here : slice_get front i ≡ Some word = ap (slice_get front) (omega arith) ∙ rest 0 in
     All-append (IsPlaced front) (extensions (256 * i) word (game.allowed word)) (candidates_from game (i + 1) words)
-    (extended front i 0 (256 * i) word (game.allowed word) here (omega arith) (let m : length (game.allowed word) ≤ 256 = most word in omega arith))
+    (extended front i 0 (256 * i) word (game.allowed word) here (omega arith)
+    (let m : length (game.allowed word) ≤ 256 = most word in omega arith))
     (made game front (i + 1) words most (λ j. ap (slice_get front) (omega arith) ∙ rest (suc j)))
 
-lives_are_placed : (game : Game) (state : State) → ((word : Word) → length (game.allowed word) ≤ 256) → All (IsPlaced state.front) (lives_of game state)
+lives_are_placed : (game : Game) (state : State) → ((word : Word) → length (game.allowed word) ≤ 256)
+    → All (IsPlaced state.front) (lives_of game state)
 unfolding lives_of live candidates
 lives_are_placed game state most =
     All-filter _ (IsPlaced state.front) (candidates game state.front)

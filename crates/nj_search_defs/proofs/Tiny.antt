@@ -83,65 +83,80 @@ first_word ended = []
 
 -- five presses win at step five
 won_by_five : outcome five_presses (bounds 7463 0) 5 ≡ WonAt 5 (replicate 5 128)
-unfolding candidates live winner fresh kept generation raised lives_of seen_of fresh_of kept_of state_after next searched opening outcome
+unfolding candidates live winner fresh kept generation raised lives_of seen_of fresh_of kept_of state_after
+    next searched opening outcome
 won_by_five = refl
 
 -- a front of one word finds them too
 won_in_one_word : outcome five_presses (bounds 1 0) 5 ≡ WonAt 5 (replicate 5 128)
-unfolding candidates live winner fresh kept generation raised lives_of seen_of fresh_of kept_of state_after next searched opening outcome
+unfolding candidates live winner fresh kept generation raised lives_of seen_of fresh_of kept_of state_after
+    next searched opening outcome
 won_in_one_word = refl
 
 -- both candidates repeat the start's key, so nothing is kept
 exhausted_at_once : outcome late_presses (bounds 7463 0) 5 ≡ ExhaustedAt 1
-unfolding candidates live winner fresh kept generation raised lives_of seen_of fresh_of kept_of state_after next searched opening outcome
+unfolding candidates live winner fresh kept generation raised lives_of seen_of fresh_of kept_of state_after
+    next searched opening outcome
 exhausted_at_once = refl
 
 -- equal rewards go by the smaller number, so by the order of the pads
 first_pad_first : first_word (outcome (no_rules (128 ∷ 0 ∷ [])) (bounds 1 0) 1) ≡ (128 ∷ []) ∷ []
-unfolding candidates live winner fresh kept generation raised lives_of seen_of fresh_of kept_of state_after next searched opening outcome
+unfolding candidates live winner fresh kept generation raised lives_of seen_of fresh_of kept_of state_after
+    next searched opening outcome
 first_pad_first = refl
 
 -- and with the pads exchanged by the other
 first_pad_first_exchanged : first_word (outcome (no_rules (0 ∷ 128 ∷ [])) (bounds 1 0) 1) ≡ (0 ∷ []) ∷ []
-unfolding candidates live winner fresh kept generation raised lives_of seen_of fresh_of kept_of state_after next searched opening outcome
+unfolding candidates live winner fresh kept generation raised lives_of seen_of fresh_of kept_of state_after
+    next searched opening outcome
 first_pad_first_exchanged = refl
 
 -- the empty word may win
 won_at_once : outcome (at_once false) (bounds 7463 0) 5 ≡ WonAt 0 []
-unfolding candidates live winner fresh kept generation raised lives_of seen_of fresh_of kept_of state_after next searched opening outcome
+unfolding candidates live winner fresh kept generation raised lives_of seen_of fresh_of kept_of state_after
+    next searched opening outcome
 won_at_once = refl
 
 -- a fail goes before a win
 failed_at_once : outcome (at_once true) (bounds 7463 0) 5 ≡ ExhaustedAt 0
-unfolding candidates live winner fresh kept generation raised lives_of seen_of fresh_of kept_of state_after next searched opening outcome
+unfolding candidates live winner fresh kept generation raised lives_of seen_of fresh_of kept_of state_after
+    next searched opening outcome
 failed_at_once = refl
 
 -- with no tolerance the word behind a checkpoint is cut at the next step
 cut_at_once : first_word (outcome (checkpoint 2) (bounds 4 0) 2) ≡ (128 ∷ 128 ∷ []) ∷ (128 ∷ 0 ∷ []) ∷ []
-unfolding candidates live winner fresh kept generation raised lives_of seen_of fresh_of kept_of state_after next searched opening outcome
+unfolding candidates live winner fresh kept generation raised lives_of seen_of fresh_of kept_of state_after
+    next searched opening outcome
 cut_at_once = refl
 
 -- with a tolerance of two steps it lives on and wins
 kept_by_tolerance : outcome (checkpoint 2) (bounds 4 2) 2 ≡ WonAt 2 (0 ∷ 0 ∷ [])
-unfolding candidates live winner fresh kept generation raised lives_of seen_of fresh_of kept_of state_after next searched opening outcome
+unfolding candidates live winner fresh kept generation raised lives_of seen_of fresh_of kept_of state_after
+    next searched opening outcome
 kept_by_tolerance = refl
 
 -- of the four words of two frames two have one press: with a quota of one the first of them is kept
-quota_of_one : first_word (outcome buckets_by_presses (record (bounds 4 0) { quota = 1 }) 2) ≡ (128 ∷ 128 ∷ []) ∷ (128 ∷ 0 ∷ []) ∷ (0 ∷ 0 ∷ []) ∷ []
-unfolding candidates live winner fresh kept generation raised lives_of seen_of fresh_of kept_of state_after next searched opening outcome
+quota_of_one : first_word (outcome buckets_by_presses (record (bounds 4 0) { quota = 1 }) 2)
+    ≡ (128 ∷ 128 ∷ []) ∷ (128 ∷ 0 ∷ []) ∷ (0 ∷ 0 ∷ []) ∷ []
+unfolding candidates live winner fresh kept generation raised lives_of seen_of fresh_of kept_of state_after
+    next searched opening outcome
 quota_of_one = refl
 
 -- with a quota of two all four are kept
-quota_of_two : first_word (outcome buckets_by_presses (record (bounds 4 0) { quota = 2 }) 2) ≡ (128 ∷ 128 ∷ []) ∷ (128 ∷ 0 ∷ []) ∷ (0 ∷ 128 ∷ []) ∷ (0 ∷ 0 ∷ []) ∷ []
-unfolding candidates live winner fresh kept generation raised lives_of seen_of fresh_of kept_of state_after next searched opening outcome
+quota_of_two : first_word (outcome buckets_by_presses (record (bounds 4 0) { quota = 2 }) 2)
+    ≡ (128 ∷ 128 ∷ []) ∷ (128 ∷ 0 ∷ []) ∷ (0 ∷ 128 ∷ []) ∷ (0 ∷ 0 ∷ []) ∷ []
+unfolding candidates live winner fresh kept generation raised lives_of seen_of fresh_of kept_of state_after
+    next searched opening outcome
 quota_of_two = refl
 
 -- behind the tolerance it is cut
 cut_behind_tolerance : length (first_word (outcome (checkpoint 4) (bounds 4 2) 4)) ≡ 4
-unfolding candidates live winner fresh kept generation raised lives_of seen_of fresh_of kept_of state_after next searched opening outcome
+unfolding candidates live winner fresh kept generation raised lives_of seen_of fresh_of kept_of state_after
+    next searched opening outcome
 cut_behind_tolerance = refl
 
 -- generations are forgotten one by one until the rest and the room fit
 forgotten_by_room : forgotten 1024 400 (replicate 1 1 ∷ replicate 300 2 ∷ replicate 400 3 ∷ []) ≡ replicate 400 3 ∷ []
-unfolding candidates live winner fresh kept generation raised lives_of seen_of fresh_of kept_of state_after next searched opening outcome
+unfolding candidates live winner fresh kept generation raised lives_of seen_of fresh_of kept_of state_after
+    next searched opening outcome
 forgotten_by_room = refl

@@ -17,16 +17,16 @@ pub record Judged : Type 0 where
   pub reward : ℤ
   pub level : ℕ
 
--- a game, by what the search sees of a word: its judgement, the pads allowed after it, in order, its key, and its bucket,
--- the values of which a front may have only so many words
+-- a game, by what the search sees of a word: its judgement, the pads allowed after it, in order, its key, and its
+-- bucket, the values of which a front may have only so many words
 pub record Game : Type 0 where
   pub judged : Word → Judged
   pub allowed : Word → List ℕ
   pub key : Word → ℕ
   pub bucket : Word → List ℤ
 
--- the bounds of a search: the most words of a front, the most of them that have one bucket, the slots of the seen keys, the
--- number of different pads, and for how many steps a front may lag behind a new checkpoint level
+-- the bounds of a search: the most words of a front, the most of them that have one bucket, the slots of the seen keys,
+-- the number of different pads, and for how many steps a front may lag behind a new checkpoint level
 pub record Bounds : Type 0 where
   pub most : ℕ
   pub quota : ℕ

@@ -44,7 +44,8 @@ LimitsHaveFrontsFrom = (game : Game) (bounds : Bounds) (limit : ℕ) (from state
 
 -- the word that a search wins by which goes on is as long as its step, which is within the limit
 abbrev pub WonWordsAreAsLongFrom : Type 0
-WonWordsAreAsLongFrom = (game : Game) (bounds : Bounds) (limit : ℕ) (from : State) (step : ℕ) (word : Word) → IsEven from
+WonWordsAreAsLongFrom =
+    (game : Game) (bounds : Bounds) (limit : ℕ) (from : State) (step : ℕ) (word : Word) → IsEven from
     → searched game bounds limit from ≡ WonAt step word → IsWonWithin (from.step + limit) step word
 
 -- that word wins

@@ -11,8 +11,8 @@ pub record IsEven (state : State) : Type 0 where
   pub some : 1 ≤ length state.front
   pub long : All (λ word. length word ≡ state.step) state.front
 
--- a game and bounds are as a search needs them: a front may have a word, its candidates' keys have slots, at most `inputs`
--- pads may follow a word, keys are numbers of 64 bits other than 0, and no level is above `levels`
+-- a game and bounds are as a search needs them: a front may have a word, its candidates' keys have slots, at most
+-- `inputs` pads may follow a word, keys are numbers of 64 bits other than 0, and no level is above `levels`
 pub record IsWellMade (game : Game) (bounds : Bounds) (levels : ℕ) : Type 0 where
   pub some : 1 ≤ bounds.most
   pub slots : 1 ≤ bounds.slots
@@ -23,9 +23,9 @@ pub record IsWellMade (game : Game) (bounds : Bounds) (levels : ℕ) : Type 0 wh
   pub fit : (word : Word) → game.key word < 2 ^ 64
   pub level : (word : Word) → (game.judged word).level ≤ levels
 
--- the front of a state has at least one word and at most `most`, each as long as its steps; its seen keys, at most as many
--- as the slots, are numbers of 64 bits other than 0 in generations that have keys, rise and share none, one
--- for each step and one more at most; its mark has at most this level and this bound
+-- the front of a state has at least one word and at most `most`, each as long as its steps; its seen keys, at most as
+-- many as the slots, are numbers of 64 bits other than 0 in generations that have keys, rise and share none, one for
+-- each step and one more at most; its mark has at most this level and this bound
 pub record IsSound (most slots levels latest : ℕ) (state : State) : Type 0 where
   pub some : 1 ≤ length state.front
   pub few : length state.front ≤ most

@@ -15,15 +15,21 @@ const WALK: [u8; 36] = [
 
 // The key is the count at $10; one point for each, and 100 more once it is 5, which wins.
 pub(crate) const FIVE: &str =
-    r#"{"version":1,"properties":[{"name":"x","at":16,"kind":"u8"}],"hash":["x"],"inputs":[{"pads":["........","...R...."]}],"rules":[{"name":"go","weights":[{"property":"x","weight":1}]},{"name":"goal","when":[{"property":"x","op":"==","value":5}],"win":true,"reward":100}]}"#;
+    r#"{"version":1,"properties":[{"name":"x","at":16,"kind":"u8"}],"hash":["x"],
+"inputs":[{"pads":["........","...R...."]}],
+"rules":[{"name":"go","weights":[{"property":"x","weight":1}]},
+{"name":"goal","when":[{"property":"x","op":"==","value":5}],"win":true,"reward":100}]}"#;
 
 // Keys of both counts and no rule: after step n the front has a word for each count from 0 to n at $10.
 pub(crate) const COUNTS: &str =
-    r#"{"version":1,"properties":[{"name":"x","at":16,"kind":"u8"},{"name":"t","at":17,"kind":"u8"}],"hash":["x","t"],"inputs":[{"pads":["........","...R...."]}],"rules":[]}"#;
+    r#"{"version":1,"properties":[{"name":"x","at":16,"kind":"u8"},{"name":"t","at":17,"kind":"u8"}],
+"hash":["x","t"],"inputs":[{"pads":["........","...R...."]}],"rules":[]}"#;
 
 // Eight pads.
 pub(crate) const EIGHT: &str =
-    r#"{"version":1,"properties":[{"name":"x","at":16,"kind":"u8"}],"hash":["x"],"inputs":[{"pads":["........","...R....","..L.....",".D......","U.......",".......A","......B.","...R...A"]}],"rules":[]}"#;
+    r#"{"version":1,"properties":[{"name":"x","at":16,"kind":"u8"}],"hash":["x"],
+"inputs":[{"pads":["........","...R....","..L.....",".D......","U.......",".......A","......B.","...R...A"]}],
+"rules":[]}"#;
 
 pub(crate) const R: u8 = 0x80;
 

@@ -30,26 +30,38 @@ in_later key (suc n) (keys ∷ later) i = in_right key keys (concat later) (in_l
 
 later_unseen : (key n : ℕ) (seen : Seen) → is_seen seen key ≡ false → is_seen (drop n seen) key ≡ false
 later_unseen key n seen none =
-    false_from_ne_true (is_seen (drop n seen) key) (λ t. both_ways (is_seen seen key) none (is_seen_in key seen (in_later key n seen (in_seen key (drop n seen) t))))
+    false_from_ne_true (is_seen (drop n seen) key)
+    (λ t. both_ways (is_seen seen key) none
+    (is_seen_in key seen (in_later key n seen (in_seen key (drop n seen) t))))
 
 -- a row that owns its key beside the seen keys, and is not seen, is fresh
-pub row_owns_beside : (words opening closed : List ℕ) (seen : Seen) (step from older : ℕ) (rows : List Row) (claims : Claimed)
-    → HoldsSeen words seen step → IsClosed opening closed (drop older (drop (from - oldest_step step seen) seen)) step rows claims
-    → (row : Row) → In row rows → is_owned_unseen closed words from row ≡ is_fresh_row (drop (from - oldest_step step seen) seen) rows row
+pub row_owns_beside : (words opening closed : List ℕ) (seen : Seen) (step from older : ℕ)
+    (rows : List Row) (claims : Claimed)
+    → HoldsSeen words seen step → IsClosed opening closed
+    (drop older (drop (from - oldest_step step seen) seen)) step rows claims
+    → (row : Row) → In row rows → is_owned_unseen closed words from row
+    ≡ is_fresh_row (drop (from - oldest_step step seen) seen) rows row
 row_owns_beside words opening closed seen step from older rows claims holds is row i =
-    ap (λ b. b && not (is_owner_since from (owner_in words row.key))) (row_owns opening closed (drop older some) step rows claims is row i)
-    ∙ ap (λ b. (not (is_seen (drop older some) row.key) && not (is_beaten rows row)) && not b) (since_seen words seen step from row.key holds)
+    ap (λ b. b && not (is_owner_since from (owner_in words row.key)))
+    (row_owns opening closed (drop older some) step rows claims is row i)
+    ∙ ap (λ b. (not (is_seen (drop older some) row.key) && not (is_beaten rows row)) && not b)
+    (since_seen words seen step from row.key holds)
     ∙ go (is_seen some row.key) refl where
       some : Seen
       some = drop (from - oldest_step step seen) seen
 
       go : (b : Bool) → is_seen some row.key ≡ b
-          → ((not (is_seen (drop older some) row.key) && not (is_beaten rows row)) && not (is_seen some row.key)) ≡ (not (is_seen some row.key) && not (is_beaten rows row))
-      go true t = ap (λ b. (not (is_seen (drop older some) row.key) && not (is_beaten rows row)) && not b) t ∙ last_false (not (is_seen (drop older some) row.key) && not (is_beaten rows row)) ∙ sym (ap (λ b. not b && not (is_beaten rows row)) t) where
-        last_false : (b : Bool) → (b && false) ≡ false
-        last_false true = refl
-        last_false false = refl
-      go false f = ap (λ b. (not (is_seen (drop older some) row.key) && not (is_beaten rows row)) && not b) f ∙ (ap (λ b. (not b && not (is_beaten rows row)) && true) (later_unseen row.key older some f) ∙ last_true (not (is_beaten rows row))) ∙ sym (ap (λ b. not b && not (is_beaten rows row)) f) where
-        last_true : (b : Bool) → (b && true) ≡ b
-        last_true true = refl
-        last_true false = refl
+          → ((not (is_seen (drop older some) row.key) && not (is_beaten rows row)) && not (is_seen some row.key))
+          ≡ (not (is_seen some row.key) && not (is_beaten rows row))
+      go true t = ap (λ b. (not (is_seen (drop older some) row.key) && not (is_beaten rows row)) && not b) t
+          ∙ last_false (not (is_seen (drop older some) row.key) && not (is_beaten rows row))
+          ∙ sym (ap (λ b. not b && not (is_beaten rows row)) t) where
+            last_false : (b : Bool) → (b && false) ≡ false
+            last_false true = refl
+            last_false false = refl
+      go false f = ap (λ b. (not (is_seen (drop older some) row.key) && not (is_beaten rows row)) && not b) f
+          ∙ (ap (λ b. (not b && not (is_beaten rows row)) && true) (later_unseen row.key older some f)
+          ∙ last_true (not (is_beaten rows row))) ∙ sym (ap (λ b. not b && not (is_beaten rows row)) f) where
+            last_true : (b : Bool) → (b && true) ≡ b
+            last_true true = refl
+            last_true false = refl

@@ -22,12 +22,14 @@ differ_by rows p = distinct rows (λ i j d l m e. p i j d l m (ap (λ (r : Row).
 rising_differ : (rows : List Row) → IsRising rows → Distinct rows
 rising_differ [] up = tt
 rising_differ (row ∷ rows) up = (
-  λ i. let lt : row.number < row.number = of_member (λ (later : Row). row.number < later.number) rows row up.0 i in absurd (omega arith),
+  λ i. let lt : row.number < row.number =
+      of_member (λ (later : Row). row.number < later.number) rows row up.0 i in absurd (omega arith),
   rising_differ rows up.1,
 )
 
 -- so the rows of a kind among some and among all are the same but for their order
-pub of_kind : (p q : Row → Bool) (some rows : List Row) → Distinct some → Distinct rows → All (Contains rows) some → All (λ row. p row ≡ q row) rows
+pub of_kind : (p q : Row → Bool) (some rows : List Row) → Distinct some → Distinct rows → All (Contains rows) some
+    → All (λ row. p row ≡ q row) rows
     → All (λ row. q row ≡ true → Contains some row) rows → IsPermutation (filter p some) (filter q rows)
 of_kind p q some rows ds dr within same has =
     same_members (filter p some) (filter q rows) (distinct_filter p some ds) (distinct_filter q rows dr)
@@ -35,18 +37,23 @@ of_kind p q some rows ds dr within same has =
     let r : In row rows = in_list row rows (of_member (Contains rows) some row within s.0) in
     filtered q row rows r (sym (of_member (λ (x : Row). p x ≡ q x) rows row same r) ∙ s.1))
     (λ row i. let s = in_filter q row rows i in
-    filtered p row some (in_list row some (of_member (λ (x : Row). q x ≡ true → Contains some x) rows row has s.0 s.1)) (of_member (λ (x : Row). p x ≡ q x) rows row same s.0 ∙ s.1))
+    filtered p row some (in_list row some (of_member (λ (x : Row). q x ≡ true → Contains some x) rows row has s.0 s.1))
+    (of_member (λ (x : Row). p x ≡ q x) rows row same s.0 ∙ s.1))
 
-pub same_winner : HaveOneOrder → (some rows : List Row) → AllPairs (λ a b. a.number ≢ b.number) some → IsRising rows → All (Contains rows) some
+pub same_winner : HaveOneOrder → (some rows : List Row) → AllPairs (λ a b. a.number ≢ b.number) some → IsRising rows
+    → All (Contains rows) some
     → All (λ row. is_win_row row ≡ true → Contains some row) rows → winner_row some ≡ winner_row rows
 unfolding winner_row
 same_winner law some rows once rises within wins =
     ap (λ xs. slice_get xs 0) (law (filter is_win_row some) (filter is_win_row rows)
-    (of_kind is_win_row is_win_row some rows (differ_by some once) (rising_differ rows rises) within (λ k d lt. refl) wins))
+    (of_kind is_win_row is_win_row some rows (differ_by some once) (rising_differ rows rises)
+    within (λ k d lt. refl) wins))
 
-pub same_fresh : (some rows : List Row) (test : Row → Bool) (seen : Seen) → AllPairs (λ a b. a.number ≢ b.number) some → IsRising rows
+pub same_fresh : (some rows : List Row) (test : Row → Bool) (seen : Seen) → AllPairs (λ a b. a.number ≢ b.number) some
+    → IsRising rows
     → All (Contains rows) some → All (λ row. test row ≡ is_fresh_row seen rows row) rows
-    → All (λ row. is_fresh_row seen rows row ≡ true → Contains some row) rows → IsPermutation (filter test some) (fresh_rows seen rows)
+    → All (λ row. is_fresh_row seen rows row ≡ true → Contains some row) rows
+    → IsPermutation (filter test some) (fresh_rows seen rows)
 unfolding fresh_rows
 same_fresh some rows test seen once rises within same has =
     of_kind test (is_fresh_row seen rows) some rows (differ_by some once) (rising_differ rows rises) within same has

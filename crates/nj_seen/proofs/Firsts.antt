@@ -25,20 +25,26 @@ pub before_it : (before : List Row) (row : Row) (behind : List Row) → IsRising
 before_it [] row behind rises =
     list_any_none (λ other. nat_lt other.number row.number && (other.key == row.key)) (row ∷ behind)
     (All-cons (λ other. (nat_lt other.number row.number && (other.key == row.key)) ≡ false) row behind
-    (later row (omega arith)) (All-weaker (λ other. row.number < other.number) (λ other. (nat_lt other.number row.number && (other.key == row.key)) ≡ false) (λ other lt. later other (omega arith)) behind rises.0)) where
-      later : (other : Row) → row.number ≤ other.number → (nat_lt other.number row.number && (other.key == row.key)) ≡ false
+    (later row (omega arith)) (All-weaker (λ other. row.number < other.number)
+    (λ other. (nat_lt other.number row.number && (other.key == row.key)) ≡ false)
+    (λ other lt. later other (omega arith)) behind rises.0)) where
+      later : (other : Row) → row.number ≤ other.number
+          → (nat_lt other.number row.number && (other.key == row.key)) ≡ false
       later other le = ap (λ b. b && (other.key == row.key)) (le-ltb other.number row.number le)
 before_it (first ∷ before) row behind rises =
     let lt : first.number < row.number =
-    subst (λ (later : Row). first.number < later.number) (get_or-append_seam before row behind row) (rises.0 (length before) row (omega (arith, length-append before (row ∷ behind)))) in
+    subst (λ (later : Row). first.number < later.number) (get_or-append_seam before row behind row)
+    (rises.0 (length before) row (omega (arith, length-append before (row ∷ behind)))) in
     (λ i. (lt-ltb first.number row.number lt i && (first.key == row.key)) || before_it before row behind rises.1 i)
 
 -- so a row is fresh where its key is neither seen nor met before
 pub is_fresh_at : (seen : Seen) (rows : List Row) (i : ℕ) (default : Row) → i < length rows → IsRising rows
-    → is_fresh_row seen rows (get_or rows i default) ≡ (not (is_seen seen (get_or rows i default).key) && not (has_key (get_or rows i default).key (take i rows)))
+    → is_fresh_row seen rows (get_or rows i default)
+    ≡ (not (is_seen seen (get_or rows i default).key) && not (has_key (get_or rows i default).key (take i rows)))
 is_fresh_at seen rows i default lt rises =
     let row : Row = get_or rows i default in
-    let whole : rows ≡ take i rows ++ row ∷ drop (i + 1) rows = sym (take-append-drop i rows) ∙ at_drop_more (λ left. take i rows ++ left) rows i default lt in
+    let whole : rows ≡ take i rows ++ row ∷ drop (i + 1) rows =
+    sym (take-append-drop i rows) ∙ at_drop_more (λ left. take i rows ++ left) rows i default lt in
     ap (λ has. not (is_seen seen row.key) && not has)
     (ap (has_key_below row) whole ∙ before_it (take i rows) row (drop (i + 1) rows) (subst IsRising whole rises))
 
@@ -52,7 +58,8 @@ pub record IsMet (seen : Seen) (rows : List Row) (i : ℕ) (has : ℕ → Bool) 
   pub collected : fresh ≡ fresh_among seen rows (take i rows)
 
 -- one row more
-pub one_met : (seen : Seen) (rows : List Row) (i : ℕ) (default : Row) (has has' : ℕ → Bool) (fresh fresh' : List Row) (first : Bool)
+pub one_met : (seen : Seen) (rows : List Row) (i : ℕ) (default : Row) (has has' : ℕ → Bool)
+    (fresh fresh' : List Row) (first : Bool)
     → i < length rows → IsRising rows → IsMet seen rows i has fresh
     → first ≡ (not (has (get_or rows i default).key) && not (is_seen seen (get_or rows i default).key))
     → ((key : ℕ) → has' key ≡ (has key || ((get_or rows i default).key == key)))
@@ -79,6 +86,7 @@ one_met seen rows i default has has' fresh fresh' first lt rises met tells adds 
   turned false false = refl
 
 -- at the end all fresh rows are collected
-pub all_met : (seen : Seen) (rows : List Row) (i : ℕ) (has : ℕ → Bool) (fresh : List Row) → length rows ≤ i → IsMet seen rows i has fresh → fresh ≡ fresh_rows seen rows
+pub all_met : (seen : Seen) (rows : List Row) (i : ℕ) (has : ℕ → Bool) (fresh : List Row) → length rows ≤ i
+    → IsMet seen rows i has fresh → fresh ≡ fresh_rows seen rows
 unfolding fresh_rows
 all_met seen rows i has fresh le met = met.collected ∙ ap (filter (is_fresh_row seen rows)) (take_all i rows le)

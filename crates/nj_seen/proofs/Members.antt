@@ -24,7 +24,8 @@ module _ {X : Type 0} where
   pub contained : (x : X) (ys : List X) → In x ys → Contains ys x
   contained x [] i = absurd i
   contained x (y ∷ ys) i =
-      ⊎_elim (λ (e : y ≡ x). (0, omega arith, e)) (λ (r : In x ys). Contains-append_right (y ∷ []) ys x (contained x ys r)) i
+      ⊎_elim (λ (e : y ≡ x). (0, omega arith, e))
+      (λ (r : In x ys). Contains-append_right (y ∷ []) ys x (contained x ys r)) i
 
   -- what holds of all holds of a member
   pub of_member : (P : X → Type 0) (xs : List X) (x : X) → All P xs → In x xs → P x
@@ -38,7 +39,8 @@ module _ {X : Type 0} where
   pub distinct : (xs : List X) → AllPairs (λ a b. a ≢ b) xs → Distinct xs
   distinct [] p = tt
   distinct (x ∷ xs) p = (
-    λ i. let c = contained x xs i in let l : c.0 < length xs = c.1 in p 0 (suc c.0) x (omega arith) (omega arith) (sym c.2),
+    λ i. let c = contained x xs i in let l : c.0 < length xs =
+        c.1 in p 0 (suc c.0) x (omega arith) (omega arith) (sym c.2),
     distinct xs (λ i j d l m. p (suc i) (suc j) d (omega arith) (omega arith)),
   )
 
@@ -46,7 +48,8 @@ module _ {X : Type 0} where
   differ [] p i j d l m = absurd (omega arith)
   differ (x ∷ xs) p zero zero d l m = absurd (omega arith)
   differ (x ∷ xs) p zero (suc j) d l m =
-      let inside : j < length xs = omega arith in λ e. p.0 (at_place x xs j inside (get_or_default xs j x d inside ∙ sym e))
+      let inside : j < length xs = omega arith in
+      λ e. p.0 (at_place x xs j inside (get_or_default xs j x d inside ∙ sym e))
   differ (x ∷ xs) p (suc i) zero d l m = absurd (omega arith)
   differ (x ∷ xs) p (suc i) (suc j) d l m = differ xs p.1 i j d (omega arith) (omega arith)
 
@@ -55,7 +58,8 @@ module _ {X : Type 0} where
   in_filter p x [] = λ i. absurd i
   in_filter p x (y ∷ ys) =
       elim (p y) as (λ b. p y ≡ b → In x (cond b (y ∷ filter p ys) (filter p ys)) → In x (y ∷ ys) × (p x ≡ true)) [
-        | true ↦ λ e i. ⊎_elim (λ (same : y ≡ x). (inl same, ap p (sym same) ∙ e)) (λ (r : In x (filter p ys)). let s = in_filter p x ys r in (inr s.0, s.1)) i
+        | true ↦ λ e i. ⊎_elim (λ (same : y ≡ x). (inl same, ap p (sym same) ∙ e))
+            (λ (r : In x (filter p ys)). let s = in_filter p x ys r in (inr s.0, s.1)) i
         | false ↦ λ e r. let s = in_filter p x ys r in (inr s.0, s.1)
       ] refl
 
@@ -92,7 +96,8 @@ module _ {X : Type 0} where
       ⊎_elim (λ (e : y ≡ x). inl (inl e))
       (λ (r : In x (xs ++ ys)). ⊎_elim (λ (a : In x xs). inl (inr a)) (λ (b : In x ys). inr b) (in_either x xs ys r)) i
 
-  pub distinct_both : (xs ys : List X) → Distinct xs → Distinct ys → ((x : X) → In x xs → In x ys → ⊥) → Distinct (xs ++ ys)
+  pub distinct_both : (xs ys : List X) → Distinct xs → Distinct ys → ((x : X) → In x xs → In x ys → ⊥)
+      → Distinct (xs ++ ys)
   distinct_both [] ys dx dy apart = dy
   distinct_both (x ∷ xs) ys dx dy apart = (
     λ i. ⊎_elim (λ (a : In x xs). dx.0 a) (λ (b : In x ys). apart x (inl refl) b) (in_either x xs ys i),
@@ -110,7 +115,8 @@ module _ {X : Type 0} where
   pub apart : (xs ys : List X) → Distinct (xs ++ ys) → (x : X) → In x xs → In x ys → ⊥
   apart [] ys d x i j = i
   apart (y ∷ xs) ys d x i j =
-      ⊎_elim (λ (e : y ≡ x). d.0 (subst (λ z. In z (xs ++ ys)) (sym e) (in_right x xs ys j))) (λ (r : In x xs). apart xs ys d.1 x r j) i
+      ⊎_elim (λ (e : y ≡ x). d.0 (subst (λ z. In z (xs ++ ys)) (sym e) (in_right x xs ys j)))
+      (λ (r : In x xs). apart xs ys d.1 x r j) i
 
   -- a test that passes at some member
   pub some_member : (p : X → Bool) (xs : List X) → list_any p xs ≡ true → (x : X) × In x xs × (p x ≡ true)
@@ -123,7 +129,8 @@ module _ {X Y : Type 0} (f : X → Y) where
   pub in_map : (y : Y) (xs : List X) → In y (map f xs) → (x : X) × In x xs × (f x ≡ y)
   in_map y [] i = absurd i
   in_map y (x ∷ xs) i =
-      ⊎_elim (λ (e : f x ≡ y). (x, inl refl, e)) (λ (r : In y (map f xs)). let s = in_map y xs r in (s.0, inr s.1, s.2)) i
+      ⊎_elim (λ (e : f x ≡ y). (x, inl refl, e))
+      (λ (r : In y (map f xs)). let s = in_map y xs r in (s.0, inr s.1, s.2)) i
 
   pub mapped : (x : X) (xs : List X) → In x xs → In (f x) (map f xs)
   mapped x [] i = absurd i

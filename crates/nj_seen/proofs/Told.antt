@@ -29,18 +29,24 @@ at_owned words step key is e =
     (filtered (λ (e : ℕ × ℕ). e.1 == step) (key, step) (entries_in words) (is.entry key step e) (eq-eqb step step refl))
 
 -- the step of a key of the oldest generation, and of a later one
-step_here : (first : ℕ) (keys : List ℕ) (later : Seen) (key : ℕ) → In key keys → step_of first (keys ∷ later) key ≡ Some first
+step_here : (first : ℕ) (keys : List ℕ) (later : Seen) (key : ℕ) → In key keys
+    → step_of first (keys ∷ later) key ≡ Some first
 step_here first keys later key i = ap (λ b. if b then Some first else step_of (first + 1) later key) (key_is key keys i)
 
-step_there : (first : ℕ) (keys : List ℕ) (later : Seen) (key : ℕ) → (In key keys → ⊥) → step_of first (keys ∷ later) key ≡ step_of (first + 1) later key
+step_there : (first : ℕ) (keys : List ℕ) (later : Seen) (key : ℕ) → (In key keys → ⊥)
+    → step_of first (keys ∷ later) key ≡ step_of (first + 1) later key
 step_there first keys later key lacks =
-    ap (λ b. if b then Some first else step_of (first + 1) later key) (false_from_ne_true (list_any (λ k. k == key) keys) (λ t. lacks (is_key key keys t)))
+    ap (λ b. if b then Some first else step_of (first + 1) later key)
+    (false_from_ne_true (list_any (λ k. k == key) keys) (λ t. lacks (is_key key keys t)))
 
-first_has : (first : ℕ) (keys : List ℕ) (later : Seen) (key : ℕ) → step_of first (keys ∷ later) key ≡ Some first → In key keys
+first_has : (first : ℕ) (keys : List ℕ) (later : Seen) (key : ℕ) → step_of first (keys ∷ later) key ≡ Some first
+    → In key keys
 first_has first keys later key =
-    elim (list_any (λ k. k == key) keys) as (λ b. list_any (λ k. k == key) keys ≡ b → (if b then Some first else step_of (first + 1) later key) ≡ Some first → In key keys) [
+    elim (list_any (λ k. k == key) keys) as (λ b. list_any (λ k. k == key) keys ≡ b
+    → (if b then Some first else step_of (first + 1) later key) ≡ Some first → In key keys) [
       | true ↦ λ t e. is_key key keys t
-      | false ↦ λ t e. let w = is_within (first + 1) later key first e in let le : first + 1 ≤ first = w.0 in absurd (omega arith)
+      | false ↦ λ t e. let w = is_within (first + 1) later key first e in let le : first + 1 ≤ first =
+          w.0 in absurd (omega arith)
     ] refl
 
 -- where each owner from a step on is the step of its key's generation, the generations are those that the table tells
@@ -56,17 +62,21 @@ told words first (keys ∷ later) is sorted d into back =
     (λ key i. first_has first keys later key (into key first (omega arith) (owned_at words first key is i)))
     (λ key i. at_owned words first key is (back key first (omega arith) (step_here first keys later key i))))
     (All-head AreInOrder keys later sorted) in
-    let rest : later ≡ generations_from words (first + 1) (length later) = told words (first + 1) later is (All-tail AreInOrder keys later sorted) (distinct_right keys (concat later) d)
+    let rest : later ≡ generations_from words (first + 1) (length later) =
+    told words (first + 1) later is (All-tail AreInOrder keys later sorted) (distinct_right keys (concat later) d)
     (λ key owner le e.
     let whole : step_of first (keys ∷ later) key ≡ Some owner = into key owner (omega arith) e in
-    sym (step_there first keys later key (λ i. let f : Some first ≡ Some owner = sym (step_here first keys later key i) ∙ whole in let same : first ≡ owner = cc in omega arith)) ∙ whole)
+    sym (step_there first keys later key (λ i. let f : Some first ≡ Some owner = sym (step_here first keys later key i)
+    ∙ whole in let same : first ≡ owner = cc in omega arith)) ∙ whole)
     (λ key owner le e.
     back key owner (omega arith)
-    (step_there first keys later key (λ i. apart keys (concat later) d key i (some_has (first + 1) later key owner e)) ∙ e)) in
+    (step_there first keys later key (λ i. apart keys (concat later) d key i (some_has (first + 1) later key owner e))
+    ∙ e)) in
     λ i. here i ∷ rest i
 
 -- so the seen keys that a table holds are those that it tells
-pub seen_told : (words : List ℕ) (seen : Seen) (step : ℕ) → IsMap words → HoldsSeen words seen step → seen ≡ seen_in words step (oldest_step step seen)
+pub seen_told : (words : List ℕ) (seen : Seen) (step : ℕ) → IsMap words → HoldsSeen words seen step
+    → seen ≡ seen_in words step (oldest_step step seen)
 unfolding seen_in
 seen_told words seen step is holds =
     let few : length seen ≤ step + 1 = holds.few in

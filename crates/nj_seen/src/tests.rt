@@ -17,7 +17,8 @@ use std::test::Fail;
 fn claim_keys(table: &ClaimTable, pass: &mut Pass, first: u64, end: u64)
     requires own { pass.old.table ≡ table.now.id }
     requires keys { (0 < first) × (end < 2 ^ 32) }
-    ensures same { (pass.new.table ≡ pass.old.table) × (pass.new.is_root ≡ pass.old.is_root) × (pass.new.out ≡ pass.old.out) }
+    ensures same { (pass.new.table ≡ pass.old.table) × (pass.new.is_root ≡ pass.old.is_root)
+        × (pass.new.out ≡ pass.old.out) }
 {
     for key in first..end {
         let _claimed = table.claim(pass, key, FIRST_CLAIM + key);

@@ -20,7 +20,8 @@ abbrev Ascends : {X : Type 0} → (X → X → Bool) → List X → Type 0
 Ascends {X} lt xs = (i j : ℕ) (d : X) → i ≤ j → j < length xs → lt (get_or xs j d) (get_or xs i d) ≡ false
 
 -- a test that no element passes has the count 0
-none_pass : {X : Type 0} (p : X → Bool) (xs : List X) → ((k : ℕ) (d : X) → k < length xs → p (get_or xs k d) ≡ false) → sum_by (one p) xs ≡ 0
+none_pass : {X : Type 0} (p : X → Bool) (xs : List X) → ((k : ℕ) (d : X) → k < length xs → p (get_or xs k d) ≡ false)
+    → sum_by (one p) xs ≡ 0
 none_pass p [] none = refl
 none_pass p (x ∷ xs) none =
     sum_by-cons (one p) x xs ∙ ap (λ b. (if b then 1 else 0) + sum_by (one p) xs) (none 0 x (omega arith))
@@ -34,9 +35,11 @@ not_first p x xs none = by_test (p x) (sym (sum_by-cons (one p) x xs) ∙ none) 
   by_test false sum = refl
 
 -- the first element of an ascending list with the same counts is not above another's first
-not_below : {X : Type 0} (lt : X → X → Bool) (x y : X) (xs ys : List X) → SameCounts (x ∷ xs) (y ∷ ys) → Ascends lt (y ∷ ys) → lt x y ≡ false
+not_below : {X : Type 0} (lt : X → X → Bool) (x y : X) (xs ys : List X) → SameCounts (x ∷ xs) (y ∷ ys)
+    → Ascends lt (y ∷ ys) → lt x y ≡ false
 not_below lt x y xs ys same up =
-    not_first (λ z. lt z y) x xs (same (λ z. lt z y) ∙ none_pass (λ z. lt z y) (y ∷ ys) (λ k d within. up 0 k d (omega arith) within))
+    not_first (λ z. lt z y) x xs (same (λ z. lt z y)
+    ∙ none_pass (λ z. lt z y) (y ∷ ys) (λ k d within. up 0 k d (omega arith) within))
 
 -- without one first element the counts stay the same
 tails_same : {X : Type 0} (x y : X) (xs ys : List X) → x ≡ y → SameCounts (x ∷ xs) (y ∷ ys) → SameCounts xs ys
@@ -56,13 +59,17 @@ same_list lt ties [] (y ∷ ys) same left right =
 same_list lt ties (x ∷ xs) [] same left right =
     absurd (let count = same (λ _. true) in let more = sum_by-cons (λ _. 1) x xs in omega arith)
 same_list lt ties (x ∷ xs) (y ∷ ys) same left right =
-    let first : x ≡ y = ties x y (not_below lt x y xs ys same right) (not_below lt y x ys xs (λ p. sym (same p)) left) in
+    let first : x ≡ y =
+    ties x y (not_below lt x y xs ys same right) (not_below lt y x ys xs (λ p. sym (same p)) left) in
     let rest : xs ≡ ys = same_list lt ties xs ys (tails_same x y xs ys first same)
-    (λ i j d le within. left (suc i) (suc j) d (omega arith) (omega arith)) (λ i j d le within. right (suc i) (suc j) d (omega arith) (omega arith)) in
+    (λ i j d le within. left (suc i) (suc j) d (omega arith) (omega arith))
+    (λ i j d le within. right (suc i) (suc j) d (omega arith) (omega arith)) in
     cc
 
 -- a sorted rearrangement of a list is unique, where only equal elements tie
-pub sorted_unique : {X : Type 0} (lt : X → X → Bool) → IsStrictWeakOrder lt → ((x y : X) → lt x y ≡ false → lt y x ≡ false → x ≡ y)
+pub sorted_unique : {X : Type 0} (lt : X → X → Bool) → IsStrictWeakOrder lt
+    → ((x y : X) → lt x y ≡ false → lt y x ≡ false → x ≡ y)
     → (xs ys : List X) → IsPermutation xs ys → IsSortedBy lt xs → IsSortedBy lt ys → xs ≡ ys
 sorted_unique lt order ties xs ys moved left right =
-    same_list lt ties xs ys (λ p. sym (sum_by-IsPermutation (one p) xs ys moved)) (sorted_far lt order xs left) (sorted_far lt order ys right)
+    same_list lt ties xs ys (λ p. sym (sum_by-IsPermutation (one p) xs ys moved)) (sorted_far lt order xs left)
+    (sorted_far lt order ys right)

@@ -42,6 +42,7 @@ impl<T> Seq<T> {
         items
     }
 
+    /// All elements, in order.
     pub fn as_slice(&self) -> &[T]
         ensures value { result.now ≡ self.now }
         ensures len { length result.now ≡ length self.now }
@@ -49,12 +50,14 @@ impl<T> Seq<T> {
         self.items.as_slice()
     }
 
+    /// The number of elements.
     pub fn len(&self) -> usize
         ensures { result ≡ length self.now }
     {
         self.items.len()
     }
 
+    /// Whether there is no element.
     pub fn is_empty(&self) -> bool
         ensures { result ≡ (length self.now == 0) }
     {
@@ -86,6 +89,7 @@ impl<T> Seq<T> {
         self.items.truncate(count);
     }
 
+    /// Drops all elements. The memory stays for those that come later.
     pub fn clear(&mut self)
     where
         T: Drop,

@@ -17,8 +17,10 @@ const WALK: [u8; 36] = [
 ];
 
 // One point for each count at $10, and 100 more once it is 5, which wins.
-const GOAL: &str =
-    r#"{"version":1,"properties":[{"name":"x","at":16,"kind":"u8"}],"hash":["x"],"inputs":[{"pads":["........","...R...."]}],"rules":[{"name":"go","weights":[{"property":"x","weight":1}]},{"name":"goal","when":[{"property":"x","op":"==","value":5}],"win":true,"reward":100}]}"#;
+const GOAL: &str = r#"{"version":1,"properties":[{"name":"x","at":16,"kind":"u8"}],"hash":["x"],
+    "inputs":[{"pads":["........","...R...."]}],
+    "rules":[{"name":"go","weights":[{"property":"x","weight":1}]},
+    {"name":"goal","when":[{"property":"x","op":"==","value":5}],"win":true,"reward":100}]}"#;
 
 fn cartridge(alloc: Global) -> Result<Cart, Fail> {
     let mut file = Vec::from_slice(alloc, &HEADER)?;

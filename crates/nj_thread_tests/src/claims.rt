@@ -9,7 +9,8 @@ use std::thread;
 fn claim_keys(table: &ClaimTable, pass: &mut Pass, first: u64, end: u64, base: u64) -> bool
     requires own { pass.old.table ≡ table.now.id }
     requires keys { (0 < first) × (end < 2 ^ 32) × (base < 2 ^ 32) }
-    ensures same { (pass.new.table ≡ pass.old.table) × (pass.new.is_root ≡ pass.old.is_root) × (pass.new.out ≡ pass.old.out) }
+    ensures same { (pass.new.table ≡ pass.old.table) × (pass.new.is_root ≡ pass.old.is_root)
+        × (pass.new.out ≡ pass.old.out) }
 {
     let mut all = true;
     for key in first..end {

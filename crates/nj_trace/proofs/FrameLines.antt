@@ -10,7 +10,8 @@ use Rattle.nj_property.specs.declared.Property.{Property}
 use Rattle.nj_trace.specs.Watch.{watch_line, watch_head, line_after, watch_text}
 
 -- one more frame of a movie
-pub played_on : (cart : Cartridge) (movie pads : List ℕ) (i item : ℕ) (m next : State) (end : FrameEnd) → pads ≡ movie → i < length pads → item ≡ get_or pads i item →
+pub played_on : (cart : Cartridge) (movie pads : List ℕ) (i item : ℕ) (m next : State) (end : FrameEnd) → pads ≡ movie →
+    i < length pads → item ≡ get_or pads i item →
     m ≡ play cart (take i movie) → frame m item ≡ (next, end) → next ≡ play cart (take (i + 1) movie)
 played_on cart movie pads i item m next end same within is so_far after =
     sym (ap (λ p. p.0) after)
@@ -21,13 +22,17 @@ played_on cart movie pads i item m next end same within is so_far after =
     ∙ ap (λ xs. play cart (take (i + 1) xs)) same
 
 -- the line after it
-pub line_after_is : (cart : Cartridge) (properties shown : List Property) (movie : List ℕ) (n : ℕ) (m : State) (ram : List ℕ) → shown ≡ properties → ram ≡ ram_of m →
+pub line_after_is : (cart : Cartridge) (properties shown : List Property) (movie : List ℕ) (n : ℕ) (m : State)
+    (ram : List ℕ) → shown ≡ properties → ram ≡ ram_of m →
     m ≡ play cart (take n movie) → watch_line shown n ram ≡ line_after cart properties movie n
-line_after_is cart properties shown movie n m ram same is after = ap₂ (λ ps r. watch_line ps n r) same (is ∙ ap ram_of after)
+line_after_is cart properties shown movie n m ram same is after =
+    ap₂ (λ ps r. watch_line ps n r) same (is ∙ ap ram_of after)
 
 -- a line more
-pub lines_on : (f : ℕ → List ℕ) (text new whole line : List ℕ) (i n : ℕ) → i < n → new ≡ text ++ line → line ≡ f (i + 1) →
-    text ++ flat_map f (range_with_len (i + 1) (n - i)) ≡ whole → new ++ flat_map f (range_with_len (i + 1 + 1) (n - (i + 1))) ≡ whole
+pub lines_on : (f : ℕ → List ℕ) (text new whole line : List ℕ) (i n : ℕ) → i < n → new ≡ text ++ line →
+    line ≡ f (i + 1) →
+    text ++ flat_map f (range_with_len (i + 1) (n - i)) ≡ whole
+    → new ++ flat_map f (range_with_len (i + 1 + 1) (n - (i + 1))) ≡ whole
 lines_on f text new whole line i n within now is so_far =
     let one : n - i ≡ suc (n - (i + 1)) = omega (arith, within) in
     ap (λ x. x ++ flat_map f (range_with_len (i + 1 + 1) (n - (i + 1)))) (now ∙ ap (λ l. text ++ l) is)
@@ -36,18 +41,25 @@ lines_on f text new whole line i n within now is so_far =
     ∙ so_far
 
 -- no line is left
-pub lines_end : (f : ℕ → List ℕ) (text whole : List ℕ) (i n : ℕ) → n ≤ i → text ++ flat_map f (range_with_len (i + 1) (n - i)) ≡ whole → text ≡ whole
+pub lines_end : (f : ℕ → List ℕ) (text whole : List ℕ) (i n : ℕ) → n ≤ i
+    → text ++ flat_map f (range_with_len (i + 1) (n - i)) ≡ whole → text ≡ whole
 lines_end f text whole i n past so_far =
-    sym (ap (λ k. text ++ flat_map f (range_with_len (i + 1) k)) (let none : n - i ≡ 0 = omega (arith, past) in none) ∙ append-nil text) ∙ so_far
+    sym (ap (λ k. text ++ flat_map f (range_with_len (i + 1) k)) (let none : n - i ≡ 0 = omega (arith, past) in none)
+    ∙ append-nil text) ∙ so_far
 
 -- the first line and that before the first frame
-pub first_lines : (cart : Cartridge) (properties : List Property) (movie head line text : List ℕ) → head ≡ watch_head (length movie) (length properties) →
+pub first_lines : (cart : Cartridge) (properties : List Property) (movie head line text : List ℕ) →
+    head ≡ watch_head (length movie) (length properties) →
     line ≡ line_after cart properties movie 0 → text ≡ head ++ line →
-    text ++ flat_map (line_after cart properties movie) (range_with_len (0 + 1) (length movie - 0)) ≡ watch_text cart properties movie
+    text ++ flat_map (line_after cart properties movie) (range_with_len (0 + 1) (length movie - 0))
+    ≡ watch_text cart properties movie
 unfolding watch_text
 first_lines cart properties movie head line text is_head is_line is =
     let f = line_after cart properties movie in
     ap (λ x. x ++ flat_map f (range_with_len (0 + 1) (length movie - 0))) (is ∙ ap₂ (λ x y. x ++ y) is_head is_line)
-    ∙ append_assoc (watch_head (length movie) (length properties)) (f 0) (flat_map f (range_with_len (0 + 1) (length movie - 0)))
-    ∙ ap (λ k. watch_head (length movie) (length properties) ++ (f 0 ++ flat_map f (range_with_len (0 + 1) k))) (let e : length movie - 0 ≡ length movie = omega arith in e)
-    ∙ ap (λ k. watch_head (length movie) (length properties) ++ flat_map f (range_with_len 0 k)) (let e : suc (length movie) ≡ length movie + 1 = omega arith in e)
+    ∙ append_assoc (watch_head (length movie) (length properties)) (f 0)
+    (flat_map f (range_with_len (0 + 1) (length movie - 0)))
+    ∙ ap (λ k. watch_head (length movie) (length properties) ++ (f 0 ++ flat_map f (range_with_len (0 + 1) k)))
+    (let e : length movie - 0 ≡ length movie = omega arith in e)
+    ∙ ap (λ k. watch_head (length movie) (length properties) ++ flat_map f (range_with_len 0 k))
+    (let e : suc (length movie) ≡ length movie + 1 = omega arith in e)

@@ -26,7 +26,8 @@ some_left s h =
     let dot : s.cells.screen.position.dot < 341 = h.sized.screen.placed.dot in
     grind (arith, nat_tests)
 
-same_behind : (end : Option FrameEnd) (xs ys : List UnitSeen) → (end ≡ None → xs ≡ ys) → behind_unit end xs ≡ behind_unit end ys
+same_behind : (end : Option FrameEnd) (xs ys : List UnitSeen) → (end ≡ None → xs ≡ ys)
+    → behind_unit end xs ≡ behind_unit end ys
 same_behind None xs ys h = h refl
 same_behind (Some end) xs ys h = refl
 
@@ -34,7 +35,8 @@ pair_is : (step : State × Option FrameEnd) (end : Option FrameEnd) → step.1 �
 pair_is (t, e) end h = ap (λ x. (t, x)) h
 
 -- fuel from the dots left on makes no difference
-enough : UnitLaws → (pad n m : ℕ) (s : State) → IsReady s → dots_left s ≤ n → dots_left s ≤ m → units_from pad n s ≡ units_from pad m s
+enough : UnitLaws → (pad n m : ℕ) (s : State) → IsReady s → dots_left s ≤ n → dots_left s ≤ m
+    → units_from pad n s ≡ units_from pad m s
 enough laws pad zero m s h p q = absurd (omega (arith, p, some_left s h))
 enough laws pad (suc n) zero s h p q = absurd (omega (arith, q, some_left s h))
 enough laws pad (suc n) (suc m) s h p q =
@@ -42,15 +44,18 @@ enough laws pad (suc n) (suc m) s h p q =
     (same_behind (unit_step pad s).1 (units_from pad n (unit_step pad s).0) (units_from pad m (unit_step pad s).0)
     (λ e. let step = pair_is (unit_step pad s) None e in
     let fewer = laws.nearer s (unit_step pad s).0 pad h step in
-    enough laws pad n m (unit_step pad s).0 (laws.ready s (unit_step pad s).0 pad h step) (omega (arith, p, fewer)) (omega (arith, q, fewer))))
+    enough laws pad n m (unit_step pad s).0 (laws.ready s (unit_step pad s).0 pad h step) (omega (arith, p, fewer))
+    (omega (arith, q, fewer))))
 
 -- the units by the first of them
 first_unit : UnitLaws → (pad : ℕ) (s : State) → IsReady s →
-    units_from pad (dots_left s) s ≡ seen_of pad s ∷ behind_unit (unit_step pad s).1 (units_from pad (dots_left s) (unit_step pad s).0)
+    units_from pad (dots_left s) s
+    ≡ seen_of pad s ∷ behind_unit (unit_step pad s).1 (units_from pad (dots_left s) (unit_step pad s).0)
 first_unit laws pad s h = enough laws pad (dots_left s) (suc (dots_left s)) s h (omega arith) (omega arith)
 
 -- the last unit of a frame
-pub last_unit : UnitLaws → (pad : ℕ) (s t : State) (end : FrameEnd) → IsReady s → unit_step pad s ≡ (t, Some end) → units_from pad (dots_left s) s ≡ seen_of pad s ∷ []
+pub last_unit : UnitLaws → (pad : ℕ) (s t : State) (end : FrameEnd) → IsReady s → unit_step pad s ≡ (t, Some end)
+    → units_from pad (dots_left s) s ≡ seen_of pad s ∷ []
 last_unit laws pad s t end h e =
     first_unit laws pad s h ∙ ap (λ step. seen_of pad s ∷ behind_unit step.1 (units_from pad (dots_left s) step.0)) e
 
@@ -66,7 +71,8 @@ next_unit laws pad s t h e =
 
 -- ---- the law
 
-shifted : {X : Type 0} (f : ℕ → X) (a n : ℕ) → map (λ k. f (suc k)) (range_with_len a n) ≡ map f (range_with_len (a + 1) n)
+shifted : {X : Type 0} (f : ℕ → X) (a n : ℕ)
+    → map (λ k. f (suc k)) (range_with_len a n) ≡ map f (range_with_len (a + 1) n)
 shifted f a zero = refl
 shifted f a (suc n) =
     ap (λ k. f k ∷ map (λ i. f (suc i)) (range_with_len (a + 1) n)) (let e : suc a ≡ a + 1 = omega arith in e)
@@ -89,14 +95,17 @@ pub unjammed : (pad : ℕ) (s : State) → is_jammed s ≡ false → frame_units
 unfolding frame_units
 unjammed pad s e = rw e refl
 
-pub frame_has : UnitLaws → (s : State) (pad : ℕ) → IsReady s → is_jammed s ≡ false → (n : ℕ) × IsFirstEnd s pad n (frame s pad) →
-    (n : ℕ) × IsFirstEnd s pad n (frame s pad) × (frame_units pad s ≡ map (λ k. seen_of pad (units pad k s)) (range_with_len 0 (n + 1)))
+pub frame_has : UnitLaws → (s : State) (pad : ℕ) → IsReady s → is_jammed s ≡ false →
+    (n : ℕ) × IsFirstEnd s pad n (frame s pad) →
+    (n : ℕ) × IsFirstEnd s pad n (frame s pad)
+    × (frame_units pad s ≡ map (λ k. seen_of pad (units pad k s)) (range_with_len 0 (n + 1)))
 frame_has laws s pad h e (n, first) = (
   n,
   first,
   unjammed pad s e
       ∙ units_are laws pad n s (frame s pad) h first.before first.at_
-      ∙ ap (λ m. map (λ k. seen_of pad (units pad k s)) (range_with_len 0 m)) (let one : suc n ≡ n + 1 = omega arith in one),
+      ∙ ap (λ m. map (λ k. seen_of pad (units pad k s)) (range_with_len 0 m))
+      (let one : suc n ≡ n + 1 = omega arith in one),
 )
 
 -- ---- a loop over the units
@@ -104,7 +113,8 @@ frame_has laws s pad h e (n, first) = (
 -- a number of dots that are left
 pub few_left : (s : State) → dots_left s ≤ 171525
 unfolding dots_left left_at
-few_left s = by_test (nat_le (s.cells.screen.position.line * 341 + s.cells.screen.position.dot) 82182) (s.cells.screen.position.line * 341 + s.cells.screen.position.dot)
+few_left s = by_test (nat_le (s.cells.screen.position.line * 341 + s.cells.screen.position.dot) 82182)
+    (s.cells.screen.position.line * 341 + s.cells.screen.position.dot)
   where
     by_test : (t : Bool) (place : ℕ) → (if t then 82183 - place else 171525 - place) ≤ 171525
     by_test true place = omega arith
@@ -132,7 +142,8 @@ counted_not Picture n e = cc
 counted_not Jammed n e = cc
 
 -- the line of a unit more
-pub line_on : (laws : UnitLaws) (pad : ℕ) (s t : State) (text new whole : List ℕ) → IsReady s → unit_step pad s ≡ (t, None) →
+pub line_on : (laws : UnitLaws) (pad : ℕ) (s t : State) (text new whole : List ℕ) → IsReady s →
+    unit_step pad s ≡ (t, None) →
     new ≡ text ++ unit_line (seen_of pad s) → text ++ flat_map unit_line (units_from pad (dots_left s) s) ≡ whole →
     new ++ flat_map unit_line (units_from pad (dots_left t) t) ≡ whole
 line_on laws pad s t text new whole h e line so_far =
@@ -141,8 +152,10 @@ line_on laws pad s t text new whole h e line so_far =
     ∙ ap (λ us. text ++ flat_map unit_line us) (sym (next_unit laws pad s t h e))
     ∙ so_far
 
-pub line_last : (laws : UnitLaws) (pad : ℕ) (s t : State) (end : FrameEnd) (text new whole : List ℕ) → IsReady s → unit_step pad s ≡ (t, Some end) →
-    new ≡ text ++ unit_line (seen_of pad s) → text ++ flat_map unit_line (units_from pad (dots_left s) s) ≡ whole → new ≡ whole
+pub line_last : (laws : UnitLaws) (pad : ℕ) (s t : State) (end : FrameEnd) (text new whole : List ℕ) → IsReady s →
+    unit_step pad s ≡ (t, Some end) →
+    new ≡ text ++ unit_line (seen_of pad s) → text ++ flat_map unit_line (units_from pad (dots_left s) s) ≡ whole
+    → new ≡ whole
 line_last laws pad s t end text new whole h e line so_far =
     line
     ∙ ap (λ x. text ++ x) (sym (append-nil (unit_line (seen_of pad s))))
@@ -151,12 +164,15 @@ line_last laws pad s t end text new whole h e line so_far =
 
 -- a unit more is counted
 pub count_on : (laws : UnitLaws) (pad : ℕ) (s t : State) (count whole : ℕ) → IsReady s → unit_step pad s ≡ (t, None) →
-    count + length (units_from pad (dots_left s) s) ≡ whole → (count + 1) + length (units_from pad (dots_left t) t) ≡ whole
+    count + length (units_from pad (dots_left s) s) ≡ whole
+    → (count + 1) + length (units_from pad (dots_left t) t) ≡ whole
 count_on laws pad s t count whole h e so_far =
-    let size : length (units_from pad (dots_left s) s) ≡ suc (length (units_from pad (dots_left t) t)) = ap length (next_unit laws pad s t h e) in
+    let size : length (units_from pad (dots_left s) s) ≡ suc (length (units_from pad (dots_left t) t)) =
+    ap length (next_unit laws pad s t h e) in
     omega (arith, so_far, size)
 
-pub count_last : (laws : UnitLaws) (pad : ℕ) (s t : State) (end : FrameEnd) (count whole : ℕ) → IsReady s → unit_step pad s ≡ (t, Some end) →
+pub count_last : (laws : UnitLaws) (pad : ℕ) (s t : State) (end : FrameEnd) (count whole : ℕ) → IsReady s →
+    unit_step pad s ≡ (t, Some end) →
     count + length (units_from pad (dots_left s) s) ≡ whole → count + 1 ≡ whole
 count_last laws pad s t end count whole h e so_far =
     let size : length (units_from pad (dots_left s) s) ≡ 1 = ap length (last_unit laws pad s t end h e) in

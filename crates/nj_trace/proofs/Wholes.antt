@@ -27,14 +27,17 @@ abbrev fetch_count : List Access → ℕ
 fetch_count [] = 0
 fetch_count (a ∷ rest) = if fetches a.place a.transfer then suc (fetch_count rest) else fetch_count rest
 
-counted_by : (b : Bool) (n byte : ℕ) (bytes : List ℕ) → length bytes ≡ n → length (before_if b byte bytes) ≡ cond b (suc n) n
+counted_by : (b : Bool) (n byte : ℕ) (bytes : List ℕ) → length bytes ≡ n
+    → length (before_if b byte bytes) ≡ cond b (suc n) n
 counted_by true n byte bytes e = ap suc e
 counted_by false n byte bytes e = e
 
 -- there are as many bytes of an operand
-counted : {Held : Type 0} (acts : Acts Held) (op : Op) (xs : List Access) (w : Walk Held) → length (operand_bytes acts op xs w) ≡ fetch_count xs
+counted : {Held : Type 0} (acts : Acts Held) (op : Op) (xs : List Access) (w : Walk Held)
+    → length (operand_bytes acts op xs w) ≡ fetch_count xs
 counted acts op [] w = refl
-counted acts op (a ∷ rest) w = counted_by (fetches a.place a.transfer) (fetch_count rest) _ _ (counted acts op rest (step acts op a w))
+counted acts op (a ∷ rest) w =
+    counted_by (fetches a.place a.transfer) (fetch_count rest) _ _ (counted acts op rest (step acts op a w))
 
 abbrev operand_count : OpRow → ℕ
 operand_count row = fetch_count (accesses (class_of row.op row.mode) row.mode row.kind)
@@ -93,42 +96,51 @@ implied false b e h = cc
 
 -- an instruction's bytes are at most three, and whole where it is code
 module _ {Held : Type 0} (acts : Acts Held) where
-  code_count : (cpu : Cpu) (held : Held) → length (code_bytes acts cpu held) ≡ suc (operand_count (row_of (acts.byte held cpu.pc)))
+  code_count : (cpu : Cpu) (held : Held)
+      → length (code_bytes acts cpu held) ≡ suc (operand_count (row_of (acts.byte held cpu.pc)))
   unfolding code_bytes operand_of
   code_count cpu held =
       let row = row_of (acts.byte held cpu.pc) in
       let class = class_of row.op row.mode in
-      ap suc (counted acts row.op (accesses class row.mode row.kind) (opened class (read_at acts cpu.pc (begun cpu held no_rise))))
+      ap suc (counted acts row.op (accesses class row.mode row.kind)
+      (opened class (read_at acts cpu.pc (begun cpu held no_rise))))
 
   code_few : (cpu : Cpu) (held : Held) → length (code_bytes acts cpu held) ≤ 3
   code_few cpu held =
       let row = row_of (acts.byte held cpu.pc) in
-      let test : nat_le (operand_count row) 2 ≡ true = (split_and (nat_le (operand_count row) 2) _ (row_fits (acts.byte held cpu.pc))).0 in
+      let test : nat_le (operand_count row) 2 ≡ true =
+      (split_and (nat_le (operand_count row) 2) _ (row_fits (acts.byte held cpu.pc))).0 in
       let few : operand_count row ≤ 2 = grind (arith, nat_tests) in
       omega (arith, few, code_count cpu held)
 
-  code_whole : (cpu : Cpu) (held : Held) → kind_in (row_of (acts.byte held cpu.pc)) ≡ Code → is_whole (code_bytes acts cpu held) ≡ true
+  code_whole : (cpu : Cpu) (held : Held) → kind_in (row_of (acts.byte held cpu.pc)) ≡ Code
+      → is_whole (code_bytes acts cpu held) ≡ true
   unfolding code_bytes
   code_whole cpu held code =
       let opcode = acts.byte held cpu.pc in
       let row = row_of opcode in
       let rest : (not (is_jam row.op) && (operand_count row + 1 == length_of row.mode)) ≡ true =
-      implied (is_code (kind_in row)) _ (split_and (nat_le (operand_count row) 2) _ (row_fits opcode)).1 (code_is (kind_in row) code) in
-      let count : length (operand_of acts row (read_at acts cpu.pc (begun cpu held no_rise))) ≡ operand_count row = omega (arith, code_count cpu held) in
+      implied (is_code (kind_in row)) _ (split_and (nat_le (operand_count row) 2) _ (row_fits opcode)).1
+      (code_is (kind_in row) code) in
+      let count : length (operand_of acts row (read_at acts cpu.pc (begun cpu held no_rise))) ≡ operand_count row =
+      omega (arith, code_count cpu held) in
       ap (λ n. not (is_jam row.op) && (n + 1 == length_of row.mode)) count ∙ rest
 
 -- ---- whatever the unit is
 
-few_by : (jammed : Bool) (page : Option ℕ) (told : Note) (bytes : List ℕ) → length bytes ≤ 3 → length (bytes_or (awaited_by jammed page told) bytes) ≤ 3
+few_by : (jammed : Bool) (page : Option ℕ) (told : Note) (bytes : List ℕ) → length bytes ≤ 3
+    → length (bytes_or (awaited_by jammed page told) bytes) ≤ 3
 few_by true page told bytes h = omega arith
 few_by false (Some page) told bytes h = omega arith
 few_by false None Due bytes h = omega arith
 few_by false None NoNote bytes h = h
 few_by false None Late bytes h = h
 
-whole_by : (jammed : Bool) (page : Option ℕ) (told : Note) (row : OpRow) (bytes : List ℕ) → length bytes ≤ 3 → (kind_in row ≡ Code → is_whole bytes ≡ true) →
+whole_by : (jammed : Bool) (page : Option ℕ) (told : Note) (row : OpRow) (bytes : List ℕ) → length bytes ≤ 3 →
+    (kind_in row ≡ Code → is_whole bytes ≡ true) →
     kind_or (awaited_by jammed page told) row ≡ Code →
-    is_whole (take (length (bytes_or (awaited_by jammed page told) bytes)) (in_three (bytes_or (awaited_by jammed page told) bytes))) ≡ true
+    is_whole (take (length (bytes_or (awaited_by jammed page told) bytes))
+    (in_three (bytes_or (awaited_by jammed page told) bytes))) ≡ true
 whole_by true page told row bytes few whole e = cc
 whole_by false (Some page) told row bytes few whole e = cc
 whole_by false None Due row bytes few whole e = cc
@@ -139,7 +151,9 @@ pub few_seen : (cpu : Cpu) (w : Wired) → (let seen = seen_in cpu w in seen.len
 unfolding seen_in awaited
 few_seen cpu w = few_by cpu.jammed (wires.page w) cpu.note (code_bytes wires cpu w) (code_few wires cpu w)
 
-pub whole_seen : (cpu : Cpu) (w : Wired) → (let seen = seen_in cpu w in seen.kind) ≡ Code → is_whole (let seen = seen_in cpu w in take seen.len seen.bytes) ≡ true
+pub whole_seen : (cpu : Cpu) (w : Wired) → (let seen = seen_in cpu w in seen.kind) ≡ Code
+    → is_whole (let seen = seen_in cpu w in take seen.len seen.bytes) ≡ true
 unfolding seen_in awaited
 whole_seen cpu w e =
-    whole_by cpu.jammed (wires.page w) cpu.note (row_of (wires.byte w cpu.pc)) (code_bytes wires cpu w) (code_few wires cpu w) (code_whole wires cpu w) e
+    whole_by cpu.jammed (wires.page w) cpu.note (row_of (wires.byte w cpu.pc)) (code_bytes wires cpu w)
+    (code_few wires cpu w) (code_whole wires cpu w) e

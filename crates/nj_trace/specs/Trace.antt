@@ -50,7 +50,8 @@ unit_text kind pc bytes = event_text pc kind
 -- the line of a unit
 unfoldable pub unit_line : UnitSeen → List ℕ
 unit_line seen =
-    place_text seen.line seen.dot ++ (registers_text seen.cpu ++ unit_text seen.kind seen.cpu.pc (take seen.len seen.bytes))
+    place_text seen.line seen.dot
+    ++ (registers_text seen.cpu ++ unit_text seen.kind seen.cpu.pc (take seen.len seen.bytes))
 
 -- the first line
 unfoldable pub trace_head : ℕ → ℕ → List ℕ
@@ -67,4 +68,5 @@ movie_units cart movie frame = frame_units (get_or movie (frame - 1) 0) (play ca
 -- the trace of a frame, or that the movie has no such frame
 unfoldable pub trace_of : Cartridge → List ℕ → ℕ → Result (List ℕ) TraceRefused
 trace_of cart movie frame =
-    if nat_lt (length movie) frame then Err (NoFrame frame (length movie)) else Ok (trace_text frame (movie_units cart movie frame))
+    if nat_lt (length movie) frame then Err (NoFrame frame (length movie))
+    else Ok (trace_text frame (movie_units cart movie frame))

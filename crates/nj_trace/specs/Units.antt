@@ -16,7 +16,7 @@ abbrev pub units_from : ℕ → ℕ → State → List UnitSeen
 units_from pad zero s = []
 units_from pad (suc n) s = seen_of pad s ∷ behind_unit (unit_step pad s).1 (units_from pad n (unit_step pad s).0)
 
--- the units of the frame with this pad: none where the processor was jammed before. As in a frame each unit that does not
--- end it runs dots, so that it has no more units than dots are left
+-- the units of the frame with this pad: none where the processor was jammed before. As in a frame each unit that does
+-- not end it runs dots, so that it has no more units than dots are left
 unfoldable pub frame_units : ℕ → State → List UnitSeen
 frame_units pad s = if is_jammed s then [] else units_from pad (dots_left s) s

@@ -18,7 +18,8 @@ watch_line properties frame ram = decimal frame ++ (flat_map (value_text ram) pr
 
 -- the first line
 unfoldable pub watch_head : ℕ → ℕ → List ℕ
-watch_head frames properties = codes "# watch frames=" ++ (decimal frames ++ (codes " properties=" ++ (decimal properties ++ 10 ∷ [])))
+watch_head frames properties =
+    codes "# watch frames=" ++ (decimal frames ++ (codes " properties=" ++ (decimal properties ++ 10 ∷ [])))
 
 -- the line after so many frames of a movie
 abbrev pub line_after : Cartridge → List Property → List ℕ → ℕ → List ℕ

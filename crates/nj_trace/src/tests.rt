@@ -17,8 +17,11 @@ const WALK: [u8; 36] = [
 ];
 
 // Two numbers of working memory.
-const TWO: &str =
-    r#"{"version":1,"properties":[{"name":"x","at":16,"kind":"u8"},{"name":"t","at":17,"kind":"u8"}],"hash":["x"],"inputs":[{"pads":["........","...R...."]}],"rules":[{"name":"go","weights":[{"property":"x","weight":1}]}]}"#;
+const TWO: &str = concat!(
+    r#"{"version":1,"properties":[{"name":"x","at":16,"kind":"u8"},{"name":"t","at":17,"kind":"u8"}],"#,
+    r#""hash":["x"],"inputs":[{"pads":["........","...R...."]}],"#,
+    r#""rules":[{"name":"go","weights":[{"property":"x","weight":1}]}]}"#,
+);
 
 const R: u8 = 0x80;
 

@@ -143,8 +143,8 @@ fn traced<L: Ledger>(
     Ok(text)
 }
 
-/// The text of one frame of a movie, unit by unit; the first frame is 1. At most so many frames are run, and none where the
-/// movie has fewer.
+/// The text of one frame of a movie, unit by unit; the first frame is 1. At most so many frames are run, and none
+/// where the movie has fewer.
 #[tactic(auto, unfolding(crate::specs::Trace::trace_of))]
 pub fn trace<L: Ledger>(
     alloc: Global,
@@ -154,7 +154,8 @@ pub fn trace<L: Ledger>(
     steps: &mut Steps<L>,
 ) -> Result<Vec<u8>, TraceRefused>
     requires { 1 ≤ frame }
-    ensures answer { MatchResult result (λ text. trace_of cart.now movie.now frame ≡ Ok text.items) (λ refused. (refused ≡ TraceRefused.NoMemory) ⊎ (trace_of cart.now movie.now frame ≡ Err refused)) }
+    ensures answer { MatchResult result (λ text. trace_of cart.now movie.now frame ≡ Ok text.items)
+        (λ refused. (refused ≡ TraceRefused.NoMemory) ⊎ (trace_of cart.now movie.now frame ≡ Err refused)) }
     ensures frames { steps.new ≤ steps.old + frame }
     ensures refused { length movie.now + 1 ≤ frame → steps.new ≡ steps.old }
     ensures never_falls { steps.old ≤ steps.new }

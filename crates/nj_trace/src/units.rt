@@ -19,7 +19,9 @@ fn place_text(alloc: Global, line: u16, dot: u16) -> Result<String, AllocError>
 
 #[tactic(auto, using(std::proofs::lemmas::Fmt::hex_byte))]
 fn hex_registers(alloc: Global, a: u8, x: u8, y: u8, s: u8, p: u8) -> Result<String, AllocError>
-    ensures { IfOk result (λ text. string_bytes text ≡ codes "A=" ++ (hex_byte a ++ (codes " X=" ++ (hex_byte x ++ (codes " Y=" ++ (hex_byte y ++ (codes " S=" ++ (hex_byte s ++ (codes " P=" ++ (hex_byte p ++ codes " ")))))))))) }
+    ensures { IfOk result
+        (λ text. string_bytes text ≡ codes "A=" ++ (hex_byte a ++ (codes " X=" ++ (hex_byte x ++ (codes " Y="
+        ++ (hex_byte y ++ (codes " S=" ++ (hex_byte s ++ (codes " P=" ++ (hex_byte p ++ codes " ")))))))))) }
 {
     format!(in alloc; "A={a:02X} X={x:02X} Y={y:02X} S={s:02X} P={p:02X} ")
 }
@@ -78,7 +80,8 @@ fn push_event(alloc: Global, pc: u16, kind: UnitKind, text: &mut Vec<u8>) -> Res
 fn push_unit_text(alloc: Global, seen: &UnitSeen, text: &mut Vec<u8>) -> Result<(), AllocError>
     requires few { seen.now.len ≤ 3 }
     requires whole { seen.now.kind ≡ Code → is_whole (take seen.now.len seen.now.bytes) ≡ true }
-    ensures { OnOk result (text.new.items ≡ text.old.items ++ unit_text seen.now.kind seen.now.cpu.pc (take seen.now.len seen.now.bytes)) }
+    ensures { OnOk result (text.new.items
+        ≡ text.old.items ++ unit_text seen.now.kind seen.now.cpu.pc (take seen.now.len seen.now.bytes)) }
 {
     match seen.kind {
         UnitKind::Code => push_code(alloc, seen.cpu.pc, &seen.bytes[..seen.len as usize], text),

@@ -72,7 +72,8 @@ fn push_line(
     text.extend_from_slice(b"\n")
 }
 
-/// The text of a script's properties after each frame of a movie, the first line before it. It runs a frame for each pad.
+/// The text of a script's properties after each frame of a movie, the first line before it. It runs a frame for each
+/// pad.
 #[tactic(auto, unfolding(crate::specs::Watch::watch_text))]
 pub fn watch<L: Ledger>(
     alloc: Global,

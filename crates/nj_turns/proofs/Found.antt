@@ -12,13 +12,25 @@ use Rattle.nj_turns.specs.Turn.{Leads, IsDry, IsTurn}
 use Rattle.nj_turns.proofs.Past.{nothing_left, runs}
 
 -- processors with the same fields
-pub same_cpu : (one other : Cpu) → one.pc ≡ other.pc → one.a ≡ other.a → one.x ≡ other.x → one.y ≡ other.y → one.s ≡ other.s → one.line ≡ other.line →
+pub same_cpu : (one other : Cpu) → one.pc ≡ other.pc → one.a ≡ other.a → one.x ≡ other.x → one.y ≡ other.y
+    → one.s ≡ other.s → one.line ≡ other.line →
     one.jammed ≡ other.jammed → one.note ≡ other.note → one.flags ≡ other.flags → one ≡ other
 same_cpu one other pc a x y s line jammed note flags =
-    (λ i. record { a = a i; x = x i; y = y i; s = s i; pc = pc i; flags = flags i; note = note i; line = line i; jammed = jammed i })
+    (λ i. record {
+      a = a i;
+      x = x i;
+      y = y i;
+      s = s i;
+      pc = pc i;
+      flags = flags i;
+      note = note i;
+      line = line i;
+      jammed = jammed i;
+    })
 
 -- flags with the same fields
-pub same_flags : (one other : Flags) → one.n ≡ other.n → one.v ≡ other.v → one.d ≡ other.d → one.i ≡ other.i → one.z ≡ other.z → one.c ≡ other.c → one ≡ other
+pub same_flags : (one other : Flags) → one.n ≡ other.n → one.v ≡ other.v → one.d ≡ other.d → one.i ≡ other.i
+    → one.z ≡ other.z → one.c ≡ other.c → one ≡ other
 same_flags one other n v d i z c = (λ k. record { n = n k; v = v k; d = d k; i = i k; z = z k; c = c k })
 
 -- the same memories and the same line, and no more cycles than are tried
@@ -31,8 +43,10 @@ pub record Keeps (h k : Dry) : Type 0 where
 
 keeps-more : (h k : Dry) (byte : ℕ) (b : Bool) → nat_lt k.cycles MOST_CYCLES ≡ b → Keeps h k →
     Keeps h (cond b (record k { bus_byte = byte; cycles = suc k.cycles }) (record k { lost = true }))
-keeps-more h k byte true below e = record { ram = e.ram; board = e.board; status = e.status; line = e.line; few = grind (arith, nat_tests, below) }
-keeps-more h k byte false below e = record { ram = e.ram; board = e.board; status = e.status; line = e.line; few = e.few }
+keeps-more h k byte true below e =
+    record { ram = e.ram; board = e.board; status = e.status; line = e.line; few = grind (arith, nat_tests, below) }
+keeps-more h k byte false below e =
+    record { ram = e.ram; board = e.board; status = e.status; line = e.line; few = e.few }
 
 keeps-read : (h k : Dry) (byte : Option ℕ) → Keeps h k → Keeps h (read_of byte k)
 keeps-read h k None e = record { ram = e.ram; board = e.board; status = e.status; line = e.line; few = e.few }
@@ -45,13 +59,18 @@ keeps-after_read h k at e = keeps-read h k (told_byte k.ram k.board k.status at)
 keeps-lowers : (h : Dry) → Lowers dry (Keeps h) nothing_left 0
 keeps-lowers h = record {
   reads = λ k at e. record { stays = keeps-after_read h k at e; fewer = omega arith };
-  writes = λ k at value e. record { stays = record { ram = e.ram; board = e.board; status = e.status; line = e.line; few = e.few }; fewer = omega arith };
+  writes = λ k at value e.
+      record {
+        stays = record { ram = e.ram; board = e.board; status = e.status; line = e.line; few = e.few };
+        fewer = omega arith;
+      };
   takes = λ k e. record { stays = e; fewer = omega arith };
 }
 
 unit-keeps : (h : Dry) (cpu : Cpu) (k : Dry) → cpu.jammed ≡ false → Keeps h k → Keeps h (unit_of dry cpu k).held
 unit-keeps h cpu k e keeps =
-    let l : Lower (Keeps h) nothing_left 0 k (unit_of dry cpu k).held = unit-lower dry (Keeps h) nothing_left 0 (keeps-lowers h) cpu k e keeps in l.stays
+    let l : Lower (Keeps h) nothing_left 0 k (unit_of dry cpu k).held =
+    unit-lower dry (Keeps h) nothing_left 0 (keeps-lowers h) cpu k e keeps in l.stays
 
 -- units so far
 pub record Ran (n : ℕ) (cpu : Cpu) (h : Dry) (now : Cpu) (k : Dry) : Type 0 where
@@ -59,7 +78,11 @@ pub record Ran (n : ℕ) (cpu : Cpu) (h : Dry) (now : Cpu) (k : Dry) : Type 0 wh
   pub keeps : Keeps h k
 
 pub ran-none : (cpu : Cpu) (h : Dry) → h.cycles ≡ 0 → Ran 0 cpu h cpu h
-ran-none cpu h none = record { run = record { cpu_is = refl; held_is = refl }; keeps = record { ram = refl; board = refl; status = refl; line = refl; few = omega (arith, none) } }
+ran-none cpu h none =
+    record {
+      run = record { cpu_is = refl; held_is = refl };
+      keeps = record { ram = refl; board = refl; status = refl; line = refl; few = omega (arith, none) };
+    }
 
 -- and one more
 pub ran-more : (n : ℕ) (cpu : Cpu) (h : Dry) (now : Cpu) (k : Dry) (next : Cpu) (after : Dry) → Ran n cpu h now k →
@@ -72,8 +95,20 @@ ran-more n cpu h now k next after ran unit stays =
     }
 
 -- they are a turn where they lead to the processor and the byte that they came from
-pub found : (n : ℕ) (cpu : Cpu) (h : Dry) (now : Cpu) (k : Dry) → Ran n cpu h now k → now ≡ cpu → k.bus_byte ≡ h.bus_byte → k.lost ≡ h.lost → IsTurn cpu h k.cycles
+pub found : (n : ℕ) (cpu : Cpu) (h : Dry) (now : Cpu) (k : Dry) → Ran n cpu h now k → now ≡ cpu
+    → k.bus_byte ≡ h.bus_byte → k.lost ≡ h.lost → IsTurn cpu h k.cycles
 found n cpu h now k ran back byte lost =
     let same : k ≡ record h { cycles = k.cycles } =
-    (λ i. record { ram = ran.keeps.ram i; board = ran.keeps.board i; status = ran.keeps.status i; line = ran.keeps.line i; bus_byte = byte i; cycles = k.cycles; lost = lost i }) in
-    record { units = n; run = subst (λ x. Leads dry IsDry n cpu h cpu x) same (subst (λ c. Leads dry IsDry n cpu h c k) back ran.run) }
+    (λ i. record {
+      ram = ran.keeps.ram i;
+      board = ran.keeps.board i;
+      status = ran.keeps.status i;
+      line = ran.keeps.line i;
+      bus_byte = byte i;
+      cycles = k.cycles;
+      lost = lost i;
+    }) in
+    record {
+      units = n;
+      run = subst (λ x. Leads dry IsDry n cpu h cpu x) same (subst (λ c. Leads dry IsDry n cpu h c k) back ran.run);
+    }

@@ -22,7 +22,8 @@ more-past limit offset byte h true (Lost e) = Lost e
 more-past limit offset byte h true (Late e) = Late (omega (arith, e))
 more-past limit offset byte h false p = Lost refl
 
-read-past : (limit offset : ℕ) (byte : Option ℕ) (h : Dry) → IsPast limit offset h → IsPast limit offset (read_of byte h)
+read-past : (limit offset : ℕ) (byte : Option ℕ) (h : Dry) → IsPast limit offset h
+    → IsPast limit offset (read_of byte h)
 read-past limit offset None h p = Lost refl
 read-past limit offset (Some byte) h p = more-past limit offset byte h (nat_lt h.cycles MOST_CYCLES) p
 
@@ -39,7 +40,8 @@ dry-lowers limit offset = record {
 }
 
 -- a unit that does not jam began without a jam
-jam-by : (b : Bool) (cpu : Cpu) (h : Dry) (u : Unit Dry) → b ≡ true → cond b (record { cpu = cpu; held = h; end_ = Jammed }) u ≡ record { cpu = cpu; held = h; end_ = Jammed }
+jam-by : (b : Bool) (cpu : Cpu) (h : Dry) (u : Unit Dry) → b ≡ true
+    → cond b (record { cpu = cpu; held = h; end_ = Jammed }) u ≡ record { cpu = cpu; held = h; end_ = Jammed }
 jam-by true cpu h u e = refl
 jam-by false cpu h u e = absurd (true≢false (sym e))
 
@@ -52,7 +54,9 @@ runs true cpu h e done = let clash : Jammed ≡ Done = sym (jams cpu h e) ∙ do
 runs false cpu h e done = e
 
 -- and so does a unit
-pub unit-past : (limit offset : ℕ) (cpu : Cpu) (h : Dry) → cpu.jammed ≡ false → IsPast limit offset h → IsPast limit offset (unit_of dry cpu h).held
+pub unit-past : (limit offset : ℕ) (cpu : Cpu) (h : Dry) → cpu.jammed ≡ false → IsPast limit offset h
+    → IsPast limit offset (unit_of dry cpu h).held
 unit-past limit offset cpu h e p =
-    let l : Lower (IsPast limit offset) nothing_left 0 h (unit_of dry cpu h).held = unit-lower dry (IsPast limit offset) nothing_left 0 (dry-lowers limit offset) cpu h e p in
+    let l : Lower (IsPast limit offset) nothing_left 0 h (unit_of dry cpu h).held =
+    unit-lower dry (IsPast limit offset) nothing_left 0 (dry-lowers limit offset) cpu h e p in
     l.stays

@@ -1,4 +1,5 @@
--- A bus that has working and program memory and perhaps a fixed status of the picture: the turn of a loop is tried on it.
+-- A bus that has working and program memory and perhaps a fixed status of the picture: the turn of a loop is tried on
+-- it.
 use Rattle.std.specs.Prelude.{ℕ, suc, ◌%◌, nat_lt, ◌&&◌, ◌==◌, Bool, true, false, if◌then◌else◌, List, slice_index, Option, Some, None, unwrap_or}
 use Rattle.nj_banked.specs.Banks.{Banks}
 use Rattle.nj_banked.specs.Banked.{byte_at}
@@ -29,8 +30,8 @@ begun ram board status line bus_byte =
 abbrev pub is_status : ℕ → Bool
 is_status at = nat_lt at 0x4000 && at % 8 == 2
 
--- a byte of working memory, repeated below $2000, of the cartridge's program memory, or the status; nothing else is told
--- (NESdev Wiki, "CPU memory map")
+-- a byte of working memory, repeated below $2000, of the cartridge's program memory, or the status; nothing else is
+-- told (NESdev Wiki, "CPU memory map")
 unfoldable pub told_byte : List ℕ → Banks → Option ℕ → ℕ → Option ℕ
 told_byte ram board status at =
     if nat_lt at 0x2000 then Some (slice_index ram (at % 2048)) else if is_status at then status else byte_at board at
@@ -38,7 +39,8 @@ told_byte ram board status at =
 -- a cycle in which a byte was read
 abbrev pub one_more : ℕ → Dry → Dry
 one_more byte h =
-    if nat_lt h.cycles MOST_CYCLES then record h { bus_byte = byte; cycles = suc h.cycles } else record h { lost = true }
+    if nat_lt h.cycles MOST_CYCLES then record h { bus_byte = byte; cycles = suc h.cycles } else
+    record h { lost = true }
 
 -- the bus is lost where no byte is told
 abbrev pub read_of : Option ℕ → Dry → Dry

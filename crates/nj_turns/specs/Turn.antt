@@ -13,7 +13,8 @@ pub record Stands {Held : Type 0} (cpu : Cpu) (held : Held) (last : Cpu) (kept :
   pub held_is : kept ≡ held
 
 -- one unit more, which does not jam, after what led up to it; what the bus holds after it is in order
-pub record OneMore {Held : Type 0} (acts : Acts Held) (Before : Cpu → Held → Type 0) (In : Held → Type 0) (last : Cpu) (kept : Held) : Type 0 where
+pub record OneMore {Held : Type 0} (acts : Acts Held) (Before : Cpu → Held → Type 0) (In : Held
+    → Type 0) (last : Cpu) (kept : Held) : Type 0 where
   pub cpu : Cpu
   pub held : Held
   pub before : Before cpu held
@@ -35,10 +36,12 @@ pub record IsTurn (cpu : Cpu) (held : Dry) (cycles : ℕ) : Type 0 where
   pub units : ℕ
   pub run : Leads dry IsDry units cpu held cpu (record held { cycles = cycles })
 
--- a bus that rests for so many cycles while nothing but memory, or the status, is read: its state after c cycles, byte b the last one on
--- the data bus, is place c b; these are told, the NMI line stands, and no sprite copy waits
-pub record Rests {Held : Type 0} (acts : Acts Held) (place : ℕ → ℕ → Held) (ram : List ℕ) (board : Banks) (status : Option ℕ) (line : Bool) (limit : ℕ) : Type 0 where
-  pub byte : (c last at byte : ℕ) → c < limit → told_byte ram board status at ≡ Some byte → acts.byte (place c last) at ≡ byte
+-- a bus that rests for so many cycles while nothing but memory, or the status, is read: its state after c cycles, byte
+-- b the last one on the data bus, is place c b; these are told, the NMI line stands, and no sprite copy waits
+pub record Rests {Held : Type 0} (acts : Acts Held) (place : ℕ → ℕ
+    → Held) (ram : List ℕ) (board : Banks) (status : Option ℕ) (line : Bool) (limit : ℕ) : Type 0 where
+  pub byte : (c last at byte : ℕ) → c < limit → told_byte ram board status at ≡ Some byte
+      → acts.byte (place c last) at ≡ byte
   pub after : (c last at byte : ℕ) → c < limit → told_byte ram board status at ≡ Some byte →
       acts.after_read (place c last) at ≡ place (suc c) byte
   pub line_is : (c last : ℕ) → c ≤ limit → acts.line (place c last) ≡ line
@@ -52,6 +55,7 @@ pub record IsPlace {Held : Type 0} (place : ℕ → ℕ → Held) (limit : ℕ) 
   pub at_ : h ≡ place after_cycles last
 
 -- units that lead from a processor to itself while a resting bus goes on by so many cycles
-pub record Turns {Held : Type 0} (acts : Acts Held) (place : ℕ → ℕ → Held) (limit : ℕ) (cpu : Cpu) (last cycles : ℕ) : Type 0 where
+pub record Turns {Held : Type 0} (acts : Acts Held) (place : ℕ → ℕ
+    → Held) (limit : ℕ) (cpu : Cpu) (last cycles : ℕ) : Type 0 where
   pub units : ℕ
   pub run : Leads acts (IsPlace place limit) units cpu (place 0 last) cpu (place cycles last)

@@ -44,9 +44,10 @@ impl<'a> DryBus<'a> {
         }
     }
 
-    // One unit; whether it neither jams nor asks for anything but memory.
+    /// One unit; whether it neither jams nor asks for anything but memory.
     pub fn run_unit(&mut self, cpu: &mut Cpu) -> bool
-        ensures unit { result ≡ true → unit_of dry cpu.old (⟦<DryBus<'a> as Bus>⟧.held self.old) ≡ record { cpu = cpu.new; held = ⟦<DryBus<'a> as Bus>⟧.held self.new; end_ = Done } }
+        ensures unit { result ≡ true → unit_of dry cpu.old (⟦<DryBus<'a> as Bus>⟧.held self.old)
+            ≡ record { cpu = cpu.new; held = ⟦<DryBus<'a> as Bus>⟧.held self.new; end_ = Done } }
         ensures kept { result ≡ true → IsDry (⟦<DryBus<'a> as Bus>⟧.held self.new) }
     {
         match nj_cpu::unit(cpu, self) {
@@ -61,7 +62,15 @@ impl<'a> Bus for DryBus<'a> {
 
     ghost Held = { Dry };
 
-    ghost held = { λ d. record { ram = d.ram.now; board = d.board.now; status = d.status; line = d.line; bus_byte = d.bus_byte; cycles = d.cycles; lost = d.lost } };
+    ghost held = { λ d. record {
+      ram = d.ram.now;
+      board = d.board.now;
+      status = d.status;
+      line = d.line;
+      bus_byte = d.bus_byte;
+      cycles = d.cycles;
+      lost = d.lost;
+    } };
 
     ghost acts = { dry };
 

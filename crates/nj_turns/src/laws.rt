@@ -8,7 +8,8 @@ ghost use Rattle.nj_turns.specs.Turn.{IsTurn, Rests, Turns};
 
 use nj_isa::Bus;
 
-/// On a bus that rests for so many cycles, as many turns as end within them are those of the dry bus, one after another.
+/// On a bus that rests for so many cycles, as many turns as end within them are those of the dry bus, one after
+/// another.
 pub fn turns_are_the_same_on_each_resting_bus<B: Bus>()
     ensures { (place : ℕ → ℕ → B.Held) (ram : List ℕ) (board : Banks) (status : Option ℕ) (line : Bool) (limit : ℕ)
         → Rests B.acts place ram board status line limit → (cpu : Processor) (last cycles n : ℕ)

@@ -52,8 +52,8 @@ fn is_back(now: &Cpu, cpu: &Cpu, last: u8, bus_byte: u8) -> bool
 }
 
 /// How many cycles one turn takes, at most 255, of a loop that reads working and program memory alone, and $2002 where
-/// reads of it answer this status: from the processor as it stands, with this level of the NMI line and this last byte on
-/// the data bus. 0 where no such turn was found within a few instructions.
+/// reads of it answer this status: from the processor as it stands, with this level of the NMI line and this last byte
+/// on the data bus. 0 where no such turn was found within a few instructions.
 pub fn turn_cycles(
     cpu: &Cpu,
     ram: &[u8; 2048],

@@ -18,23 +18,33 @@ use Rattle.nj_workers.specs.Claimed.{MayBeDropped, IsSamePass, AreClaimed, AddsC
 -- two lists, each in two parts, part by part
 four : (w x y z : List Row) → IsPermutation ((w ++ x) ++ (y ++ z)) ((w ++ y) ++ (x ++ z))
 four w x y z =
-    let inner : IsPermutation ((x ++ y) ++ z) ((y ++ x) ++ z) = IsPermutation-append _ _ _ _ (IsPermutation-append_comm x y) (IsPermutation-refl z) in
-    let outer : IsPermutation (w ++ ((x ++ y) ++ z)) (w ++ ((y ++ x) ++ z)) = IsPermutation-append _ _ _ _ (IsPermutation-refl w) inner in
-    let left : w ++ ((x ++ y) ++ z) ≡ (w ++ x) ++ (y ++ z) = ap (λ r. w ++ r) (append_assoc x y z) ∙ sym (append_assoc w x (y ++ z)) in
-    let right : w ++ ((y ++ x) ++ z) ≡ (w ++ y) ++ (x ++ z) = ap (λ r. w ++ r) (append_assoc y x z) ∙ sym (append_assoc w y (x ++ z)) in
-    subst (λ r. IsPermutation ((w ++ x) ++ (y ++ z)) r) right (subst (λ l. IsPermutation l (w ++ ((y ++ x) ++ z))) left outer)
+    let inner : IsPermutation ((x ++ y) ++ z) ((y ++ x) ++ z) =
+    IsPermutation-append _ _ _ _ (IsPermutation-append_comm x y) (IsPermutation-refl z) in
+    let outer : IsPermutation (w ++ ((x ++ y) ++ z)) (w ++ ((y ++ x) ++ z)) =
+    IsPermutation-append _ _ _ _ (IsPermutation-refl w) inner in
+    let left : w ++ ((x ++ y) ++ z) ≡ (w ++ x) ++ (y ++ z) = ap (λ r. w ++ r) (append_assoc x y z)
+    ∙ sym (append_assoc w x (y ++ z)) in
+    let right : w ++ ((y ++ x) ++ z) ≡ (w ++ y) ++ (x ++ z) = ap (λ r. w ++ r) (append_assoc y x z)
+    ∙ sym (append_assoc w y (x ++ z)) in
+    subst (λ r. IsPermutation ((w ++ x) ++ (y ++ z)) r) right
+    (subst (λ l. IsPermutation l (w ++ ((y ++ x) ++ z))) left outer)
 
-pub parts_more : (a b p q r s : List Row) → IsPermutation a (p ++ q) → IsPermutation b (r ++ s) → IsPermutation (a ++ b) ((p ++ r) ++ (q ++ s))
+pub parts_more : (a b p q r s : List Row) → IsPermutation a (p ++ q) → IsPermutation b (r ++ s)
+    → IsPermutation (a ++ b) ((p ++ r) ++ (q ++ s))
 parts_more a b p q r s first second =
-    IsPermutation-trans (a ++ b) ((p ++ q) ++ (r ++ s)) ((p ++ r) ++ (q ++ s)) (IsPermutation-append a (p ++ q) b (r ++ s) first second) (four p q r s)
+    IsPermutation-trans (a ++ b) ((p ++ q) ++ (r ++ s)) ((p ++ r) ++ (q ++ s))
+    (IsPermutation-append a (p ++ q) b (r ++ s) first second) (four p q r s)
 
 -- what was seen stays seen
 still_dropped : (seen more : List (ℕ × ℕ)) (row : Row) → MayBeDropped seen row → MayBeDropped (seen ++ more) row
-still_dropped seen more row may = (may.0, record { number = may.1.number; stands = Contains-append_left seen more _ may.1.stands; less = may.1.less })
+still_dropped seen more row may =
+    (may.0, record { number = may.1.number; stands = Contains-append_left seen more _ may.1.stands; less = may.1.less })
 
-all_still_dropped : (seen more now : List (ℕ × ℕ)) (rows : List Row) → now ≡ seen ++ more → All (MayBeDropped seen) rows → All (MayBeDropped now) rows
+all_still_dropped : (seen more now : List (ℕ × ℕ)) (rows : List Row) → now ≡ seen ++ more → All (MayBeDropped seen) rows
+    → All (MayBeDropped now) rows
 all_still_dropped seen more now rows now_is may =
-    subst (λ s. All (MayBeDropped s) rows) (sym now_is) (All-weaker (MayBeDropped seen) (MayBeDropped (seen ++ more)) (still_dropped seen more) rows may)
+    subst (λ s. All (MayBeDropped s) rows) (sym now_is)
+    (All-weaker (MayBeDropped seen) (MayBeDropped (seen ++ more)) (still_dropped seen more) rows may)
 
 -- no rows, no claims
 pub claimed_none : (pass : PassView) → AreClaimed [] pass pass []
@@ -52,20 +62,24 @@ claimed_none pass = record {
 }
 
 -- claims of rows, and then of others
-pub claimed_more : (a b : List Row) (p q s : PassView) (xs ys : List Row) → AreClaimed a p q xs → AreClaimed b q s ys → AreClaimed (a ++ b) p s (xs ++ ys)
+pub claimed_more : (a b : List Row) (p q s : PassView) (xs ys : List Row) → AreClaimed a p q xs → AreClaimed b q s ys
+    → AreClaimed (a ++ b) p s (xs ++ ys)
 claimed_more a b p q s xs ys f g = record {
   placed = f.placed ++ g.placed;
   refused = f.refused ++ g.refused;
   parts = parts_more a b f.placed f.refused g.placed g.refused f.parts g.parts;
-  claims = g.claims ∙ ap (λ c. c ++ map claim_of g.placed) f.claims ∙ append_assoc p.claims (map claim_of f.placed) (map claim_of g.placed)
+  claims = g.claims ∙ ap (λ c. c ++ map claim_of g.placed) f.claims
+      ∙ append_assoc p.claims (map claim_of f.placed) (map claim_of g.placed)
       ∙ ap (λ c. p.claims ++ c) (sym (map-append claim_of f.placed g.placed));
-  full = g.full ∙ ap (λ c. c ++ map (λ row. row.key) g.refused) f.full ∙ append_assoc p.full (map (λ row. row.key) f.refused) (map (λ row. row.key) g.refused)
+  full = g.full ∙ ap (λ c. c ++ map (λ row. row.key) g.refused) f.full
+      ∙ append_assoc p.full (map (λ row. row.key) f.refused) (map (λ row. row.key) g.refused)
       ∙ ap (λ c. p.full ++ c) (sym (map-append (λ (row : Row). row.key) f.refused g.refused));
   more = f.more ++ g.more;
   seen = g.seen ∙ ap (λ c. c ++ g.more) f.seen ∙ append_assoc p.seen f.more g.more;
   dropped = f.dropped ++ g.dropped;
   choice = parts_more a b xs f.dropped ys g.dropped f.choice g.choice;
-  dropped_may = All-append (MayBeDropped s.seen) f.dropped g.dropped (all_still_dropped q.seen g.more s.seen f.dropped g.seen f.dropped_may) g.dropped_may;
+  dropped_may = All-append (MayBeDropped s.seen) f.dropped g.dropped
+      (all_still_dropped q.seen g.more s.seen f.dropped g.seen f.dropped_may) g.dropped_may;
 }
 
 pub same_pass : (p q s : PassView) → IsSamePass p q → IsSamePass q s → IsSamePass p s
@@ -79,7 +93,8 @@ adds_none pass rows = record {
   pass = record { table = refl; is_root = refl; out = refl };
 }
 
-pub adds_more : (a b : List Row) (p q s : PassView) (xs ys zs : List Row) → AddsClaimed a p q xs ys → AddsClaimed b q s ys zs → AddsClaimed (a ++ b) p s xs zs
+pub adds_more : (a b : List Row) (p q s : PassView) (xs ys zs : List Row) → AddsClaimed a p q xs ys
+    → AddsClaimed b q s ys zs → AddsClaimed (a ++ b) p s xs zs
 adds_more a b p q s xs ys zs f g = record {
   added = f.added ++ g.added;
   rows_are = g.rows_are ∙ ap (λ r. r ++ g.added) f.rows_are ∙ append_assoc xs f.added g.added;
@@ -88,7 +103,8 @@ adds_more a b p q s xs ys zs f g = record {
 }
 
 -- the claim of one row, which is kept
-pub claimed_kept : (row : Row) (p q : PassView) (answer : Claimed) → q ≡ after_claim row.key (first_claim + row.number) answer p → AreClaimed (row ∷ []) p q (row ∷ [])
+pub claimed_kept : (row : Row) (p q : PassView) (answer : Claimed)
+    → q ≡ after_claim row.key (first_claim + row.number) answer p → AreClaimed (row ∷ []) p q (row ∷ [])
 claimed_kept row p q (Before owner) is = record {
   placed = row ∷ [];
   refused = [];
@@ -127,7 +143,8 @@ claimed_kept row p q Full is = record {
 }
 
 -- the claim of one row, which is dropped
-pub claimed_dropped : (row : Row) (p q : PassView) (owner : ℕ) → q ≡ after_claim row.key (first_claim + row.number) (Before owner) p → owner < first_claim + row.number
+pub claimed_dropped : (row : Row) (p q : PassView) (owner : ℕ)
+    → q ≡ after_claim row.key (first_claim + row.number) (Before owner) p → owner < first_claim + row.number
     → is_win_row row ≡ false → AreClaimed (row ∷ []) p q []
 claimed_dropped row p q owner is less no_win = record {
   placed = row ∷ [];
@@ -143,19 +160,25 @@ claimed_dropped row p q owner is less no_win = record {
     no_win,
     record {
       number = owner;
-      stands = subst (λ s. Contains s (row.key, owner)) (sym (ap (λ v. v.seen) is)) (Contains-push p.seen (row.key, owner));
+      stands =
+          subst (λ s. Contains s (row.key, owner)) (sym (ap (λ v. v.seen) is)) (Contains-push p.seen (row.key, owner));
       less = less;
     },
   ) (All-nil (MayBeDropped q.seen));
 }
 
-pub same_after : (key number : ℕ) (p q : PassView) (answer : Claimed) → q ≡ after_claim key number answer p → IsSamePass p q
-same_after key number p q (Before owner) is = record { table = ap (λ v. v.table) is; is_root = ap (λ v. v.is_root) is; out = ap (λ v. v.out) is }
-same_after key number p q Least is = record { table = ap (λ v. v.table) is; is_root = ap (λ v. v.is_root) is; out = ap (λ v. v.out) is }
-same_after key number p q Full is = record { table = ap (λ v. v.table) is; is_root = ap (λ v. v.is_root) is; out = ap (λ v. v.out) is }
+pub same_after : (key number : ℕ) (p q : PassView) (answer : Claimed) → q ≡ after_claim key number answer p
+    → IsSamePass p q
+same_after key number p q (Before owner) is =
+    record { table = ap (λ v. v.table) is; is_root = ap (λ v. v.is_root) is; out = ap (λ v. v.out) is }
+same_after key number p q Least is =
+    record { table = ap (λ v. v.table) is; is_root = ap (λ v. v.is_root) is; out = ap (λ v. v.out) is }
+same_after key number p q Full is =
+    record { table = ap (λ v. v.table) is; is_root = ap (λ v. v.is_root) is; out = ap (λ v. v.out) is }
 
 -- the same with the list that the row was added to
-pub adds_kept : (row : Row) (p q : PassView) (answer : Claimed) (xs ys : List Row) → q ≡ after_claim row.key (first_claim + row.number) answer p → ys ≡ xs ++ row ∷ []
+pub adds_kept : (row : Row) (p q : PassView) (answer : Claimed) (xs ys : List Row)
+    → q ≡ after_claim row.key (first_claim + row.number) answer p → ys ≡ xs ++ row ∷ []
     → AddsClaimed (row ∷ []) p q xs ys
 adds_kept row p q answer xs ys is now = record {
   added = row ∷ [];
@@ -164,7 +187,8 @@ adds_kept row p q answer xs ys is now = record {
   pass = same_after row.key (first_claim + row.number) p q answer is;
 }
 
-pub adds_dropped : (row : Row) (p q : PassView) (owner : ℕ) (xs : List Row) → q ≡ after_claim row.key (first_claim + row.number) (Before owner) p
+pub adds_dropped : (row : Row) (p q : PassView) (owner : ℕ) (xs : List Row)
+    → q ≡ after_claim row.key (first_claim + row.number) (Before owner) p
     → owner < first_claim + row.number → is_win_row row ≡ false → AddsClaimed (row ∷ []) p q xs xs
 adds_dropped row p q owner xs is less no_win = record {
   added = [];
@@ -175,16 +199,22 @@ adds_dropped row p q owner xs is less no_win = record {
 
 -- the claims of the rows before a place, and of the one there
 pub adds_next : (found : List Row) (at : ℕ) (d : Row) (p q s : PassView) (xs ys zs : List Row) → at < length found
-    → AddsClaimed (take at found) p q xs ys → AddsClaimed (get_or found at d ∷ []) q s ys zs → AddsClaimed (take (at + 1) found) p s xs zs
+    → AddsClaimed (take at found) p q xs ys → AddsClaimed (get_or found at d ∷ []) q s ys zs
+    → AddsClaimed (take (at + 1) found) p s xs zs
 adds_next found at d p q s xs ys zs within so_far next =
-    subst (λ rows. AddsClaimed rows p s xs zs) (sym (take_more found at d within)) (adds_more (take at found) (get_or found at d ∷ []) p q s xs ys zs so_far next)
+    subst (λ rows. AddsClaimed rows p s xs zs) (sym (take_more found at d within))
+    (adds_more (take at found) (get_or found at d ∷ []) p q s xs ys zs so_far next)
 
-pub adds_all : (found : List Row) (at : ℕ) (p q : PassView) (xs ys : List Row) → length found ≤ at → AddsClaimed (take at found) p q xs ys → AddsClaimed found p q xs ys
+pub adds_all : (found : List Row) (at : ℕ) (p q : PassView) (xs ys : List Row) → length found ≤ at
+    → AddsClaimed (take at found) p q xs ys → AddsClaimed found p q xs ys
 adds_all found at p q xs ys end adds = subst (λ rows. AddsClaimed rows p q xs ys) (take_all at found end) adds
 
 -- a beaten row
-pub adds_beaten : (opening : List ℕ) (row : Row) (p q : PassView) (answer : Claimed) (xs : List Row) → q ≡ after_claim row.key (first_claim + row.number) answer p
-    → IsTold opening row.key (first_claim + row.number) answer p → IsBeaten answer row.verdict → AddsClaimed (row ∷ []) p q xs xs
+pub adds_beaten : (opening : List ℕ) (row : Row) (p q : PassView) (answer : Claimed) (xs : List Row)
+    → q ≡ after_claim row.key (first_claim + row.number) answer p
+    → IsTold opening row.key (first_claim + row.number) answer p → IsBeaten answer row.verdict
+    → AddsClaimed (row ∷ []) p q xs xs
 adds_beaten opening row p q answer xs is told beaten =
-    adds_dropped row p q beaten.0 xs (is ∙ ap (λ (a : Claimed). after_claim row.key (first_claim + row.number) a p) beaten.1)
+    adds_dropped row p q beaten.0 xs (is
+    ∙ ap (λ (a : Claimed). after_claim row.key (first_claim + row.number) a p) beaten.1)
     (subst (λ (a : Claimed). IsTold opening row.key (first_claim + row.number) a p) beaten.1 told).0 beaten.2

@@ -34,7 +34,8 @@ one_there number row is = ap (λ (b : Bool). if b then 1 else 0) (eq-eqb row.num
 one_not : (number : ℕ) (row : Row) → row.number ≢ number → one_at number row ≡ 0
 one_not number row other = ap (λ (b : Bool). if b then 1 else 0) (ne_eqb row.number number other)
 
-none_later : (number : ℕ) (rows : List Row) → All (λ later. number < later.number) rows → sum_by (one_at number) rows ≡ 0
+none_later : (number : ℕ) (rows : List Row) → All (λ later. number < later.number) rows
+    → sum_by (one_at number) rows ≡ 0
 none_later number [] later = refl
 none_later number (row ∷ rows) later =
     let here = one_not number row (λ is. absurd (let above = later 0 row (omega arith) in omega arith)) in
@@ -45,7 +46,8 @@ rising_once : (number : ℕ) (rows : List Row) → IsRising rows → sum_by (one
 rising_once number [] rising = omega arith
 rising_once number (row ∷ rows) rising = by_test (row.number == number) refl (rising_once number rows rising.1)
   where
-    by_test : (b : Bool) → (row.number == number) ≡ b → sum_by (one_at number) rows ≤ 1 → sum_by (one_at number) (row ∷ rows) ≤ 1
+    by_test : (b : Bool) → (row.number == number) ≡ b → sum_by (one_at number) rows ≤ 1
+        → sum_by (one_at number) (row ∷ rows) ≤ 1
     by_test true e rest =
         let same = eqb-true row.number number e in
         let here = one_there number row same in
@@ -55,7 +57,8 @@ rising_once number (row ∷ rows) rising = by_test (row.number == number) refl (
         let here = one_not number row (eqb-false row.number number e) in
         omega (arith, sum_by-cons (one_at number) row rows)
 
-once_apart : (rows : List Row) → ((number : ℕ) → sum_by (one_at number) rows ≤ 1) → AllPairs (λ a b. a.number ≢ b.number) rows
+once_apart : (rows : List Row) → ((number : ℕ) → sum_by (one_at number) rows ≤ 1)
+    → AllPairs (λ a b. a.number ≢ b.number) rows
 once_apart [] once = λ i j d low high. absurd (omega arith)
 once_apart (row ∷ rows) once = AllPairs-cons (λ (a b : Row). a.number ≢ b.number) row rows
     (λ k d within is.
@@ -69,14 +72,17 @@ once_apart (row ∷ rows) once = AllPairs-cons (λ (a b : Row). a.number ≢ b.n
 -- ---- the rows
 
 -- a row of which a smaller number was seen does not own its key
-not_owned : (opening closed : List ℕ) (claims seen : List (ℕ × ℕ)) (row : Row) → All (λ entry. WasOwner opening closed claims entry.0 entry.1) seen → SawLess seen row
+not_owned : (opening closed : List ℕ) (claims seen : List (ℕ × ℕ)) (row : Row)
+    → All (λ entry. WasOwner opening closed claims entry.0 entry.1) seen → SawLess seen row
     → is_owned closed row ≡ false
 not_owned opening closed claims seen row were saw =
-    let was : WasOwner opening closed claims row.key saw.number = All-contains (λ entry. WasOwner opening closed claims entry.0 entry.1) seen (row.key, saw.number) were saw.stands in
+    let was : WasOwner opening closed claims row.key saw.number = All-contains (λ entry.
+    WasOwner opening closed claims entry.0 entry.1) seen (row.key, saw.number) were saw.stands in
     let owner : ℕ = was.bound.0 in
     let below : owner ≤ saw.number = was.bound.2 in
     let less = saw.less in
-    ap (is_owner (first_claim + row.number)) was.bound.1 ∙ ne_eqb owner (first_claim + row.number) (λ is. absurd (omega arith))
+    ap (is_owner (first_claim + row.number)) was.bound.1
+    ∙ ne_eqb owner (first_claim + row.number) (λ is. absurd (omega arith))
 
 -- the rows that were kept of the live ones serve the end of the step
 pub rows_serve : (held : Held) (opening closed : List ℕ) (claims seen : List (ℕ × ℕ)) (rows dropped : List Row)
@@ -85,20 +91,25 @@ pub rows_serve : (held : Held) (opening closed : List ℕ) (claims seen : List (
     → All (λ row. is_owned closed row ≡ is_fresh_row [] (live_rows held) row) (live_rows held)
     → IsRising (live_rows held) → AreRowsOf held rows
 rows_serve held opening closed claims seen rows dropped moved may were owned rising = record {
-  live = All-weaker (Contains rows) (Contains (live_rows held)) (λ row there. Contains-permutation (rows ++ dropped) (live_rows held) row back (Contains-append_left rows dropped row there)) rows
+  live = All-weaker (Contains rows) (Contains (live_rows held)) (λ row there. Contains-permutation (rows ++ dropped)
+      (live_rows held) row back (Contains-append_left rows dropped row there)) rows
       (All-contains_itself rows);
   once = once_apart rows (λ number.
       let all = rising_once number (live_rows held) rising in
       let same = sum_by-IsPermutation (one_at number) (live_rows held) (rows ++ dropped) moved in
       omega (arith, sum_by-append (one_at number) rows dropped));
-  wins = λ k d within win. place (get_or (live_rows held) k d) (here k d within) (λ is_dropped. absurd (absurd_win (is_dropped.0) win));
+  wins = λ k d within win.
+      place (get_or (live_rows held) k d) (here k d within) (λ is_dropped. absurd (absurd_win (is_dropped.0) win));
   fresh = λ k d within fresh. place (get_or (live_rows held) k d) (here k d within)
-      (λ is_dropped. absurd (absurd_win (not_owned opening closed claims seen (get_or (live_rows held) k d) were is_dropped.1) (owned k d within ∙ first k d fresh)));
+      (λ is_dropped. absurd (absurd_win (not_owned opening closed claims seen (get_or (live_rows held) k d) were
+      is_dropped.1) (owned k d within ∙ first k d fresh)));
 } where
   -- what is fresh is so where nothing is seen
-  first : (k : ℕ) (d : Row) → is_fresh_row (seen_of held.bounds held.state) (live_rows held) (get_or (live_rows held) k d) ≡ true
+  first : (k : ℕ) (d : Row)
+      → is_fresh_row (seen_of held.bounds held.state) (live_rows held) (get_or (live_rows held) k d) ≡ true
       → is_fresh_row [] (live_rows held) (get_or (live_rows held) k d) ≡ true
-  first k d fresh = (and_parts (not (is_seen (seen_of held.bounds held.state) (get_or (live_rows held) k d).key)) _ fresh).1
+  first k d fresh =
+      (and_parts (not (is_seen (seen_of held.bounds held.state) (get_or (live_rows held) k d).key)) _ fresh).1
 
   back : IsPermutation (rows ++ dropped) (live_rows held)
   back = IsPermutation-sym (live_rows held) (rows ++ dropped) moved
@@ -110,7 +121,8 @@ rows_serve held opening closed claims seen rows dropped moved may were owned ris
   absurd_win {b} is_false is_true = cc
 
   place : (row : Row) → Contains (live_rows held) row → (MayBeDropped seen row → ⊥) → Contains rows row
-  place row there kept = ⊎_elim (λ stays. stays) (λ gone. absurd (kept (All-contains (MayBeDropped seen) dropped row may gone)))
+  place row there kept =
+      ⊎_elim (λ stays. stays) (λ gone. absurd (kept (All-contains (MayBeDropped seen) dropped row may gone)))
       (Contains-append_cases rows dropped row (Contains-permutation (live_rows held) (rows ++ dropped) row moved there))
 
 -- ---- the table
@@ -121,9 +133,11 @@ none_refused [] none = refl
 none_refused (row ∷ rows) none = absurd (let e = ap length none in omega (arith, e))
 
 -- the keys of rows that are claimed are among all their keys
-keys_there : (rows others : List Row) → All (Contains others) rows → All (λ row. Contains (map (λ other. other.key) others) row.key) rows
+keys_there : (rows others : List Row) → All (Contains others) rows
+    → All (λ row. Contains (map (λ other. other.key) others) row.key) rows
 keys_there rows others there =
-    All-weaker (Contains others) (λ row. Contains (map (λ other. other.key) others) row.key) (λ row is. one_key row others is) rows there
+    All-weaker (Contains others) (λ row. Contains (map (λ other. other.key) others) row.key)
+    (λ row is. one_key row others is) rows there
   where
     one_key : (row : Row) (others : List Row) → Contains others row → Contains (map (λ other. other.key) others) row.key
     one_key row others is = (
@@ -135,7 +149,8 @@ keys_there rows others there =
 -- the laws of the crate below that are used
 pub record Laws : Type 0 where
   pub own : (rows : List Row) → AreClaims rows (map claim_of rows)
-  pub moved : (rows : List Row) (claims others : List (ℕ × ℕ)) → IsPermutation claims others → AreClaims rows claims → AreClaims rows others
+  pub moved : (rows : List Row) (claims others : List (ℕ × ℕ)) → IsPermutation claims others → AreClaims rows claims
+      → AreClaims rows others
   pub owned : (opening closed : List ℕ) (seen : Seen) (step : ℕ) (rows : List Row) (claims : List (ℕ × ℕ))
       → HoldsSeen opening seen step → step < first_claim → AreClaims rows claims
       → ((key : ℕ) → owner_in closed key ≡ owner_after key (owner_in opening key) claims)
@@ -156,18 +171,23 @@ pub record IsClosedAfter (opening closed : List ℕ) (pass : PassView) : Type 0 
   pub full : All (HadNoRoom closed) pass.full
 
 -- no claim was refused
-no_refusal : (laws : Laws) (held : Held) (opening closed : List ℕ) (root pass : PassView) (lives rows : List Row) → IsOpenFor held opening
-    → length (live_rows held) ≤ length held.state.front * held.bounds.inputs → IsPermutation (live_rows held) lives → root.claims ≡ [] → root.full ≡ []
+no_refusal : (laws : Laws) (held : Held) (opening closed : List ℕ) (root pass : PassView) (lives rows : List Row)
+    → IsOpenFor held opening
+    → length (live_rows held) ≤ length held.state.front * held.bounds.inputs → IsPermutation (live_rows held) lives
+    → root.claims ≡ [] → root.full ≡ []
     → (claimed : AreClaimed lives root pass rows) → IsClosedAfter opening closed pass → claimed.refused ≡ []
 no_refusal laws held opening closed root pass lives rows opened few moved no_claims no_full claimed after =
-    none_refused claimed.refused (sym full_is ∙ laws.room opening closed keys pass.full pass.claims opened.table after.table after.size
+    none_refused claimed.refused (sym full_is
+    ∙ laws.room opening closed keys pass.full pass.claims opened.table after.table after.size
     (let many_keys : length keys ≡ length all = length-map all (λ (row : Row). row.key) in
     let as_many : length all ≡ length lives = length_permutation lives all claimed.parts in
     let as_lives : length lives ≡ length (live_rows held) = length_permutation (live_rows held) lives moved in
     let room = opened.room in omega arith)
     after.owners
-    (subst (λ c. All (λ claim. Contains keys claim.0) c) (sym claims_are) (All-map (λ claim. Contains keys claim.0) claim_of claimed.placed (keys_there claimed.placed all in_left)))
-    (subst (λ f. All (Contains keys) f) (sym full_is) (All-map (Contains keys) (λ (row : Row). row.key) claimed.refused (keys_there claimed.refused all in_right)))
+    (subst (λ c. All (λ claim. Contains keys claim.0) c) (sym claims_are)
+    (All-map (λ claim. Contains keys claim.0) claim_of claimed.placed (keys_there claimed.placed all in_left)))
+    (subst (λ f. All (Contains keys) f) (sym full_is)
+    (All-map (Contains keys) (λ (row : Row). row.key) claimed.refused (keys_there claimed.refused all in_right)))
     after.full)
   where
     all : List Row
@@ -183,46 +203,62 @@ no_refusal laws held opening closed root pass lives rows opened few moved no_cla
     full_is = claimed.full ∙ ap (λ f. f ++ map (λ row. row.key) claimed.refused) no_full
 
     in_left : All (Contains all) claimed.placed
-    in_left = All-weaker (Contains claimed.placed) (Contains all) (λ row is. Contains-append_left claimed.placed claimed.refused row is) claimed.placed (All-contains_itself claimed.placed)
+    in_left = All-weaker (Contains claimed.placed) (Contains all) (λ row is.
+        Contains-append_left claimed.placed claimed.refused row is) claimed.placed (All-contains_itself claimed.placed)
 
     in_right : All (Contains all) claimed.refused
-    in_right = All-weaker (Contains claimed.refused) (Contains all) (λ row is. Contains-append_right claimed.placed claimed.refused row is) claimed.refused (All-contains_itself claimed.refused)
+    in_right = All-weaker (Contains claimed.refused) (Contains all) (λ row is. Contains-append_right claimed.placed
+        claimed.refused row is) claimed.refused (All-contains_itself claimed.refused)
 
 -- the rows and the closed table serve the end of the step
-pub all_serves : (laws : Laws) (held : Held) (opening closed : List ℕ) (root pass : PassView) (lives rows : List Row) → IsOpenFor held opening → held.state.step < first_claim
-    → IsRising (live_rows held) → length (live_rows held) ≤ length held.state.front * held.bounds.inputs → IsPermutation (live_rows held) lives
-    → root.claims ≡ [] → root.seen ≡ [] → root.full ≡ [] → AreClaimed lives root pass rows → IsClosedAfter opening closed pass
+pub all_serves : (laws : Laws) (held : Held) (opening closed : List ℕ) (root pass : PassView) (lives rows : List Row)
+    → IsOpenFor held opening → held.state.step < first_claim
+    → IsRising (live_rows held) → length (live_rows held) ≤ length held.state.front * held.bounds.inputs
+    → IsPermutation (live_rows held) lives
+    → root.claims ≡ [] → root.seen ≡ [] → root.full ≡ [] → AreClaimed lives root pass rows
+    → IsClosedAfter opening closed pass
     → AreRowsOf held rows × IsClosedFor held closed
-all_serves laws held opening closed root pass lives rows opened step rising few moved no_claims no_seen no_full claimed after = (
-  rows_serve held opening closed pass.claims pass.seen rows claimed.dropped (IsPermutation-trans (live_rows held) lives (rows ++ claimed.dropped) moved claimed.choice) claimed.dropped_may after.seen
-      (laws.owned opening closed [] held.state.step (live_rows held) pass.claims opened.seen step are_claims after.owners) rising,
-  record {
-    opening = opening;
-    claims = pass.claims;
-    older = length (seen_of held.bounds held.state);
-    table = after.table;
-    seen = subst (λ (seen : Seen). HoldsSeen opening seen held.state.step) (sym (drop_all (length (seen_of held.bounds held.state)) (seen_of held.bounds held.state) (omega arith))) opened.seen;
-    claimed = are_claims;
-    owners = after.owners;
-  },
-) where
-  none : claimed.refused ≡ []
-  none = no_refusal laws held opening closed root pass lives rows opened few moved no_claims no_full claimed after
+all_serves laws held opening closed root pass lives rows opened step rising few moved no_claims no_seen no_full claimed
+    after = (
+      rows_serve held opening closed pass.claims pass.seen rows claimed.dropped
+          (IsPermutation-trans (live_rows held) lives
+          (rows ++ claimed.dropped) moved claimed.choice) claimed.dropped_may after.seen
+          (laws.owned opening closed [] held.state.step (live_rows held) pass.claims opened.seen step are_claims
+          after.owners) rising,
+      record {
+        opening = opening;
+        claims = pass.claims;
+        older = length (seen_of held.bounds held.state);
+        table = after.table;
+        seen = subst (λ (seen : Seen). HoldsSeen opening seen held.state.step)
+            (sym (drop_all (length (seen_of held.bounds held.state)) (seen_of held.bounds held.state) (omega arith)))
+            opened.seen;
+        claimed = are_claims;
+        owners = after.owners;
+      },
+    ) where
+      none : claimed.refused ≡ []
+      none = no_refusal laws held opening closed root pass lives rows opened few moved no_claims no_full claimed after
 
-  placed : IsPermutation (live_rows held) claimed.placed
-  placed = IsPermutation-trans (live_rows held) lives claimed.placed moved
-      (subst (λ r. IsPermutation lives r) (ap (λ r. claimed.placed ++ r) none ∙ append-nil claimed.placed) claimed.parts)
+      placed : IsPermutation (live_rows held) claimed.placed
+      placed = IsPermutation-trans (live_rows held) lives claimed.placed moved
+          (subst (λ r. IsPermutation lives r) (ap (λ r. claimed.placed ++ r) none
+          ∙ append-nil claimed.placed) claimed.parts)
 
-  claims_are : pass.claims ≡ map claim_of claimed.placed
-  claims_are = claimed.claims ∙ ap (λ c. c ++ map claim_of claimed.placed) no_claims
+      claims_are : pass.claims ≡ map claim_of claimed.placed
+      claims_are = claimed.claims ∙ ap (λ c. c ++ map claim_of claimed.placed) no_claims
 
-  are_claims : AreClaims (live_rows held) pass.claims
-  are_claims = subst (λ c. AreClaims (live_rows held) c) (sym claims_are)
-      (laws.moved (live_rows held) (map claim_of (live_rows held)) (map claim_of claimed.placed) (IsPermutation-map claim_of (live_rows held) claimed.placed placed) (laws.own (live_rows held)))
+      are_claims : AreClaims (live_rows held) pass.claims
+      are_claims = subst (λ c. AreClaims (live_rows held) c) (sym claims_are)
+          (laws.moved (live_rows held) (map claim_of (live_rows held)) (map claim_of claimed.placed)
+          (IsPermutation-map claim_of (live_rows held) claimed.placed placed) (laws.own (live_rows held)))
 
 -- the closed table, where the words that the table was opened with have another name
-pub closed_after : (first opening closed : List ℕ) (pass : PassView) → first ≡ opening → IsTable closed → length closed ≡ length first
+pub closed_after : (first opening closed : List ℕ) (pass : PassView) → first ≡ opening → IsTable closed
+    → length closed ≡ length first
     → ((key : ℕ) → owner_in closed key ≡ owner_after key (owner_in first key) pass.claims)
-    → All (λ entry. WasOwner first closed pass.claims entry.0 entry.1) pass.seen → All (HadNoRoom closed) pass.full → IsClosedAfter opening closed pass
+    → All (λ entry. WasOwner first closed pass.claims entry.0 entry.1) pass.seen → All (HadNoRoom closed) pass.full
+    → IsClosedAfter opening closed pass
 closed_after first opening closed pass same table size owners seen full =
-    subst (λ words. IsClosedAfter words closed pass) same (record { table = table; size = size; owners = owners; seen = seen; full = full })
+    subst (λ words. IsClosedAfter words closed pass) same
+    (record { table = table; size = size; owners = owners; seen = seen; full = full })

@@ -22,18 +22,21 @@ use Rattle.nj_workers.proofs.Words.{rows_append}
 
 range_more : (a n : ℕ) → range_with_len a (suc n) ≡ range_with_len a n ++ (a + n) ∷ []
 range_more a zero = ap (λ m. m ∷ []) (let e : a ≡ a + 0 = omega arith in e)
-range_more a (suc n) = ap (λ rest. a ∷ rest) (range_more (a + 1) n ∙ ap (λ m. range_with_len (a + 1) n ++ m ∷ []) (let e : a + 1 + n ≡ a + suc n = omega arith in e))
+range_more a (suc n) = ap (λ rest. a ∷ rest) (range_more (a + 1) n
+    ∙ ap (λ m. range_with_len (a + 1) n ++ m ∷ []) (let e : a + 1 + n ≡ a + suc n = omega arith in e))
 
 range_next : (n : ℕ) → range_with_len 0 (suc n) ≡ range_with_len 0 n ++ n ∷ []
 range_next n = range_more 0 n ∙ ap (λ m. range_with_len 0 n ++ m ∷ []) (let e : 0 + n ≡ n = omega arith in e)
 
 -- the first pieces are the first words
-rows_upto : (held : Held) (n : ℕ) → 16 * n < length held.state.front + 16 → rows_of held (range_with_len 0 n) ≡ rows_from held 0 (take (16 * n) held.state.front)
+rows_upto : (held : Held) (n : ℕ) → 16 * n < length held.state.front + 16
+    → rows_of held (range_with_len 0 n) ≡ rows_from held 0 (take (16 * n) held.state.front)
 unfolding piece_rows
 rows_upto held zero within = refl
 rows_upto held (suc n) within =
     let front : List Word = held.state.front in
-    let long : 0 + length (take (16 * n) front) ≡ 16 * n = (let e = length-take-le (16 * n) front (omega arith) in omega (arith, e)) in
+    let long : 0 + length (take (16 * n) front) ≡ 16 * n =
+    (let e = length-take-le (16 * n) front (omega arith) in omega (arith, e)) in
     let far : 16 * suc n ≡ 16 * n + 16 = omega arith in
     ap (rows_of held) (range_next n)
     ∙ flat_map-append (piece_rows held) (range_with_len 0 n) (n ∷ [])
@@ -44,7 +47,8 @@ rows_upto held (suc n) within =
     ∙ ap (rows_from held 0) (sym (take-add (16 * n) 16 front))
     ∙ ap (λ m. rows_from held 0 (take m front)) (sym far)
 
-runs_upto : (held : Held) (n : ℕ) → runs_of held (range_with_len 0 n) ≡ runs_from held.plan (take (16 * n) held.state.front)
+runs_upto : (held : Held) (n : ℕ)
+    → runs_of held (range_with_len 0 n) ≡ runs_from held.plan (take (16 * n) held.state.front)
 unfolding piece_runs
 runs_upto held zero = refl
 runs_upto held (suc n) =
@@ -61,11 +65,13 @@ runs_upto held (suc n) =
 pub all_rows : (held : Held) → rows_of held (range_with_len 0 (pieces_in held)) ≡ rows_from held 0 held.state.front
 unfolding pieces_in
 all_rows held =
-    rows_upto held (pieces_in held) (omega arith) ∙ ap (rows_from held 0) (take_all (16 * pieces_in held) held.state.front (omega arith))
+    rows_upto held (pieces_in held) (omega arith)
+    ∙ ap (rows_from held 0) (take_all (16 * pieces_in held) held.state.front (omega arith))
 
 pub all_runs : (held : Held) → runs_of held (range_with_len 0 (pieces_in held)) ≡ runs_from held.plan held.state.front
 unfolding pieces_in
-all_runs held = runs_upto held (pieces_in held) ∙ ap (runs_from held.plan) (take_all (16 * pieces_in held) held.state.front (omega arith))
+all_runs held = runs_upto held (pieces_in held)
+    ∙ ap (runs_from held.plan) (take_all (16 * pieces_in held) held.state.front (omega arith))
 
 -- ---- in any order
 
@@ -110,33 +116,45 @@ first_found x xs ys sums =
     let is : one_for x x ≡ 1 = ap (λ (b : Bool). if b then 1 else 0) (eq-eqb x x refl) in
     has x ys (omega arith)
 
-rest_sums : (x : ℕ) (xs ys : List ℕ) (found : Has ys x) → SameSums (x ∷ xs) ys → SameSums xs (found.before ++ found.after)
+rest_sums : (x : ℕ) (xs ys : List ℕ) (found : Has ys x) → SameSums (x ∷ xs) ys
+    → SameSums xs (found.before ++ found.after)
 rest_sums x xs ys found sums h =
     let left = sum_by-cons h x xs in
     let both : sum_by h (x ∷ xs) ≡ sum_by h (found.before ++ x ∷ found.after) = sums h ∙ ap (sum_by h) found.is in
-    omega (arith, sum_by-append h found.before (x ∷ found.after), sum_by-append h found.before found.after, sum_by-cons h x found.after)
+    omega (
+      arith,
+      sum_by-append h found.before (x ∷ found.after),
+      sum_by-append h found.before found.after,
+      sum_by-cons h x found.after,
+    )
 
 -- rows in front of others go behind them
 pass_by : (a b c : List Row) → IsPermutation (a ++ (b ++ c)) (b ++ (a ++ c))
 pass_by a b c =
     subst (λ l. IsPermutation l (b ++ (a ++ c))) (append_assoc a b c)
-    (subst (λ r. IsPermutation ((a ++ b) ++ c) r) (append_assoc b a c) (IsPermutation-append (a ++ b) (b ++ a) c c (IsPermutation-append_comm a b) (IsPermutation-refl c)))
+    (subst (λ r. IsPermutation ((a ++ b) ++ c) r) (append_assoc b a c)
+    (IsPermutation-append (a ++ b) (b ++ a) c c (IsPermutation-append_comm a b) (IsPermutation-refl c)))
 
 -- the rows of pieces, where two lists have the same pieces, each as often
 pub rows_moved : (f : ℕ → List Row) (xs ys : List ℕ) → SameSums xs ys → IsPermutation (flat_map f xs) (flat_map f ys)
-rows_moved f [] ys sums = subst (λ l. IsPermutation [] (flat_map f l)) (sym (none_there ys (sym (sums (λ _. 1))))) (IsPermutation-refl [])
+rows_moved f [] ys sums =
+    subst (λ l. IsPermutation [] (flat_map f l)) (sym (none_there ys (sym (sums (λ _. 1))))) (IsPermutation-refl [])
 rows_moved f (x ∷ xs) ys sums =
     let found : Has ys x = first_found x xs ys sums in
     let front : List Row = flat_map f found.before in
     let back : List Row = flat_map f found.after in
     let rest : IsPermutation (flat_map f xs) (front ++ back) =
-    subst (λ r. IsPermutation (flat_map f xs) r) (flat_map-append f found.before found.after) (rows_moved f xs (found.before ++ found.after) (rest_sums x xs ys found sums)) in
+    subst (λ r. IsPermutation (flat_map f xs) r) (flat_map-append f found.before found.after)
+    (rows_moved f xs (found.before ++ found.after) (rest_sums x xs ys found sums)) in
     let here : IsPermutation (f x ++ flat_map f xs) (front ++ (f x ++ back)) =
     IsPermutation-trans (f x ++ flat_map f xs) (f x ++ (front ++ back)) (front ++ (f x ++ back))
-    (IsPermutation-append (f x) (f x) (flat_map f xs) (front ++ back) (IsPermutation-refl (f x)) rest) (pass_by (f x) front back) in
-    subst (λ r. IsPermutation (f x ++ flat_map f xs) r) (sym (flat_map-append f found.before (x ∷ found.after)) ∙ ap (flat_map f) (sym found.is)) here
+    (IsPermutation-append (f x) (f x) (flat_map f xs) (front ++ back) (IsPermutation-refl (f x)) rest)
+    (pass_by (f x) front back) in
+    subst (λ r. IsPermutation (f x ++ flat_map f xs) r) (sym (flat_map-append f found.before (x ∷ found.after))
+    ∙ ap (flat_map f) (sym found.is)) here
 
 -- pieces that weigh no more than others have no more candidates
-pub fewer_frames : (hold from to : ℕ) (f : ℕ → ℕ) (taken all : List ℕ) → sum_by f taken ≤ sum_by f all → to ≤ from + hold * sum_by f taken → to ≤ from + hold * sum_by f all
+pub fewer_frames : (hold from to : ℕ) (f : ℕ → ℕ) (taken all : List ℕ) → sum_by f taken ≤ sum_by f all
+    → to ≤ from + hold * sum_by f taken → to ≤ from + hold * sum_by f all
 fewer_frames hold from to f taken all fewer frames =
     let more : hold * sum_by f taken ≤ hold * sum_by f all = mul-le-mul_left hold fewer in omega arith

@@ -12,19 +12,24 @@ use Rattle.nj_workers.specs.Room.{IsOpenFor}
 use Rattle.nj_workers.proofs.Counters.{counted_more}
 
 -- so many words and pads fit in a table of the search's size
-pub room_fits : (given : Given) (script : Record) (bounds : Bounds) (front : ℕ) → bounds_of given script ≡ bounds → front ≤ bounds.most
+pub room_fits : (given : Given) (script : Record) (bounds : Bounds) (front : ℕ) → bounds_of given script ≡ bounds
+    → front ≤ bounds.most
     → given.front * given.inputs ≤ 2 ^ given.exponent → front * given.inputs ≤ 2 ^ given.exponent
 room_fits given script bounds front is few fits =
     let most : given.front ≡ bounds.most = ap (λ (b : Bounds). b.most) is in
-    let more : front * given.inputs ≤ given.front * given.inputs = mul-le-mul_right given.inputs (let e : front ≤ given.front = omega arith in e) in
+    let more : front * given.inputs ≤ given.front * given.inputs =
+    mul-le-mul_right given.inputs (let e : front ≤ given.front = omega arith in e) in
     omega arith
 
 -- an empty table with room is open for the step
-pub opened_for : (held : Held) (given : Given) (words : List ℕ) (front exponent : ℕ) → bounds_of given held.plan.script ≡ held.bounds → front ≡ length held.state.front
-    → IsTable words → slot_count words ≡ 2 ^ exponent → entries_in words ≡ [] → HoldsSeen words [] held.state.step → front * given.inputs ≤ 2 ^ exponent → IsOpenFor held words
+pub opened_for : (held : Held) (given : Given) (words : List ℕ) (front exponent : ℕ)
+    → bounds_of given held.plan.script ≡ held.bounds → front ≡ length held.state.front
+    → IsTable words → slot_count words ≡ 2 ^ exponent → entries_in words ≡ [] → HoldsSeen words [] held.state.step
+    → front * given.inputs ≤ 2 ^ exponent → IsOpenFor held words
 opened_for held given words front exponent is many table slots empty seen fits =
     let inputs : given.inputs ≡ held.bounds.inputs = ap (λ (b : Bounds). b.inputs) is in
-    let rooms : front * given.inputs ≡ length held.state.front * held.bounds.inputs = ap (λ (n : ℕ). n * given.inputs) many ∙ ap (λ (n : ℕ). length held.state.front * n) inputs in
+    let rooms : front * given.inputs ≡ length held.state.front * held.bounds.inputs =
+    ap (λ (n : ℕ). n * given.inputs) many ∙ ap (λ (n : ℕ). length held.state.front * n) inputs in
     let none : length (entries_in words) ≡ 0 = ap length empty in record {
       table = table;
       seen = seen;
@@ -32,17 +37,21 @@ opened_for held given words front exponent is many table slots empty seen fits =
     }
 
 -- the candidates are counted, and those that are kept by the first counter
-pub counted_whole : (workers hold runs kept : ℕ) (counts afters : List ℕ) (last : ℕ) → 1 ≤ workers → AreCounted workers counts afters (hold * runs)
-    → get_or afters 0 0 ≤ last → last ≤ get_or afters 0 0 + hold * kept → AreCounted workers counts (set afters 0 last) (hold * (runs + kept))
+pub counted_whole : (workers hold runs kept : ℕ) (counts afters : List ℕ) (last : ℕ) → 1 ≤ workers
+    → AreCounted workers counts afters (hold * runs)
+    → get_or afters 0 0 ≤ last → last ≤ get_or afters 0 0 + hold * kept
+    → AreCounted workers counts (set afters 0 last) (hold * (runs + kept))
 counted_whole workers hold runs kept counts afters last some counted low high =
     subst (λ (n : ℕ). AreCounted workers counts (set afters 0 last) n) (sym (mul-add hold runs kept))
     (counted_more workers (hold * runs) (hold * kept) counts afters last some counted low high)
 
 -- a bound that is further off
-pub counted_within : (workers hold runs kept : ℕ) (counts afters : List ℕ) → AreCounted workers counts afters (hold * runs) → AreCounted workers counts afters (hold * (runs + kept))
+pub counted_within : (workers hold runs kept : ℕ) (counts afters : List ℕ)
+    → AreCounted workers counts afters (hold * runs) → AreCounted workers counts afters (hold * (runs + kept))
 counted_within workers hold runs kept counts afters counted = record {
   many = counted.many;
   none_falls = counted.none_falls;
   others = counted.others;
-  together = (let was = counted.together in let more : hold * (runs + kept) ≡ hold * runs + hold * kept = mul-add hold runs kept in omega arith);
+  together = (let was = counted.together in
+      let more : hold * (runs + kept) ≡ hold * runs + hold * kept = mul-add hold runs kept in omega arith);
 }

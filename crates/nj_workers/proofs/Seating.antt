@@ -21,7 +21,8 @@ unfolding rom_in
 of_cartridge plan machine is = ap rom_of is
 
 -- none has a hand yet
-pub seated_none : (table : TableView) (held : Held) (ends : List WorkEnd) (takers turned : List Taker) → ends ≡ [] → turned ≡ reverse takers
+pub seated_none : (table : TableView) (held : Held) (ends : List WorkEnd) (takers turned : List Taker) → ends ≡ []
+    → turned ≡ reverse takers
     → All (IsSeated table held) ends × (map taker_of ends ++ reverse turned ≡ takers)
 seated_none table held ends takers turned none is = (
   subst (All (IsSeated table held)) (sym none) (All-nil (IsSeated table held)),
@@ -35,7 +36,8 @@ pub record IsBlank (table : TableView) (pass : PassView) : Type 0 where
   pub seen : pass.seen ≡ []
   pub full : pass.full ≡ []
 
-pub blank_given : (table : TableView) (pass given : PassView) (n : ℕ) → pass ≡ record (first_pass table.id) { out = n } → IsGiven pass given → IsBlank table given
+pub blank_given : (table : TableView) (pass given : PassView) (n : ℕ) → pass ≡ record (first_pass table.id) { out = n }
+    → IsGiven pass given → IsBlank table given
 blank_given table pass given n is from = record {
   own = from.table ∙ ap (λ (p : PassView). p.table) is;
   claims = from.claims;
@@ -44,8 +46,10 @@ blank_given table pass given n is from = record {
 }
 
 -- one hand more
-pub seated_more : (table : TableView) (held : Held) (ends next : List WorkEnd) (end : WorkEnd) (takers rest all : List Taker) → end.hand.search.now ≡ held → rom_of end.hand.machine ≡ rom_in held.plan
-    → IsBlank table end.hand.pass → end.rows.items ≡ [] → All (IsSeated table held) ends → map taker_of ends ++ reverse takers ≡ all → takers ≡ rest ++ end.hand.taker ∷ []
+pub seated_more : (table : TableView) (held : Held) (ends next : List WorkEnd) (end : WorkEnd)
+    (takers rest all : List Taker) → end.hand.search.now ≡ held → rom_of end.hand.machine ≡ rom_in held.plan
+    → IsBlank table end.hand.pass → end.rows.items ≡ [] → All (IsSeated table held) ends
+    → map taker_of ends ++ reverse takers ≡ all → takers ≡ rest ++ end.hand.taker ∷ []
     → next ≡ ends ++ end ∷ [] → All (IsSeated table held) next × (map taker_of next ++ reverse rest ≡ all)
 seated_more table held ends next end takers rest all search cartridge blank rows seated whole takers_are next_is = (
   subst (All (IsSeated table held)) (sym next_is) (All-push (IsSeated table held) ends end seated (record {
@@ -61,8 +65,10 @@ seated_more table held ends next end takers rest all search cartridge blank rows
 )
 
 -- one pass more is out
-pub lent_more : (table : TableView) (pass lent : PassView) (ends next : List WorkEnd) (end : WorkEnd) → pass ≡ record (first_pass table.id) { out = length ends } → lent ≡ lent_pass pass
+pub lent_more : (table : TableView) (pass lent : PassView) (ends next : List WorkEnd) (end : WorkEnd)
+    → pass ≡ record (first_pass table.id) { out = length ends } → lent ≡ lent_pass pass
     → next ≡ ends ++ end ∷ [] → lent ≡ record (first_pass table.id) { out = length next }
 lent_more table pass lent ends next end is lent_is next_is =
-    let many : length ends + 1 ≡ length next = (let e = ap length next_is in omega (arith, length-append ends (end ∷ []))) in
+    let many : length ends + 1 ≡ length next =
+    (let e = ap length next_is in omega (arith, length-append ends (end ∷ []))) in
     lent_is ∙ ap lent_pass is ∙ ap (λ (n : ℕ). record (first_pass table.id) { out = n }) many

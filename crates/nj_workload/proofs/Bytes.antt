@@ -28,7 +28,8 @@ pub bytes_more : (number n : ℕ) →
 unfolding bytes_from byte_at
 bytes_more number n =
     map-range_with_len_more (λ place. byte_of (state_after number (place + 1))) 0 n n (omega arith)
-    ∙ ap (λ state. map (λ place. byte_of (state_after number (place + 1))) (range_with_len 0 n) ++ byte_of state ∷ []) (state_more number n)
+    ∙ ap (λ state. map (λ place. byte_of (state_after number (place + 1))) (range_with_len 0 n) ++ byte_of state ∷ [])
+    (state_more number n)
 
 -- how many they are
 pub bytes_length : (number place count : ℕ) → length (bytes_from number place count) ≡ count

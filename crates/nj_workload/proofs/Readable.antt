@@ -52,9 +52,11 @@ contents_with file prg chr prg_units chr_units mapper mirroring first second =
 
 -- the memories of a file of two pieces behind the header
 contents_are : (prg chr : List ℕ) → length prg ≡ 16384 → length chr ≡ 8192 →
-    contents_of (header ++ (prg ++ chr)) ≡ record { prg = prg; chr = chr; chr_ram = false; vertical = false; mapper = 0 }
+    contents_of (header ++ (prg ++ chr))
+    ≡ record { prg = prg; chr = chr; chr_ram = false; vertical = false; mapper = 0 }
 contents_are prg chr prg_size chr_size =
-    contents_with (header ++ (prg ++ chr)) prg chr (prg_is (prg ++ chr)) (chr_is (prg ++ chr)) (mapper_is (prg ++ chr)) refl
+    contents_with (header ++ (prg ++ chr)) prg chr (prg_is (prg ++ chr)) (chr_is (prg ++ chr))
+    (mapper_is (prg ++ chr)) refl
     (piece header prg chr 16 16400 refl (ap (λ n. 16 + n) prg_size))
     (ap (λ last. slice_range (header ++ (prg ++ last)) 16400 24592) (sym (append-nil chr))
     ∙ piece (header ++ prg) chr [] 16400 24592
@@ -62,11 +64,18 @@ contents_are prg chr prg_size chr_size =
     (ap (λ n. 16400 + n) chr_size))
 
 -- the reading of a number's file
-pub game_read : (number : ℕ) → cartridge_of (game_file number) ≡ Ok (record { prg = program_memory (tables_of number); chr = zeros 8192; chr_ram = false; vertical = false; mapper = 0 })
+pub game_read : (number : ℕ) → cartridge_of (game_file number) ≡ Ok (record {
+  prg = program_memory (tables_of number);
+  chr = zeros 8192;
+  chr_ram = false;
+  vertical = false;
+  mapper = 0;
+})
 unfolding cartridge_of file_with
 game_read number =
     let rest : List ℕ = program_memory (tables_of number) ++ zeros 8192 in
     ap (λ r. accepted_unless r (contents_of (header ++ rest)))
-    (none_refused (header ++ rest) refl (file_length number) refl refl (mapper_is rest) (prg_is rest) (chr_is rest) (timing_is rest))
+    (none_refused (header ++ rest) refl (file_length number) refl refl (mapper_is rest) (prg_is rest) (chr_is rest)
+    (timing_is rest))
     ∙ ap Ok (contents_are (program_memory (tables_of number)) (zeros 8192)
     (program_length (tables_of number) (tables_length number)) (zeros_length 8192))

@@ -14,8 +14,9 @@ header = 78 ∷ 69 ∷ 83 ∷ 26 ∷ 1 ∷ 1 ∷ 0 ∷ 0 ∷ 0 ∷ 0 ∷ 0 ∷ 0
 abbrev pub reset_code : List ℕ
 reset_code = 120 ∷ 169 ∷ 128 ∷ 141 ∷ 0 ∷ 32 ∷ 76 ∷ 6 ∷ 128 ∷ []
 
--- at $8009, in each NMI: reads the pad, moves $10 and $11 by its directions, and then puts $10 through the table at $8100
--- if A is pressed, and $11 through that at $8200 if B is pressed (NMOS 6502 opcodes; NESdev Wiki, "Controller reading")
+-- at $8009, in each NMI: reads the pad, moves $10 and $11 by its directions, and then puts $10 through the table at
+-- $8100 if A is pressed, and $11 through that at $8200 if B is pressed (NMOS 6502 opcodes; NESdev Wiki, "Controller
+-- reading")
 abbrev pub frame_code : List ℕ
 frame_code =
     169 ∷ 1 ∷ 141 ∷ 22 ∷ 64 ∷ 74 ∷ 141 ∷ 22 ∷ 64 ∷ 162 ∷ 8 ∷ 173 ∷ 22 ∷ 64 ∷ 74 ∷ 38

@@ -12,5 +12,11 @@ pub fn game_file_size(number: u64)
 /// definition, with horizontal mirroring.
 #[tactic(auto, using(crate::proofs::Readable::game_read))]
 pub fn game_file_is_read(number: u64)
-    ensures { cartridge_of (game_file number) ≡ Ok (record { prg = program_memory (tables_of number); chr = zeros 8192; chr_ram = false; vertical = false; mapper = 0 }) }
+    ensures { cartridge_of (game_file number) ≡ Ok (record {
+      prg = program_memory (tables_of number);
+      chr = zeros 8192;
+      chr_ram = false;
+      vertical = false;
+      mapper = 0;
+    }) }
 {}

@@ -31,7 +31,8 @@ pub struct Workload {
 fn files_of(alloc: Global, bytes: &[u8]) -> Result<Workload, AllocError>
     requires { length bytes.now ≡ 514 }
     ensures cart { IfOk result (λ made. made.cart ≡ file_with (take 512 bytes.now)) }
-    ensures script { IfOk result (λ made. made.script ≡ script_with (slice_index bytes.now 512) (slice_index bytes.now 513)) }
+    ensures script { IfOk result (λ made. made.script
+        ≡ script_with (slice_index bytes.now 512) (slice_index bytes.now 513)) }
     ensures start { IfOk result (λ made. made.start ≡ start_text) }
 {
     let cart = cartridge::made(alloc, &bytes[..512])?;

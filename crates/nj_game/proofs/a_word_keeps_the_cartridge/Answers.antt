@@ -8,4 +8,5 @@ returns-clause-ready c plan word h = c.frames_keep_the_cartridge.ensures.played 
 
 pub returns-clause-cartridge : goal.returns-clause-cartridge
 unfolding state_of
-returns-clause-cartridge c plan word h = c.frames_keep_the_cartridge.ensures.played_kept plan.cartridge (movie_of plan word) h
+returns-clause-cartridge c plan word h =
+    c.frames_keep_the_cartridge.ensures.played_kept plan.cartridge (movie_of plan word) h

@@ -34,7 +34,8 @@ returns-clause-answer g c =
     let read : word_of c.args.script.now.hold c.args.start.now c.args.movie.now ≡ Ok word =
     word_at c.hold-hold.ensures.value c.pads.ensures.pads c.pads-2.ensures.pads ∙ answered.word in
     let some : 1 ≤ c.args.script.now.hold = omega (arith, c.hold-hold.ensures.value, c.hold-hold.ensures.low) in
-    told plan c.args.movie.now word c.follow-step.new.self.judged c.follow-step.result _ some read c.follow-step.ensures.count
+    told plan c.args.movie.now word c.follow-step.new.self.judged c.follow-step.result _ some read
+    c.follow-step.ensures.count
     (ap length c.pads-3.ensures.pads) ended.judged_is
     ∙ ap Ok (sym c.replayed.ensures)
 

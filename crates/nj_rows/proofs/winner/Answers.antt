@@ -18,4 +18,5 @@ loop-left-preserved c =
 pub returns-clause-none : goal.returns-clause-none
 returns-clause-none c =
     let zero : c.loop-left.left ≡ 0 = omega (arith, c.loop-left-test.false) in
-    none_exactly c.args.rows.now c.loop-left.best (c.loop-left.invariant.1 ∙ ap (λ i. winner_of (drop i c.args.rows.now)) zero)
+    none_exactly c.args.rows.now c.loop-left.best
+    (c.loop-left.invariant.1 ∙ ap (λ i. winner_of (drop i c.args.rows.now)) zero)

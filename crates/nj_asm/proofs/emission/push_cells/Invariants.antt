@@ -5,4 +5,5 @@ use Rattle.nj_asm.specs.Assembly.{homes, cell_bytes}
 use Rattle.nj_asm.proofs.emission.push_cells.Given as goal
 
 abbrev pub invariant-loop-cell : goal.invariant-loop-cell
-invariant-loop-cell l = l.bytes ≡ l.initial.bytes ++ flat_map (cell_bytes (homes l.labels) l.at) (take l.cell-index l.cells)
+invariant-loop-cell l =
+    l.bytes ≡ l.initial.bytes ++ flat_map (cell_bytes (homes l.labels) l.at) (take l.cell-index l.cells)

@@ -8,12 +8,14 @@ pub returns-then-is_code : goal.returns-then-is_code
 unfolding opcode_of
 returns-then-is_code c =
     sym (c.loop-code.invariant
-    ∙ first_code_found (is_code c.args.word.now c.args.wanted) c.loop-code.code (omega arith) (sym c.is_code.ensures ∙ c.if-is_code.true))
+    ∙ first_code_found (is_code c.args.word.now c.args.wanted) c.loop-code.code (omega arith)
+    (sym c.is_code.ensures ∙ c.if-is_code.true))
 
 pub loop-code-preserved : goal.loop-code-preserved
 loop-code-preserved c =
     c.loop-code.invariant
-    ∙ first_code_next (is_code c.args.word.now c.args.wanted) c.loop-code.code (omega arith) (sym c.is_code.ensures ∙ c.if-is_code.false)
+    ∙ first_code_next (is_code c.args.word.now c.args.wanted) c.loop-code.code (omega arith)
+    (sym c.is_code.ensures ∙ c.if-is_code.false)
 
 pub returns : goal.returns
 unfolding opcode_of

@@ -7,4 +7,8 @@ pub returns-clause-value : goal.returns-clause-value
 returns-clause-value c = grind (arith, first_or_end (λ b. b == c.args.byte) c.args.text.now)
 
 pub returns-clause-within : goal.returns-clause-within
-returns-clause-within c = grind (arith, first_or_end (λ b. b == c.args.byte) c.args.text.now, first_within (λ b. b == c.args.byte) c.args.text.now)
+returns-clause-within c = grind (
+  arith,
+  first_or_end (λ b. b == c.args.byte) c.args.text.now,
+  first_within (λ b. b == c.args.byte) c.args.text.now,
+)

@@ -6,4 +6,5 @@ use Rattle.nj_catchup.proofs.CatchUp.new.Goals as goal
 
 pub returns : goal.returns
 returns c = λ p.
-    dots-zero (pending_of c.of-lull.result) p c.power_on-screen.result c.of-lull.ensures.pending ∙ c.power_on-screen.ensures.screen
+    dots-zero (pending_of c.of-lull.result) p c.power_on-screen.result c.of-lull.ensures.pending
+    ∙ c.power_on-screen.ensures.screen

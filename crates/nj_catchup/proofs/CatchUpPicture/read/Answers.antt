@@ -15,7 +15,8 @@ invariant_of-self c =
     let two = c.is_steady.ensures.status c.if-is_steady.true in
     record {
       fits = c.read-byte.ensures.fits;
-      lulls = lull-untimed s.lull _ s.screen e s.lulls (read-untimed c.args.reg c.args.pattern.now s.screen e two c.read-byte.ensures.after)
+      lulls = lull-untimed s.lull _ s.screen e s.lulls
+          (read-untimed c.args.reg c.args.pattern.now s.screen e two c.read-byte.ensures.after)
           (ap (λ b. record s.lull { line = b }) c.nmi_line-self.ensures);
     }
 
@@ -24,7 +25,8 @@ returns-then-is_steady-clause-byte c =
     let s = c.args.self.now in
     let p = c.args.pattern.now in
     c.read-byte.ensures.byte
-    ∙ steady-byte c.args.reg (pending_of s.lull) p s.screen s.fits (c.is_steady.ensures.status c.if-is_steady.true) (c.is_steady.ensures.steady p c.if-is_steady.true)
+    ∙ steady-byte c.args.reg (pending_of s.lull) p s.screen s.fits (c.is_steady.ensures.status c.if-is_steady.true)
+    (c.is_steady.ensures.steady p c.if-is_steady.true)
 
 pub returns-then-is_steady-clause-after : goal.returns-then-is_steady-clause-after
 returns-then-is_steady-clause-after c = λ p same.
@@ -33,7 +35,8 @@ returns-then-is_steady-clause-after c = λ p same.
     let two = c.is_steady.ensures.status c.if-is_steady.true in
     ap (λ r. after_dots (pending_of s.lull) r c.read-byte.new.self) (same two)
     ∙ ap (after_dots (pending_of s.lull) q) c.read-byte.ensures.after
-    ∙ steady-read c.args.reg (pending_of s.lull) q q s.screen s.fits two (c.is_steady.ensures.steady q c.if-is_steady.true)
+    ∙ steady-read c.args.reg (pending_of s.lull) q q s.screen s.fits two
+    (c.is_steady.ensures.steady q c.if-is_steady.true)
 
 pub returns-clause-after : goal.returns-clause-after
 returns-clause-after c = λ p same.

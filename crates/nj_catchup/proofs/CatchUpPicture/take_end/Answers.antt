@@ -28,4 +28,5 @@ returns-else-ended-clause-told c = λ p.
 pub returns-else-ended-clause-taken : goal.returns-else-ended-clause-taken
 returns-else-ended-clause-taken c = λ p.
     let s = c.args.self.now in
-    unmarked-same (after_dots (pending_of s.lull) p s.screen) (ended-after (pending_of s.lull) p s.screen s.fits s.lulls.before_event ∙ c.if-ended.false)
+    unmarked-same (after_dots (pending_of s.lull) p s.screen)
+    (ended-after (pending_of s.lull) p s.screen s.fits s.lulls.before_event ∙ c.if-ended.false)

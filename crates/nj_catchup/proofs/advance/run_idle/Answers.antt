@@ -13,4 +13,5 @@ returns-after-from-left-clause-fits c =
       | then-from-left w ↦ omega (arith, w.dots-is)
       | else-from-left w ↦ omega (arith, w.dots-is, w.if-from-left, c.from.ensures)
     ] in
-    subst IsScreen (c.idle_dots-idle.ensures.idle c.args.pattern.now n within) (after_dots-fits n c.args.pattern.now s c.requires.fits)
+    subst IsScreen (c.idle_dots-idle.ensures.idle c.args.pattern.now n within)
+    (after_dots-fits n c.args.pattern.now s c.requires.fits)

@@ -11,5 +11,9 @@ none-where (Some x) h = absurd (true≢false h)
 pub returns-then-is_none-clause-blank : goal.returns-then-is_none-clause-blank
 returns-then-is_none-clause-blank c = λ n from below. record {
   between = c.hidden_end.ensures.between n from below;
-  still = inl (sym c.is_rendering.ensures ∙ c.if-not-is_rendering.true, none-where c.args.screen.now.sprite_row (c.is_none.ensures ∙ ap not c.if-is_none.true));
+  still = inl (
+    sym c.is_rendering.ensures
+        ∙ c.if-not-is_rendering.true,
+    none-where c.args.screen.now.sprite_row (c.is_none.ensures ∙ ap not c.if-is_none.true),
+  );
 }

@@ -10,5 +10,7 @@ returns-then-screen-clause-dots c = λ p. sym (dots-none p c.args.screen.now)
 pub returns-clause-dots : goal.returns-clause-dots
 returns-clause-dots c = λ p.
     let place = c.place-place.result in
-    blank-run c.min-dots.result place (place + c.min-dots.result) p c.args.screen.now c.requires c.if-screen.false c.place-place.ensures refl
-    (λ n from below. c.blank_end.ensures.blank n from (omega (arith, below, c.min-dots.ensures, c.blank_end.ensures.from)))
+    blank-run c.min-dots.result place (place + c.min-dots.result) p c.args.screen.now c.requires c.if-screen.false
+    c.place-place.ensures refl
+    (λ n from below. c.blank_end.ensures.blank n from
+    (omega (arith, below, c.min-dots.ensures, c.blank_end.ensures.from)))

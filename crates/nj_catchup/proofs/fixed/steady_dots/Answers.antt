@@ -5,8 +5,19 @@ use Rattle.nj_catchup.proofs.fixed.steady_dots.Goals as goal
 
 pub is_steady-requires-clause-before_event : goal.is_steady-requires-clause-before_event
 is_steady-requires-clause-before_event c =
-    omega (arith, c.saturating_sub-far.ensures, c.dots_to_event-event.ensures, to_event-positive c.args.screen.now c.requires.fits.placed)
+    omega (
+      arith,
+      c.saturating_sub-far.ensures,
+      c.dots_to_event-event.ensures,
+      to_event-positive c.args.screen.now c.requires.fits.placed,
+    )
 
 pub is_steady-requires-2-clause-before_event : goal.is_steady-requires-2-clause-before_event
 is_steady-requires-2-clause-before_event c =
-    omega (arith, c.min-near.ensures, c.saturating_sub-far.ensures, c.dots_to_event-event.ensures, to_event-positive c.args.screen.now c.requires.fits.placed)
+    omega (
+      arith,
+      c.min-near.ensures,
+      c.saturating_sub-far.ensures,
+      c.dots_to_event-event.ensures,
+      to_event-positive c.args.screen.now c.requires.fits.placed,
+    )

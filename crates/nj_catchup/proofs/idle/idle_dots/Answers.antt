@@ -17,7 +17,8 @@ returns-then-screen-clause-idle c = λ p n none.
 pub returns-clause-idle : goal.returns-clause-idle
 returns-clause-idle c = λ p n within.
     let s = c.args.screen.now in
-    let idle : (d : ℕ) → s.position.dot ≤ d → d < s.position.dot + n → is_idle (is_drawn_line s.position.line) (is_rendering s.mask) (is_cleared s) d ≡ true =
+    let idle : (d : ℕ) → s.position.dot ≤ d → d < s.position.dot + n
+    → is_idle (is_drawn_line s.position.line) (is_rendering s.mask) (is_cleared s) d ≡ true =
     λ d from below. (ap (λ b. is_idle b (is_rendering s.mask) (is_cleared s) d) (sym c.is_drawn_line-draws.ensures)
     ∙ ap (λ b. is_idle c.is_drawn_line-draws.result b (is_cleared s) d) (sym c.is_rendering.ensures)
     ∙ ap (λ b. is_idle c.is_drawn_line-draws.result c.is_rendering.result b d) (sym c.is_cleared.ensures)

@@ -23,7 +23,8 @@ none-hits : (mask d : ℕ) → may_hit mask None d ≡ false
 unfolding may_hit
 none-hits mask d = and-false (shows_both_layers mask) false refl
 
-latched : (r : Option SpriteRow) (s : Screen) → s.sprite_row ≡ r → ((row : SpriteRow) → s.sprite_row ≡ Some row → IsRowLine row s) → IfSome r (λ row. IsRowLine row s)
+latched : (r : Option SpriteRow) (s : Screen) → s.sprite_row ≡ r
+    → ((row : SpriteRow) → s.sprite_row ≡ Some row → IsRowLine row s) → IfSome r (λ row. IsRowLine row s)
 latched (Some row) s is h = h row is
 latched None s is h = tt
 

@@ -11,11 +11,13 @@ returns-then-left-lt-DOTS_OF_END-clause-dots c = sym (dots-none c.args.pattern.n
 
 pub prepare_line-requires-clause-fits : goal.prepare_line-requires-clause-fits
 prepare_line-requires-clause-fits c =
-    fits-on c.plain_lines-lines.result c.args.screen.now c.skip_lines.new.screen c.skip_lines.ensures c.requires.fits c.plain_lines-lines.ensures.plain.within
+    fits-on c.plain_lines-lines.result c.args.screen.now c.skip_lines.new.screen c.skip_lines.ensures c.requires.fits
+    c.plain_lines-lines.ensures.plain.within
 
 pub prepare_line-requires-clause-end : goal.prepare_line-requires-clause-end
 prepare_line-requires-clause-end c =
-    end-on c.plain_lines-lines.result c.args.screen.now c.skip_lines.new.screen c.skip_lines.ensures (c.ends_line.ensures c.if-not-ends_line.false) c.plain_lines-lines.ensures.plain.within
+    end-on c.plain_lines-lines.result c.args.screen.now c.skip_lines.new.screen c.skip_lines.ensures
+    (c.ends_line.ensures c.if-not-ends_line.false) c.plain_lines-lines.ensures.plain.within
 
 pub returns-clause-dots : goal.returns-clause-dots
 returns-clause-dots c =

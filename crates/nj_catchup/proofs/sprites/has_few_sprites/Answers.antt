@@ -8,7 +8,8 @@ use Rattle.nj_catchup.proofs.sprites.has_few_sprites.Goals as goal
 use Rattle.nj_catchup.proofs.sprites.has_few_sprites.Goals.{then-oam-sprite-lt240, else-oam-sprite-lt240}
 
 pub loop-sprite-init : goal.loop-sprite-init
-loop-sprite-init c = record { most = λ line tall below. omega (arith, counted-none c.args.oam.now line tall); few = omega arith }
+loop-sprite-init c =
+    record { most = λ line tall below. omega (arith, counted-none c.args.oam.now line tall); few = omega arith }
 
 pub loop-sprite-preserved : goal.loop-sprite-preserved
 loop-sprite-preserved c =
@@ -16,11 +17,21 @@ loop-sprite-preserved c =
     let n = c.loop-sprite.sprite in
     elim c.if-oam-sprite-lt240.branch [
       | then-oam-sprite-lt240 w ↦ record {
-        most = λ line tall below. omega (arith, w.count-is, c.loop-sprite.invariant.most line tall below, counted-step oam line tall n);
+        most = λ line tall below. omega (
+          arith,
+          w.count-is,
+          c.loop-sprite.invariant.most line tall below,
+          counted-step oam line tall n,
+        );
         few = omega (arith, w.count-is, c.loop-sprite.invariant.few);
       }
       | else-oam-sprite-lt240 w ↦ record {
-        most = λ line tall below. omega (arith, w.count-is, c.loop-sprite.invariant.most line tall below, counted-below oam line tall n (omega (arith, w.if-oam-sprite-lt240.false)) below);
+        most = λ line tall below. omega (
+          arith,
+          w.count-is,
+          c.loop-sprite.invariant.most line tall below,
+          counted-below oam line tall n (omega (arith, w.if-oam-sprite-lt240.false)) below,
+        );
         few = omega (arith, w.count-is, c.loop-sprite.invariant.few);
       }
     ]
@@ -29,6 +40,7 @@ pub returns : goal.returns
 returns c = λ line tall few below.
     let oam = c.args.oam.now in
     let end : c.loop-sprite.sprite ≡ 64 = omega (arith, c.loop-sprite-test.false, c.loop-sprite.auto.sprite-end) in
-    let all : counted oam line tall c.loop-sprite.sprite ≡ in_range_of oam line tall = ap (counted oam line tall) end ∙ counted-all oam line tall in
+    let all : counted oam line tall c.loop-sprite.sprite ≡ in_range_of oam line tall =
+    ap (counted oam line tall) end ∙ counted-all oam line tall in
     let count : c.loop-sprite.count < 9 = grind (arith, nat_tests, few) in
     omega (arith, all, count, c.loop-sprite.invariant.most line tall below)

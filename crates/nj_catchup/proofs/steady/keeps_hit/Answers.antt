@@ -10,4 +10,5 @@ returns-then-screen c = λ p up.
 
 pub returns-then-not-screen : goal.returns-then-not-screen
 returns-then-not-screen c = λ p misses.
-    hit-missed c.args.dots p c.args.screen.now c.requires.fits c.requires.before_event c.if-not-screen.true (λ n within from. c.has_no_hit.ensures p n misses within from)
+    hit-missed c.args.dots p c.args.screen.now c.requires.fits c.requires.before_event c.if-not-screen.true
+    (λ n within from. c.has_no_hit.ensures p n misses within from)

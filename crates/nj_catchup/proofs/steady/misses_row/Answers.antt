@@ -12,12 +12,15 @@ stays_below-requires c = omega (arith, to_event-small c.args.screen.now c.requir
 pub returns-then-stays_below : goal.returns-then-stays_below
 returns-then-stays_below c = λ p n ok within from. elim c.if-not-shows_both_layers.branch [
   | then-not-shows_both_layers w ↦
-      layers-miss n p c.args.screen.now c.requires.fits (omega (arith, within, c.requires.before_event)) (sym c.shows_both_layers.ensures ∙ w.if-not-shows_both_layers.true)
+      layers-miss n p c.args.screen.now c.requires.fits (omega (arith, within, c.requires.before_event))
+      (sym c.shows_both_layers.ensures ∙ w.if-not-shows_both_layers.true)
   | else-not-shows_both_layers w ↦ (
       let below : w.stays_below.result ≡ true = sym w.value-is ∙ ok in
-      below-miss n c.args.dots p c.args.screen.now c.requires.fits within c.requires.before_event (w.stays_below.ensures.line below) (w.stays_below.ensures.frame below))
+      below-miss n c.args.dots p c.args.screen.now c.requires.fits within c.requires.before_event
+      (w.stays_below.ensures.line below) (w.stays_below.ensures.frame below))
 ]
 
 pub returns-else-stays_below : goal.returns-else-stays_below
 returns-else-stays_below c = λ p n ok within from.
-    row-miss n c.args.dots p c.args.screen.now c.requires.fits within c.requires.before_event (λ m d before along. c.dots_to_hit.ensures m d (grind (arith, nat_tests, ok, before)) along) from
+    row-miss n c.args.dots p c.args.screen.now c.requires.fits within c.requires.before_event
+    (λ m d before along. c.dots_to_hit.ensures m d (grind (arith, nat_tests, ok, before)) along) from

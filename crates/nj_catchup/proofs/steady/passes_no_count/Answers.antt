@@ -12,12 +12,15 @@ stays_below-requires c = omega (arith, to_event-small c.args.screen.now c.requir
 pub returns-then-stays_below : goal.returns-then-stays_below
 returns-then-stays_below c = λ p n ok within. elim c.if-dots-dots_to_latch.branch [
   | then-dots-dots_to_latch w ↦
-      none-aside n c.args.dots p c.args.screen.now c.requires.fits within (λ m d before along. c.dots_to_latch.ensures m d (omega (arith, w.if-dots-dots_to_latch.true, before)) along)
+      none-aside n c.args.dots p c.args.screen.now c.requires.fits within
+      (λ m d before along. c.dots_to_latch.ensures m d (omega (arith, w.if-dots-dots_to_latch.true, before)) along)
   | else-dots-dots_to_latch w ↦ (
       let below : w.stays_below.result ≡ true = sym w.value-is ∙ ok in
-      none-below n c.args.dots p c.args.screen.now c.requires.fits within c.requires.before_event (w.stays_below.ensures.line below) (w.stays_below.ensures.frame below))
+      none-below n c.args.dots p c.args.screen.now c.requires.fits within c.requires.before_event
+      (w.stays_below.ensures.line below) (w.stays_below.ensures.frame below))
 ]
 
 pub returns-else-stays_below : goal.returns-else-stays_below
 returns-else-stays_below c = λ p n off within.
-    none-hidden n p c.args.screen.now c.requires.fits (omega (arith, within, c.requires.before_event)) (sym c.is_rendering.ensures ∙ not-true c.is_rendering.result off)
+    none-hidden n p c.args.screen.now c.requires.fits (omega (arith, within, c.requires.before_event))
+    (sym c.is_rendering.ensures ∙ not-true c.is_rendering.result off)

@@ -11,7 +11,9 @@ pub fetch_min-requires : goal.fetch_min-requires
 fetch_min-requires g c = let q = c.requires in let n = q.number in (
   q.own,
   owner_word _ c.args.board.now.key _ c.args.slot q.board q.slot,
-  subst (λ (k : ℕ). Allows (Holds c.args.board.now.key) c.args.board.now.table_id.slots c.args.seat.now.id c.args.seat.now.me (2 * c.args.slot + 1) (λ x. min x k)
+  subst (λ (k : ℕ). Allows (Holds c.args.board.now.key) c.args.board.now.table_id.slots c.args.seat.now.id
+      c.args.seat.now.me (2 * c.args.slot + 1) (λ x. min x k)
       (Owns g.C.Asked.key g.C.Asked.number g.C.Asked.most c.args.seat.now.me)) n.0
-      (own_allowed c.args.board.now.key g.C.Asked.key g.C.Asked.number g.C.Asked.most _ _ c.args.seat.now.me c.args.slot (subst (λ (k : ℕ). k < no_owner) (sym n.0) n.1) q.found q.living q.first),
+      (own_allowed c.args.board.now.key g.C.Asked.key g.C.Asked.number g.C.Asked.most _ _ c.args.seat.now.me c.args.slot
+      (subst (λ (k : ℕ). k < no_owner) (sym n.0) n.1) q.found q.living q.first),
 )

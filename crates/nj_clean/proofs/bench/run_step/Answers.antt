@@ -13,7 +13,9 @@ returns-clause-after g c plan word same before =
     record {
       state = state;
       judged_is =
-          judged_next plan word child c.rules.result.now c.hold_pad.new.machine c.ram.result.now c.jammed.result c.args.judged c.judge.result
-          (ap (λ s. s.rules) same ∙ sym c.rules.ensures.value) before.judged_is state c.ram.ensures.bytes c.jammed.ensures
+          judged_next plan word child c.rules.result.now c.hold_pad.new.machine c.ram.result.now c.jammed.result
+          c.args.judged c.judge.result
+          (ap (λ s. s.rules) same ∙ sym c.rules.ensures.value) before.judged_is state c.ram.ensures.bytes
+          c.jammed.ensures
           (c.a_word_goes_on.ensures.judged plan word c.args.pad) c.judge.ensures;
     }

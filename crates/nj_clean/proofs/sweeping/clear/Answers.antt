@@ -7,4 +7,5 @@ use Rattle.nj_clean.proofs.sweeping.clear.Goals as goal
 pub returns-then-press_count-eq0-clause-word : goal.returns-then-press_count-eq0-clause-word
 returns-then-press_count-eq0-clause-word g c =
     none_cleaned (plan_in c.args.setting) c.args.won.now.word.items
-    (sym (ap (λ w. length (presses w)) c.as_slice.ensures.value) ∙ sym c.press_count.ensures ∙ c.if-press_count-eq0.true)
+    (sym (ap (λ w. length (presses w)) c.as_slice.ensures.value) ∙ sym c.press_count.ensures
+    ∙ c.if-press_count-eq0.true)

@@ -47,8 +47,10 @@ loop-step-preserved g c =
           subst (λ w. StandsAt plan w c.sweep_step-at.new.bench)
           (sym (take_fewer new word c.sweep_step-at.result step told.order told.alters.before)) told.stands;
       frames =
-          sweep_on (hold * length c.args.won.now.word.items) (buttons_in (drop step word)) (length (buttons_of pad)) (buttons_in (drop (step + 1) new))
+          sweep_on (hold * length c.args.won.now.word.items) (buttons_in (drop step word)) (length (buttons_of pad))
+          (buttons_in (drop (step + 1) new))
           c.loop-step.steps c.sweep_step-at.new.steps _ (step_counts word new step pad within is told.alters) inv.frames
-          (subst (λ n. c.sweep_step-at.new.steps ≤ c.loop-step.steps + hold * n * length (buttons_of pad)) inv.long told.frames);
+          (subst (λ n. c.sweep_step-at.new.steps ≤ c.loop-step.steps + hold * n * length (buttons_of pad)) inv.long
+          told.frames);
       never_falls = omega (arith, inv.never_falls, told.never_falls);
     }

@@ -10,9 +10,11 @@ abbrev pub invariant-loop-step : goal.invariant-loop-step
 invariant-loop-step g l = record {
   order : l.at ≤ l.step;
   long : length l.won.word.items ≡ length l.fn.won.word.items;
-  word : fold (tried (plan_in l.setting)) l.won.word.items (presses_from l.step (drop l.step l.won.word.items)) ≡ swept (plan_in l.setting) l.fn.won.word.items;
+  word : fold (tried (plan_in l.setting)) l.won.word.items (presses_from l.step (drop l.step l.won.word.items))
+      ≡ swept (plan_in l.setting) l.fn.won.word.items;
   won : IsWon (plan_in l.setting) l.won;
   stands : StandsAt (plan_in l.setting) (take l.at l.won.word.items) l.bench;
-  frames : l.steps + l.setting.script.now.hold * length l.fn.won.word.items * buttons_in (drop l.step l.won.word.items) ≤ l.fn.steps + l.setting.script.now.hold * length l.fn.won.word.items * length (presses l.fn.won.word.items);
+  frames : l.steps + l.setting.script.now.hold * length l.fn.won.word.items * buttons_in (drop l.step l.won.word.items)
+      ≤ l.fn.steps + l.setting.script.now.hold * length l.fn.won.word.items * length (presses l.fn.won.word.items);
   never_falls : l.fn.steps ≤ l.steps;
 }

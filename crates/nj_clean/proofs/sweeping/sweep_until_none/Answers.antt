@@ -14,20 +14,25 @@ returns-in_err-sweep-clause-frames g c =
     let word = c.args.won.now.word.items in
     let ran : c.sweep.new.steps ≤ c.loop-bench.steps + hold * length word * c.loop-bench.before =
     subst (λ n. c.sweep.new.steps ≤ c.loop-bench.steps + hold * length word * n) (sym inv.counted)
-    (subst (λ n. c.sweep.new.steps ≤ c.loop-bench.steps + hold * n * length (presses c.loop-bench.won.word.items)) inv.long c.sweep.ensures.frames) in
-    sweeps_end (hold * length word) (length (presses word)) c.loop-bench.before c.loop-bench.steps c.sweep.new.steps _ inv.within inv.frames ran
+    (subst (λ n. c.sweep.new.steps ≤ c.loop-bench.steps + hold * n * length (presses c.loop-bench.won.word.items))
+    inv.long c.sweep.ensures.frames) in
+    sweeps_end (hold * length word)
+    (length (presses word)) c.loop-bench.before c.loop-bench.steps c.sweep.new.steps _ inv.within inv.frames ran
 
 pub press_count-left-requires : goal.press_count-left-requires
 press_count-left-requires g c =
     let plan = plan_in c.args.setting in
-    let long = ap length c.in_ok-sweep.ensures.word ∙ swept_long plan c.loop-bench.won.word.items ∙ c.loop-bench.invariant.long in
+    let long = ap length c.in_ok-sweep.ensures.word ∙ swept_long plan c.loop-bench.won.word.items
+    ∙ c.loop-bench.invariant.long in
     omega (arith, ap length c.as_slice-in-loop-bench.ensures.value, long, c.requires.few)
 
 pub returns-then-left-before-clause-word : goal.returns-then-left-before-clause-word
 returns-then-left-before-clause-word g c =
     let inv = c.loop-bench.invariant in
-    last_sweep (plan_in c.args.setting) c.args.won.now.word.items c.loop-bench.won.word.items c.sweep.new.won.word.items c.press_count-left.result c.loop-bench.before
-    inv.bytes c.in_ok-sweep.ensures.word (c.press_count-left.ensures ∙ ap (λ w. length (presses w)) c.as_slice-in-loop-bench.ensures.value) inv.counted
+    last_sweep (plan_in c.args.setting) c.args.won.now.word.items c.loop-bench.won.word.items c.sweep.new.won.word.items
+    c.press_count-left.result c.loop-bench.before
+    inv.bytes c.in_ok-sweep.ensures.word
+    (c.press_count-left.ensures ∙ ap (λ w. length (presses w)) c.as_slice-in-loop-bench.ensures.value) inv.counted
     c.if-left-before.true inv.same
 
 pub returns-then-left-before-clause-frames : goal.returns-then-left-before-clause-frames
@@ -37,14 +42,18 @@ returns-then-left-before-clause-frames g c =
     let word = c.args.won.now.word.items in
     let ran : c.sweep.new.steps ≤ c.loop-bench.steps + hold * length word * c.loop-bench.before =
     subst (λ n. c.sweep.new.steps ≤ c.loop-bench.steps + hold * length word * n) (sym inv.counted)
-    (subst (λ n. c.sweep.new.steps ≤ c.loop-bench.steps + hold * n * length (presses c.loop-bench.won.word.items)) inv.long c.sweep.ensures.frames) in
-    sweeps_end (hold * length word) (length (presses word)) c.loop-bench.before c.loop-bench.steps c.sweep.new.steps _ inv.within inv.frames ran
+    (subst (λ n. c.sweep.new.steps ≤ c.loop-bench.steps + hold * n * length (presses c.loop-bench.won.word.items))
+    inv.long c.sweep.ensures.frames) in
+    sweeps_end (hold * length word)
+    (length (presses word)) c.loop-bench.before c.loop-bench.steps c.sweep.new.steps _ inv.within inv.frames ran
 
 pub loop-bench-smaller : goal.loop-bench-smaller
 loop-bench-smaller g c =
     let inv = c.loop-bench.invariant in
-    fewer_left (plan_in c.args.setting) c.loop-bench.won.word.items c.sweep.new.won.word.items c.press_count-left.result c.loop-bench.before inv.bytes
-    c.in_ok-sweep.ensures.word (c.press_count-left.ensures ∙ ap (λ w. length (presses w)) c.as_slice-in-loop-bench.ensures.value) inv.counted c.if-left-before.false
+    fewer_left (plan_in c.args.setting) c.loop-bench.won.word.items c.sweep.new.won.word.items c.press_count-left.result
+    c.loop-bench.before inv.bytes
+    c.in_ok-sweep.ensures.word (c.press_count-left.ensures
+    ∙ ap (λ w. length (presses w)) c.as_slice-in-loop-bench.ensures.value) inv.counted c.if-left-before.false
 
 pub loop-bench-preserved : goal.loop-bench-preserved
 loop-bench-preserved g c =
@@ -56,10 +65,12 @@ loop-bench-preserved g c =
     let is = c.in_ok-sweep.ensures.word in
     let counted = c.press_count-left.ensures ∙ ap (λ w. length (presses w)) c.as_slice-in-loop-bench.ensures.value in
     let fewer =
-    fewer_left plan word c.sweep.new.won.word.items c.press_count-left.result c.loop-bench.before inv.bytes is counted inv.counted c.if-left-before.false in
+    fewer_left plan word c.sweep.new.won.word.items c.press_count-left.result c.loop-bench.before inv.bytes is counted
+    inv.counted c.if-left-before.false in
     let ran : c.sweep.new.steps ≤ c.loop-bench.steps + hold * length given * c.loop-bench.before =
     subst (λ n. c.sweep.new.steps ≤ c.loop-bench.steps + hold * length given * n) (sym inv.counted)
-    (subst (λ n. c.sweep.new.steps ≤ c.loop-bench.steps + hold * n * length (presses word)) inv.long c.sweep.ensures.frames) in
+    (subst (λ n. c.sweep.new.steps ≤ c.loop-bench.steps + hold * n * length (presses word)) inv.long
+    c.sweep.ensures.frames) in
     record {
       stands = c.in_ok-sweep.ensures.stands;
       won = c.sweep.ensures.won;
@@ -69,7 +80,8 @@ loop-bench-preserved g c =
       counted = counted;
       within = omega (arith, fewer, inv.within);
       frames =
-          sweeps_on (hold * length given) (length (presses given)) c.loop-bench.before c.press_count-left.result c.loop-bench.steps c.sweep.new.steps _ fewer
+          sweeps_on (hold * length given) (length (presses given)) c.loop-bench.before c.press_count-left.result
+          c.loop-bench.steps c.sweep.new.steps _ fewer
           inv.within inv.frames ran;
       never_falls = omega (arith, inv.never_falls, c.sweep.ensures.never_falls);
     }

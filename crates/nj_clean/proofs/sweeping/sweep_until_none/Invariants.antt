@@ -15,7 +15,8 @@ invariant-loop-bench g l = record {
   same : cleaned (plan_in l.setting) l.won.word.items ≡ cleaned (plan_in l.setting) l.fn.won.word.items;
   counted : l.before ≡ length (presses l.won.word.items);
   within : l.before ≤ length (presses l.fn.won.word.items);
-  frames : l.steps ≤ (l.fn.steps + length l.setting.start.now) + l.setting.script.now.hold * length l.fn.won.word.items * length (presses l.fn.won.word.items) * (length (presses l.fn.won.word.items) - l.before);
+  frames : l.steps ≤ (l.fn.steps + length l.setting.start.now) + l.setting.script.now.hold * length l.fn.won.word.items
+      * length (presses l.fn.won.word.items) * (length (presses l.fn.won.word.items) - l.before);
   never_falls : l.fn.steps ≤ l.steps;
 }
 

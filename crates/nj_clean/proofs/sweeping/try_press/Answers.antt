@@ -13,11 +13,14 @@ returns-then-is_win-clause-word g c =
     let plan = plan_in c.args.setting in
     let word = c.args.won.now.word.items in
     let p = press_at c.args.step c.args.button in
-    let pad : c.index-pad.result.now ≡ get_or word c.args.step 0 = c.index-pad.ensures ∙ get_or_default _ _ _ 0 c.requires.step in
-    let changed : set word c.args.step c.without.result ≡ released word p = ap (λ x. set word c.args.step x) (c.without.ensures ∙ ap (without c.args.button) pad) in
+    let pad : c.index-pad.result.now ≡ get_or word c.args.step 0 =
+    c.index-pad.ensures ∙ get_or_default _ _ _ 0 c.requires.step in
+    let changed : set word c.args.step c.without.result ≡ released word p =
+    ap (λ x. set word c.args.step x) (c.without.ensures ∙ ap (without c.args.button) pad) in
     ap (λ v. v.items) c.set_reward.ensures.word
     ∙ changed
-    ∙ sym (tried_won plan word p c.judge_word-judged.result (c.judge_word-judged.ensures.judged ∙ ap (judged_of plan) (c.as_slice.ensures.value ∙ changed))
+    ∙ sym (tried_won plan word p c.judge_word-judged.result
+    (c.judge_word-judged.ensures.judged ∙ ap (judged_of plan) (c.as_slice.ensures.value ∙ changed))
     (sym c.is_win.ensures ∙ c.if-is_win.true))
 
 pub returns-then-is_win-clause-won : goal.returns-then-is_win-clause-won
@@ -25,19 +28,23 @@ returns-then-is_win-clause-won g c =
     let plan = plan_in c.args.setting in
     let word = c.args.won.now.word.items in
     let judged = c.judge_word-judged.ensures.judged ∙ ap (judged_of plan) c.as_slice.ensures.value in
-    let kept : c.set_reward.new.won.word.items ≡ set word c.args.step c.without.result = ap (λ v. v.items) c.set_reward.ensures.word in
+    let kept : c.set_reward.new.won.word.items ≡ set word c.args.step c.without.result =
+    ap (λ v. v.items) c.set_reward.ensures.word in
     record {
       wins_is =
-          ap (wins plan) kept ∙ wins_judged plan (set word c.args.step c.without.result) c.judge_word-judged.result judged ∙ sym c.is_win.ensures ∙ c.if-is_win.true;
+          ap (wins plan) kept ∙ wins_judged plan (set word c.args.step c.without.result) c.judge_word-judged.result
+          judged ∙ sym c.is_win.ensures ∙ c.if-is_win.true;
       reward_is =
-          c.set_reward.ensures.reward ∙ reward_judged plan (set word c.args.step c.without.result) c.judge_word-judged.result judged
+          c.set_reward.ensures.reward
+          ∙ reward_judged plan (set word c.args.step c.without.result) c.judge_word-judged.result judged
           ∙ ap (λ w. (let r = replayed_of plan w in r.reward)) (sym kept);
     }
 
 pub returns-then-is_win-clause-alters : goal.returns-then-is_win-clause-alters
 returns-then-is_win-clause-alters g c =
     let word = c.args.won.now.word.items in
-    alters_same c.args.step word (set word c.args.step c.without.result) c.set_reward.new.won.word.items (ap (λ v. v.items) c.set_reward.ensures.word)
+    alters_same c.args.step word (set word c.args.step c.without.result) c.set_reward.new.won.word.items
+    (ap (λ v. v.items) c.set_reward.ensures.word)
     (alters_set c.args.step word c.without.result)
 
 pub returns-else-is_win-clause-word : goal.returns-else-is_win-clause-word
@@ -45,17 +52,21 @@ returns-else-is_win-clause-word g c =
     let plan = plan_in c.args.setting in
     let word = c.args.won.now.word.items in
     let p = press_at c.args.step c.args.button in
-    let pad : c.index-pad.result.now ≡ get_or word c.args.step 0 = c.index-pad.ensures ∙ get_or_default _ _ _ 0 c.requires.step in
-    let changed : set word c.args.step c.without.result ≡ released word p = ap (λ x. set word c.args.step x) (c.without.ensures ∙ ap (without c.args.button) pad) in
+    let pad : c.index-pad.result.now ≡ get_or word c.args.step 0 =
+    c.index-pad.ensures ∙ get_or_default _ _ _ 0 c.requires.step in
+    let changed : set word c.args.step c.without.result ≡ released word p =
+    ap (λ x. set word c.args.step x) (c.without.ensures ∙ ap (without c.args.button) pad) in
     put_back word c.args.step c.without.result c.index-pad.result.now pad
-    ∙ sym (tried_lost plan word p c.judge_word-judged.result (c.judge_word-judged.ensures.judged ∙ ap (judged_of plan) (c.as_slice.ensures.value ∙ changed))
+    ∙ sym (tried_lost plan word p c.judge_word-judged.result
+    (c.judge_word-judged.ensures.judged ∙ ap (judged_of plan) (c.as_slice.ensures.value ∙ changed))
     (sym c.is_win.ensures ∙ c.if-is_win.false))
 
 pub returns-else-is_win-clause-won : goal.returns-else-is_win-clause-won
 returns-else-is_win-clause-won g c =
     let plan = plan_in c.args.setting in
     let word = c.args.won.now.word.items in
-    let pad : c.index-pad.result.now ≡ get_or word c.args.step 0 = c.index-pad.ensures ∙ get_or_default _ _ _ 0 c.requires.step in
+    let pad : c.index-pad.result.now ≡ get_or word c.args.step 0 =
+    c.index-pad.ensures ∙ get_or_default _ _ _ 0 c.requires.step in
     let back = put_back word c.args.step c.without.result c.index-pad.result.now pad in
     record {
       wins_is = ap (wins plan) back ∙ c.requires.won.wins_is;

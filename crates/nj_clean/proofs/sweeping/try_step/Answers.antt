@@ -21,14 +21,19 @@ loop-bit-preserved g c =
     let once = length (filter (holds c.args.pad) (button ∷ [])) in
     record {
       word =
-          button_left (tried plan) (press_at c.args.step) (holds c.args.pad) c.loop-bit.won.word.items c.try_button.new.won.word.items _ button all rest
+          button_left (tried plan) (press_at c.args.step)
+          (holds c.args.pad) c.loop-bit.won.word.items c.try_button.new.won.word.items _ button all rest
           c.button_at-button.ensures told.word inv.word;
-      alters = alters_on c.args.step word c.loop-bit.won.word.items c.try_button.new.won.word.items inv.alters told.alters;
+      alters =
+          alters_on c.args.step word c.loop-bit.won.word.items c.try_button.new.won.word.items inv.alters told.alters;
       won = told.won;
       stands = subst (λ w. StandsAt plan w c.try_button.new.bench) inv.alters.before told.stands;
       frames =
-          sweep_on (hold * (length word - c.args.step)) (length (filter (holds c.args.pad) all)) once (length (filter (holds c.args.pad) rest)) c.loop-bit.steps
-          c.try_button.new.steps _ (buttons_counted (holds c.args.pad) button all rest c.button_at-button.ensures) inv.frames
-          (subst (λ n. c.try_button.new.steps ≤ c.loop-bit.steps + hold * (n - c.args.step) * once) inv.alters.long told.frames);
+          sweep_on (hold * (length word - c.args.step)) (length (filter (holds c.args.pad) all)) once
+          (length (filter (holds c.args.pad) rest)) c.loop-bit.steps
+          c.try_button.new.steps _
+          (buttons_counted (holds c.args.pad) button all rest c.button_at-button.ensures) inv.frames
+          (subst (λ n. c.try_button.new.steps ≤ c.loop-bit.steps + hold * (n - c.args.step) * once) inv.alters.long
+          told.frames);
       never_falls = omega (arith, inv.never_falls, told.never_falls);
     }

@@ -6,7 +6,9 @@ use Rattle.nj_core.proofs.machine.hold_at.Goals as goal
 
 pub returns-then-w-workers : goal.returns-then-w-workers
 returns-then-w-workers c =
-    set_changed (holding c.args.piece) c.args.workers.now c.args.w _ _ (omega (arith, c.if-w-workers.true)) c.hold.ensures
+    set_changed (holding c.args.piece) c.args.workers.now c.args.w _ _
+    (omega (arith, c.if-w-workers.true)) c.hold.ensures
 
 pub returns-else-w-workers : goal.returns-else-w-workers
-returns-else-w-workers c = past_changed (holding c.args.piece) c.args.workers.now c.args.w (omega (arith, c.if-w-workers.false))
+returns-else-w-workers c =
+    past_changed (holding c.args.piece) c.args.workers.now c.args.w (omega (arith, c.if-w-workers.false))

@@ -6,4 +6,5 @@ use Rattle.nj_cpu.proofs.units.copy_page.Given as goal
 -- the bytes so far are copied
 abbrev pub invariant-loop-i : goal.invariant-loop-i
 invariant-loop-i g l =
-    EndsAs (walk g.B.Bus.acts Nop (copies l.page l.i) (begun l.fn.cpu (g.B.Bus.held l.fn.bus) l.fn.rises)) l.cpu (g.B.Bus.held l.bus) l.rises
+    EndsAs (walk g.B.Bus.acts Nop (copies l.page l.i) (begun l.fn.cpu (g.B.Bus.held l.fn.bus) l.fn.rises.edges)) l.cpu
+    (g.B.Bus.held l.bus) l.rises

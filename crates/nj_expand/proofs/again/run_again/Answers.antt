@@ -11,13 +11,21 @@ use Rattle.nj_expand.proofs.again.run_again.Goals as goal
 
 pub loop-row-init : goal.loop-row-init
 loop-row-init g c =
-    let before : Before = record { rom = rom_of c.args.machine.now; script = c.args.script.now; images = c.args.front.now.images; statuses = statuses_of c.args.judged.now } in
-    let long : length c.in_ok-image.image.items ≡ length c.args.front.now.base = c.in_ok-image.ensures ∙ sym c.requires.size in
+    let before : Before =
+    record {
+      rom = rom_of c.args.machine.now;
+      script = c.args.script.now;
+      images = c.args.front.now.images;
+      statuses = statuses_of c.args.judged.now;
+    } in
+    let long : length c.in_ok-image.image.items ≡ length c.args.front.now.base =
+    c.in_ok-image.ensures ∙ sym c.requires.size in
     record {
       cartridge = refl;
       long = long;
       pool =
-          pool_none before c.args.front.now.base c.base.result.now c.args.limit c.in_ok-pool.pool c.base.ensures.base c.in_ok-pool.ensures;
+          pool_none before c.args.front.now.base c.base.result.now c.args.limit c.in_ok-pool.pool
+          c.base.ensures.base c.in_ok-pool.ensures;
       judged = c.new-2.ensures.items;
       bytes = omega (arith, ap bytes_held c.in_ok-pool.ensures);
       frames = le-add_right c.args.steps.now (c.args.script.now.hold * 0);
@@ -30,46 +38,78 @@ child_again-told-requires-clause-images g c =
 
 pub push-requires-clause-long : goal.push-requires-clause-long
 push-requires-clause-long g c =
-    let before : Before = record { rom = rom_of c.args.machine.now; script = c.args.script.now; images = c.args.front.now.images; statuses = statuses_of c.args.judged.now } in
+    let before : Before =
+    record {
+      rom = rom_of c.args.machine.now;
+      script = c.args.script.now;
+      images = c.args.front.now.images;
+      statuses = statuses_of c.args.judged.now;
+    } in
     ap length c.as_slice.ensures.value
     ∙ c.child_again-told.ensures.long
-    ∙ sym (ap length (pool_base before c.args.front.now.base c.args.limit _ c.loop-row.again.pool c.loop-row.invariant.pool))
+    ∙ sym (ap length (pool_base before c.args.front.now.base c.args.limit _ c.loop-row.again.pool
+    c.loop-row.invariant.pool))
 
 pub push-requires-clause-room : goal.push-requires-clause-room
 push-requires-clause-room g c =
-    let before : Before = record { rom = rom_of c.args.machine.now; script = c.args.script.now; images = c.args.front.now.images; statuses = statuses_of c.args.judged.now } in
-    let long : length c.as_slice.result.now ≡ length c.args.front.now.base = ap length c.as_slice.ensures.value ∙ c.child_again-told.ensures.long in
+    let before : Before =
+    record {
+      rom = rom_of c.args.machine.now;
+      script = c.args.script.now;
+      images = c.args.front.now.images;
+      statuses = statuses_of c.args.judged.now;
+    } in
+    let long : length c.as_slice.result.now ≡ length c.args.front.now.base =
+    ap length c.as_slice.ensures.value ∙ c.child_again-told.ensures.long in
     let within : c.loop-row.row-index < length c.args.kept.now = omega arith in
     subst (λ m. bytes_held c.loop-row.again.pool + (length c.as_slice.result.now + 16) ≤ m)
     (sym (pool_limit before c.args.front.now.base c.args.limit _ c.loop-row.again.pool c.loop-row.invariant.pool))
-    (room_left c.loop-row.row-index (length c.args.kept.now) (length c.args.front.now.base) c.args.limit (length c.as_slice.result.now) (bytes_held c.loop-row.again.pool)
+    (room_left c.loop-row.row-index (length c.args.kept.now) (length c.args.front.now.base) c.args.limit
+    (length c.as_slice.result.now) (bytes_held c.loop-row.again.pool)
     c.loop-row.invariant.bytes within c.requires.room long)
 
 pub loop-row-preserved : goal.loop-row-preserved
 loop-row-preserved g c =
-    let before : Before = record { rom = rom_of c.args.machine.now; script = c.args.script.now; images = c.args.front.now.images; statuses = statuses_of c.args.judged.now } in
+    let before : Before =
+    record {
+      rom = rom_of c.args.machine.now;
+      script = c.args.script.now;
+      images = c.args.front.now.images;
+      statuses = statuses_of c.args.judged.now;
+    } in
     let d : Row = record { number = 0; key = 0; reward = pos 0; level = 0; verdict = Go; pad = 0; bucket = [] } in
     let row = get_or c.args.kept.now c.loop-row.row-index d in
-    let at = λ (rom : Rom). (let b : Before = record { rom = rom; script = c.args.script.now; images = c.args.front.now.images; statuses = statuses_of c.args.judged.now } in b) in
+    let at = λ (rom : Rom). (let b : Before = record {
+      rom = rom;
+      script = c.args.script.now;
+      images = c.args.front.now.images;
+      statuses = statuses_of c.args.judged.now;
+    } in b) in
     let cartridge = c.loop-row.invariant.cartridge in
     let shown : c.as_slice.result.now ≡ image_again before row =
     c.as_slice.ensures.value ∙ c.child_again-told.ensures.image ∙ ap (λ rom. image_again (at rom) row) cartridge in
-    let told : c.child_again-told.result ≡ judged_again before row = c.child_again-told.ensures.judged ∙ ap (λ rom. judged_again (at rom) row) cartridge in
-    let long : length c.as_slice.result.now ≡ length c.args.front.now.base = ap length c.as_slice.ensures.value ∙ c.child_again-told.ensures.long in
+    let told : c.child_again-told.result ≡ judged_again before row =
+    c.child_again-told.ensures.judged ∙ ap (λ rom. judged_again (at rom) row) cartridge in
+    let long : length c.as_slice.result.now ≡ length c.args.front.now.base =
+    ap length c.as_slice.ensures.value ∙ c.child_again-told.ensures.long in
     record {
       cartridge = c.child_again-told.ensures.cartridge ∙ cartridge;
       long = c.child_again-told.ensures.long;
       pool =
-          pool_more before c.args.front.now.base c.args.limit c.args.kept.now c.loop-row.row-index d c.as_slice.result.now c.loop-row.again.pool c.push.new.self.pool
+          pool_more before c.args.front.now.base c.args.limit c.args.kept.now c.loop-row.row-index d
+          c.as_slice.result.now c.loop-row.again.pool c.push.new.self.pool
           c.loop-row-test.true shown c.loop-row.invariant.pool c.in_ok-push.ensures.pool;
       judged =
-          judged_more before c.args.kept.now c.loop-row.row-index d c.child_again-told.result c.loop-row.again.judged.items c.push.new.self.judged.items
+          judged_more before c.args.kept.now c.loop-row.row-index d c.child_again-told.result
+          c.loop-row.again.judged.items c.push.new.self.judged.items
           c.loop-row-test.true told c.loop-row.invariant.judged c.in_ok-push.ensures.judged;
       bytes =
-          bytes_more c.loop-row.row-index (length c.args.front.now.base) (length c.as_slice.result.now) (bytes_held c.loop-row.again.pool) (bytes_held c.push.new.self.pool)
+          bytes_more c.loop-row.row-index (length c.args.front.now.base) (length c.as_slice.result.now)
+          (bytes_held c.loop-row.again.pool) (bytes_held c.push.new.self.pool)
           c.in_ok-push.ensures.bytes c.loop-row.invariant.bytes long;
       frames =
-          frames_more c.args.script.now.hold c.loop-row.row-index c.loop-row.steps c.args.steps.now c.child_again-told.new.steps
+          frames_more c.args.script.now.hold c.loop-row.row-index c.loop-row.steps c.args.steps.now
+          c.child_again-told.new.steps
           c.loop-row.invariant.frames c.child_again-told.ensures.frames;
       never_falls = omega (arith, c.loop-row.invariant.never_falls, c.child_again-told.ensures.never_falls);
     }

@@ -7,7 +7,13 @@ use Rattle.nj_expand.proofs.again.run_again.Given as goal
 -- the rows so far were run again, each by the frames of a step
 abbrev pub invariant-loop-row : goal.invariant-loop-row
 invariant-loop-row g l =
-    let before : Before = record { rom = rom_of l.fn.machine; script = l.script; images = l.front.images; statuses = statuses_of l.judged } in
+    let before : Before =
+    record {
+      rom = rom_of l.fn.machine;
+      script = l.script;
+      images = l.front.images;
+      statuses = statuses_of l.judged;
+    } in
     record {
       cartridge : rom_of l.machine ≡ rom_of l.fn.machine;
       long : length l.image.items ≡ length l.front.base;

@@ -8,7 +8,8 @@ use Rattle.nj_expand.proofs.resuming.replay_all.Given as goal
 
 abbrev pub invariant-loop-place : goal.invariant-loop-place
 invariant-loop-place g l =
-    let from : Reached = record { state = of_image (rom_of l.fn.begun.machine) l.fn.begun.image.items; judged = l.fn.begun.judged } in
+    let from : Reached =
+    record { state = of_image (rom_of l.fn.begun.machine) l.fn.begun.image.items; judged = l.fn.begun.judged } in
     let task : Task = record {
       saved = l.saved;
       script = l.script;

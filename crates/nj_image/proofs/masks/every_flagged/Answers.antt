@@ -5,7 +5,8 @@ use Rattle.nj_image.proofs.masks.every_flagged.Goals as goal
 
 pub returns-then-not-is_flagged : goal.returns-then-not-is_flagged
 returns-then-not-is_flagged c =
-    not-every c.args.pages c.loop-page.page c.args.mask.now c.loop-page-test.true (sym c.is_flagged.ensures ∙ c.if-not-is_flagged.true)
+    not-every c.args.pages c.loop-page.page c.args.mask.now c.loop-page-test.true (sym c.is_flagged.ensures
+    ∙ c.if-not-is_flagged.true)
 
 pub loop-page-preserved : goal.loop-page-preserved
 loop-page-preserved c =

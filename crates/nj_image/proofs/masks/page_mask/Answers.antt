@@ -14,5 +14,6 @@ returns-clause-pages c p below =
     let made : c.loop-place.mask ≡ mask_of c.args.image.now c.args.base.now =
     mask-made c.args.image.now c.args.base.now _ (c.loop-place.invariant.size ∙ c.requires.mask)
     (λ k below. c.loop-place.invariant.done k (omega (arith, below))) in
-    subst (λ (mask : List ℕ). (flag_in mask p ≡ true) ↔ (page_at c.args.image.now p ≢ page_at c.args.base.now p)) (sym made)
+    subst (λ (mask : List ℕ). (flag_in mask p ≡ true) ↔ (page_at c.args.image.now p ≢ page_at c.args.base.now p))
+    (sym made)
     (mask-tells c.args.image.now c.args.base.now p c.requires.base c.requires.image below)

@@ -5,7 +5,8 @@ use Rattle.nj_ines.proofs.Cart.contents.Goals as goal
 
 pub invariant_of-result : goal.invariant_of-result
 invariant_of-result c =
-    IsCartridge-read c.args.file.now _ _ c.prg_units.result c.chr_units-chr_units.result c.mapper.result c.has_bit.result (record {
+    IsCartridge-read c.args.file.now _ _ c.prg_units.result c.chr_units-chr_units.result c.mapper.result
+    c.has_bit.result (record {
       readable = c.requires;
       prg_units_are = c.prg_units.ensures.units;
       chr_units_are = c.chr_units-chr_units.ensures.units;
@@ -17,7 +18,8 @@ invariant_of-result c =
 
 pub returns : goal.returns
 returns c =
-    sym (contents_of-read c.args.file.now _ _ c.prg_units.result c.chr_units-chr_units.result c.mapper.result c.has_bit.result (record {
+    sym (contents_of-read c.args.file.now _ _ c.prg_units.result c.chr_units-chr_units.result c.mapper.result
+    c.has_bit.result (record {
       readable = c.requires;
       prg_units_are = c.prg_units.ensures.units;
       chr_units_are = c.chr_units-chr_units.ensures.units;

@@ -4,4 +4,5 @@ use Rattle.nj_pieces.specs.Tallies.{opening}
 use Rattle.nj_pieces.proofs.deal.marked.Given as goal
 
 abbrev pub invariant-loop : goal.invariant-loop
-invariant-loop l = SameWorker l.fn.owner l.owner × (worker_view l.owner ≡ opening (worker_view l.fn.owner).dealt l.counter)
+invariant-loop l =
+    SameWorker l.fn.owner l.owner × (worker_view l.owner ≡ opening (worker_view l.fn.owner).dealt l.counter)

@@ -7,8 +7,10 @@ loop-number-preserved c =
     let f = c.in_ok-filled.ensures in
     let m = c.in_ok-owner.ensures in
     let s = c.in_ok-stealer.ensures in
-    opened_pushed c.args.count c.args.workers c.loop-number.takers.items c.push-in-loop-number.new.self.items c.loop-number.thieves.items c.push.new.self.items c.loop-number.number
-    (record { number = c.loop-number.number; owner = c.in_ok-owner.owner; accesses = c.new.result }) c.in_ok-stealer.field-0
+    opened_pushed c.args.count c.args.workers c.loop-number.takers.items c.push-in-loop-number.new.self.items
+    c.loop-number.thieves.items c.push.new.self.items c.loop-number.number
+    (record { number = c.loop-number.number; owner = c.in_ok-owner.owner; accesses = c.new.result })
+    c.in_ok-stealer.field-0
     c.in_ok-push-2.ensures.items c.in_ok-push.ensures.items c.loop-number.invariant
     (record {
       numbered = refl;

@@ -9,18 +9,22 @@ loop-access-init c = give_begins c.args.takers.now c.args.accesses.items c.requi
 
 pub absorb-requires-clause-table : goal.absorb-requires-clause-table
 absorb-requires-clause-table c =
-    (give_place c.args.takers.now c.loop-access.takers c.args.accesses.items c.loop-access.accesses.items c.pop.new.self.items c.in-Some.access c.len.result c.index-takers-len.result
+    (give_place c.args.takers.now c.loop-access.takers c.args.accesses.items c.loop-access.accesses.items
+    c.pop.new.self.items c.in-Some.access c.len.result c.index-takers-len.result
     c.in-Some.ensures.items (c.len.ensures ∙ c.pop.new.self.ok.0) c.loop-access.invariant c.requires.returns).deque
 
 pub absorb-requires-clause-rule : goal.absorb-requires-clause-rule
 absorb-requires-clause-rule c = gives _ _ _ _
-    (give_port c.args.takers.now c.loop-access.takers c.args.accesses.items c.loop-access.accesses.items c.pop.new.self.items c.in-Some.access c.len.result c.index-takers-len.result
+    (give_port c.args.takers.now c.loop-access.takers c.args.accesses.items c.loop-access.accesses.items
+    c.pop.new.self.items c.in-Some.access c.len.result c.index-takers-len.result
     c.in-Some.ensures.items (c.len.ensures ∙ c.pop.new.self.ok.0) c.loop-access.invariant c.requires.ports)
 
 pub loop-access-preserved : goal.loop-access-preserved
 loop-access-preserved c =
-    give_more c.args.takers.now c.loop-access.takers c.args.accesses.items c.loop-access.accesses.items c.pop.new.self.items c.in-Some.access c.len.result c.index-takers-len.result c.absorb.new.self
-    c.in-Some.ensures.items (c.len.ensures ∙ c.pop.new.self.ok.0) c.loop-access.invariant c.absorb.ensures.same.0 c.absorb.ensures.rule
+    give_more c.args.takers.now c.loop-access.takers c.args.accesses.items c.loop-access.accesses.items
+    c.pop.new.self.items c.in-Some.access c.len.result c.index-takers-len.result c.absorb.new.self
+    c.in-Some.ensures.items (c.len.ensures ∙ c.pop.new.self.ok.0) c.loop-access.invariant c.absorb.ensures.same.0
+    c.absorb.ensures.rule
 
 pub returns-clause-given : goal.returns-clause-given
 returns-clause-given c =

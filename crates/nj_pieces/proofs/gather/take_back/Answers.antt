@@ -10,6 +10,8 @@ loop-from-preserved c =
     let d = c.index-takers-from.result in
     let t = get_or c.loop-from.takers c.loop-from.from c.index-takers-from.result in
     returned_more c.args.takers.now c.loop-from.takers
-    (set c.loop-from.takers c.loop-from.from (record { number = t.number; owner = t.owner; accesses = c.replace-accesses.new.dest }))
-    c.loop-from.from d c.replace-accesses.new.dest c.replace-accesses.result c.loop-from.invariant (grind arith) refl c.replace-accesses.ensures.value c.requires.many c.requires.returns
+    (set c.loop-from.takers c.loop-from.from
+    (record { number = t.number; owner = t.owner; accesses = c.replace-accesses.new.dest }))
+    c.loop-from.from d c.replace-accesses.new.dest c.replace-accesses.result c.loop-from.invariant
+    (grind arith) refl c.replace-accesses.ensures.value c.requires.many c.requires.returns
     c.give.new.takers c.give.ensures.many c.give.ensures.given

@@ -10,7 +10,8 @@ part-requires-clause-in_order c =
     (string_within 0 c.args.ends.now (length c.args.bytes.now) c.args.place c.requires.place c.requires.ends).0
 
 pub part-requires-clause-within : goal.part-requires-clause-within
-part-requires-clause-within c = (string_within 0 c.args.ends.now (length c.args.bytes.now) c.args.place c.requires.place c.requires.ends).1
+part-requires-clause-within c =
+    (string_within 0 c.args.ends.now (length c.args.bytes.now) c.args.place c.requires.place c.requires.ends).1
 
 pub returns : goal.returns
 returns c =

@@ -6,4 +6,5 @@ use Rattle.nj_replay.proofs.laws.a_replay_tells_of_its_word.Goals as goal
 
 pub returns : goal.returns
 unfolding replay_of movie_of
-returns c plan word some = ap (told_of plan) (played_is_read plan.script.hold plan.start (movie_of plan word) word some refl)
+returns c plan word some =
+    ap (told_of plan) (played_is_read plan.script.hold plan.start (movie_of plan word) word some refl)

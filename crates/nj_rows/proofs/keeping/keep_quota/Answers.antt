@@ -11,7 +11,11 @@ pub returns : goal.returns
 returns c =
     c.truncate.ensures.items
     ∙ (c.gather-kept.ensures
-    ∙ ap (limited is_alike_row c.args.n c.args.quota) (sorted_rows _ _ c.sort_unstable_by.ensures.permutation c.sort_unstable_by.ensures.sorted (λ a r f k. search rules)))
+    ∙ ap (limited is_alike_row c.args.n c.args.quota)
+    (sorted_rows _ _ c.sort_unstable_by.ensures.permutation c.sort_unstable_by.ensures.sorted
+    (λ a r f k. search rules)))
 
 pub returns-then-n-quota : goal.returns-then-n-quota
-returns-then-n-quota c = c.keep.ensures ∙ sym (limited_all is_alike_row c.args.n c.args.quota c.if-n-quota.true (in_order is_row_before c.args.rows.now.items))
+returns-then-n-quota c =
+    c.keep.ensures ∙ sym (limited_all is_alike_row c.args.n c.args.quota c.if-n-quota.true
+    (in_order is_row_before c.args.rows.now.items))

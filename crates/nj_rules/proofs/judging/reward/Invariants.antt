@@ -5,5 +5,6 @@ use Rattle.nj_rules.proofs.judging.reward.Given as goal
 -- the satisfied rules that are left give what is missing
 abbrev pub invariant-loop-number : goal.invariant-loop-number
 invariant-loop-number l =
-    (reward_of l.rules l.ram l.status ≡ l.sum +ℤ int_sum (map (gain_of l.ram) (members_from l.number l.status (drop l.number l.rules))))
+    (reward_of l.rules l.ram l.status
+    ≡ l.sum +ℤ int_sum (map (gain_of l.ram) (members_from l.number l.status (drop l.number l.rules))))
     × (unsigned_abs l.sum ≤ l.number * 2 ^ 39)

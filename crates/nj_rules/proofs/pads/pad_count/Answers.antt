@@ -14,8 +14,10 @@ loop-set-preserved c =
     let after = take c.add_pads-count.result c.add_pads-count.new.into in
     let set = c.set-item.result in
     let sets = c.as_slice-set-items.result.now in
-    let grown : after ≡ distinct (before ++ set.pads) = c.add_pads-count.ensures.pads ∙ ap (λ xs. distinct (before ++ xs)) c.as_slice.ensures.value in (
-      named-taken sets before after (distinct (flat_map (λ s. s.pads) sets)) c.loop-set.set-index set c.loop-set-test.true c.set-item.is grown c.loop-set.invariant.0,
+    let grown : after ≡ distinct (before ++ set.pads) =
+    c.add_pads-count.ensures.pads ∙ ap (λ xs. distinct (before ++ xs)) c.as_slice.ensures.value in (
+      named-taken sets before after (distinct (flat_map (λ s. s.pads) sets)) c.loop-set.set-index set
+          c.loop-set-test.true c.set-item.is grown c.loop-set.invariant.0,
       added-differs (before ++ set.pads) after grown,
       c.add_pads-count.ensures.within,
       c.add_pads-count.array_long,
@@ -25,6 +27,8 @@ pub returns-clause-count : goal.returns-clause-count
 unfolding named_pads
 returns-clause-count c =
     let sets = c.as_slice-set-items.result.now in
-    length_of_taken c.loop-set.into (distinct (flat_map (λ s. s.pads) c.args.sets.now.sets)) c.loop-set.count c.loop-set.invariant.3 c.loop-set.invariant.2
-    (named-end sets (take c.loop-set.count c.loop-set.into) (distinct (flat_map (λ s. s.pads) sets)) c.loop-set.set-index c.loop-set.invariant.1 c.loop-set-test.false c.loop-set.invariant.0
+    length_of_taken c.loop-set.into (distinct (flat_map (λ s. s.pads) c.args.sets.now.sets)) c.loop-set.count
+    c.loop-set.invariant.3 c.loop-set.invariant.2
+    (named-end sets (take c.loop-set.count c.loop-set.into) (distinct (flat_map (λ s. s.pads) sets))
+    c.loop-set.set-index c.loop-set.invariant.1 c.loop-set-test.false c.loop-set.invariant.0
     ∙ ap (λ xs. distinct (flat_map (λ s. s.pads) xs)) c.as_slice-set-items.ensures.value)

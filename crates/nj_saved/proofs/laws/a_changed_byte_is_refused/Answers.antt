@@ -14,5 +14,6 @@ returns c before behind byte changed cart script saved are are' small small' apa
   where
     go : (r : Result Saved SavedRefused) → saved_of (before ++ changed ∷ behind) cart script ≡ r → IsErr r
     go (Ok other) same = absurd (apart (unchanged before behind byte changed are are' small small' cart script two
-        (accepted (before ++ byte ∷ behind) cart script saved is) (accepted (before ++ changed ∷ behind) cart script other same)))
+        (accepted (before ++ byte ∷ behind) cart script saved is)
+        (accepted (before ++ changed ∷ behind) cart script other same)))
     go (Err refused) same = search (rules)

@@ -15,8 +15,10 @@ returns-clause-said c file cart script saved are is = said file cart script save
 -- in the one version or the other
 by_version : (file : List ℕ) (cart script : ℕ) (saved : Saved) → IsFileOf file cart script saved →
     (file ≡ file_bytes 1 saved) ⊎ (file ≡ file_bytes 2 saved) → saved_of file saved.cart saved.script ≡ Ok saved
-by_version file cart script saved says (inl one) = ap (λ bytes. saved_of bytes saved.cart saved.script) one ∙ read_first saved says.ranges says.fits
-by_version file cart script saved says (inr two) = ap (λ bytes. saved_of bytes saved.cart saved.script) two ∙ read_second saved says.ranges says.fits
+by_version file cart script saved says (inl one) =
+    ap (λ bytes. saved_of bytes saved.cart saved.script) one ∙ read_first saved says.ranges says.fits
+by_version file cart script saved says (inr two) =
+    ap (λ bytes. saved_of bytes saved.cart saved.script) two ∙ read_second saved says.ranges says.fits
 
 pub returns-clause-read : goal.returns-clause-read
 returns-clause-read c file cart script saved says =

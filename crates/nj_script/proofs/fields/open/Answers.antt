@@ -10,7 +10,8 @@ pub returns-in-Some-unknown_among : goal.returns-in-Some-unknown_among
 returns-in-Some-unknown_among c =
     let known = map (λ s. s.now) c.args.known.now in
     let entries = c.in-Some.members.now.entries in
-    refused_with (opened c.args.list.now known (view c.args.value.now)) (UnknownKey c.in-Some-unknown_among.key.now) c.unknown_key.result
+    refused_with (opened c.args.list.now known (view c.args.value.now))
+    (UnknownKey c.in-Some-unknown_among.key.now) c.unknown_key.result
     (opened-members c.args.list.now known (view c.args.value.now) (members_view entries) c.in-Some.ensures
     ∙ rw (unknown_key-view c.args.known.now entries, ← c.in-Some-unknown_among.ensures) refl)
     c.unknown_key.ensures

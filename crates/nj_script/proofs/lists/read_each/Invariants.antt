@@ -6,5 +6,6 @@ use Rattle.nj_script.proofs.lists.read_each.Given as goal
 -- the members that are left bring what is missing
 abbrev pub invariant-loop-item : goal.invariant-loop-item
 invariant-loop-item g l =
-    (each (g.M.Member.reading l.member) l.made.items (items_view (drop l.item-index l.items)) ≡ each (g.M.Member.reading l.member) [] (items_view l.items))
+    (each (g.M.Member.reading l.member) l.made.items (items_view (drop l.item-index l.items))
+    ≡ each (g.M.Member.reading l.member) [] (items_view l.items))
     × (length l.made.items ≡ l.item-index)

@@ -4,4 +4,5 @@ use Rattle.nj_script.proofs.names.property_named.Given as goal
 -- the property of that name is among those that are left
 abbrev pub invariant-loop-named : goal.invariant-loop-named
 invariant-loop-named l =
-    find (λ n. bytes_eq n.name l.name) (drop l.named-index l.properties) ≡ find (λ n. bytes_eq n.name l.name) l.properties
+    find (λ n. bytes_eq n.name l.name) (drop l.named-index l.properties)
+    ≡ find (λ n. bytes_eq n.name l.name) l.properties

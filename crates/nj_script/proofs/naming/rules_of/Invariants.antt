@@ -8,4 +8,5 @@ use Rattle.nj_script.proofs.naming.rules_of.Given as goal
 abbrev pub invariant-loop-body : goal.invariant-loop-body
 invariant-loop-body l =
     (goal.iterator-loop-body).can_next l.body-iterator × (goal.iterator-loop-body).is_finite l.body-iterator
-    × (collected (rule_of l.names) l.rules.items (into_iter_items l.body-iterator) ≡ collected (rule_of l.names) [] l.fn.bodies.items)
+    × (collected (rule_of l.names) l.rules.items (into_iter_items l.body-iterator)
+    ≡ collected (rule_of l.names) [] l.fn.bodies.items)

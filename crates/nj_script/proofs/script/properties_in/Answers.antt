@@ -8,5 +8,6 @@ use Rattle.nj_script.proofs.script.properties_in.Goals as goal
 
 pub returns-clause-placed : goal.returns-clause-placed
 returns-clause-placed c =
-    (holds_of (properties_in (view c.args.object.now)) (λ ps. ArePlaced ps × (length ps ≤ 64)) c.in_ok-properties.properties.items
+    (holds_of (properties_in (view c.args.object.now))
+    (λ ps. ArePlaced ps × (length ps ≤ 64)) c.in_ok-properties.properties.items
     (ok_properties_in (view c.args.object.now)) c.in_ok-properties.ensures.value).0

@@ -2,7 +2,8 @@ use Rattle.nj_search.proofs.Going.{going, start_wins, start_fails}
 use Rattle.nj_search.proofs.searching.judge_start.Goals as goal
 
 pub returns-in-Go : goal.returns-in-Go
-returns-in-Go c planned none is = going planned c.args.search c.judged-first.result none is c.judged-first.ensures.judged c.in-Go.is
+returns-in-Go c planned none is =
+    going planned c.args.search c.judged-first.result none is c.judged-first.ensures.judged c.in-Go.is
 
 pub returns-in_ok-movie-in-Win : goal.returns-in_ok-movie-in-Win
 returns-in_ok-movie-in-Win c planned none is =

@@ -22,11 +22,14 @@ pub returns-in-Going-clause-ended : goal.returns-in-Going-clause-ended
 returns-in-Going-clause-ended g c =
     let search = c.in-Going.search in
     let going = subst (λ (b : Begun). IsBegun c.args.plan b) c.in-Going.is c.in_ok-outcome.ensures.begun in
-    IfOk-weaker c.search_on.result (λ ended. answer_of search.plan c.args.keep (rest_of search c.steps-limit.result) ≡ ended)
+    IfOk-weaker c.search_on.result
+    (λ ended. answer_of search.plan c.args.keep (rest_of search c.steps-limit.result) ≡ ended)
     (λ ended. ended ≡ ended_of c.args.plan c.args.keep)
-    (λ ended told. answered c.args.plan search c.args.keep c.steps-limit.result ended going c.steps-limit.ensures.steps told) c.search_on.ensures.ended
+    (λ ended told. answered c.args.plan search c.args.keep c.steps-limit.result ended going c.steps-limit.ensures.steps
+    told) c.search_on.ensures.ended
 
 pub returns-in-Going-clause-frames : goal.returns-in-Going-clause-frames
 returns-in-Going-clause-frames g c =
     let going = subst (λ (b : Begun). IsBegun c.args.plan b) c.in-Going.is c.in_ok-outcome.ensures.begun in
-    frames_going c.args.plan c.in-Going.search c.steps-limit.result _ _ _ going c.steps-limit.ensures.steps c.begin.ensures.frames c.search_on.ensures.frames
+    frames_going c.args.plan c.in-Going.search c.steps-limit.result _ _ _ going c.steps-limit.ensures.steps
+    c.begin.ensures.frames c.search_on.ensures.frames

@@ -9,5 +9,6 @@ returns c =
     let held = c.args.search.now in
     mul-le-mul_left held.plan.script.hold
     (c.a_step_is_bounded.ensures.both held
-    (sym (inputs_are c.bounds-bounds.result held.plan.script held.bounds c.bounds-bounds.ensures.bounds) ∙ c.bounds-bounds.ensures.inputs)
+    (sym (inputs_are c.bounds-bounds.result held.plan.script held.bounds c.bounds-bounds.ensures.bounds)
+    ∙ c.bounds-bounds.ensures.inputs)
     (subst (λ (n : ℕ). n ≤ held.bounds.most) c.front_len-words.ensures.len c.front_len-words.ensures.within))

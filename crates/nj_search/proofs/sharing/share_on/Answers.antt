@@ -18,12 +18,15 @@ returns-clause-ended g c =
     let now = c.loop-made.search in
     IfOk-weaker c.at_limit.result (λ ended. answer_of now.plan c.args.keep (LimitAt now.state) ≡ ended)
     (λ ended. answer_of c.args.search.plan c.args.keep (rest_of c.args.search c.args.limit) ≡ ended)
-    (λ ended told. told_at_limit _ _ _ _ _ _ c.args.keep ended c.loop-made-test.false c.loop-made.invariant.made told) c.at_limit.ensures
+    (λ ended told. told_at_limit _ _ _ _ _ _ c.args.keep ended c.loop-made-test.false c.loop-made.invariant.made told)
+    c.at_limit.ensures
 
 pub returns-in_err-outcome-clause-frames : goal.returns-in_err-outcome-clause-frames
 returns-in_err-outcome-clause-frames g c =
-    last_counted c.args.search c.loop-made.search c.args.limit c.loop-made._made c.args.workers c.args.steps.now.items c.loop-made.steps.items
-    c.step_shared.new.steps.items c.loop-made-test.true c.loop-made.invariant.made c.loop-made.invariant.counted c.step_shared.ensures.frames
+    last_counted c.args.search c.loop-made.search c.args.limit c.loop-made._made c.args.workers c.args.steps.now.items
+    c.loop-made.steps.items
+    c.step_shared.new.steps.items c.loop-made-test.true c.loop-made.invariant.made c.loop-made.invariant.counted
+    c.step_shared.ensures.frames
 
 pub returns-in-Some-clause-ended : goal.returns-in-Some-clause-ended
 returns-in-Some-clause-ended g c =
@@ -33,17 +36,24 @@ returns-in-Some-clause-ended g c =
 
 pub returns-in-Some-clause-frames : goal.returns-in-Some-clause-frames
 returns-in-Some-clause-frames g c =
-    last_counted c.args.search c.loop-made.search c.args.limit c.loop-made._made c.args.workers c.args.steps.now.items c.loop-made.steps.items
-    c.step_shared.new.steps.items c.loop-made-test.true c.loop-made.invariant.made c.loop-made.invariant.counted c.step_shared.ensures.frames
+    last_counted c.args.search c.loop-made.search c.args.limit c.loop-made._made c.args.workers c.args.steps.now.items
+    c.loop-made.steps.items
+    c.step_shared.new.steps.items c.loop-made-test.true c.loop-made.invariant.made c.loop-made.invariant.counted
+    c.step_shared.ensures.frames
 
 pub loop-made-preserved : goal.loop-made-preserved
 loop-made-preserved g c =
     let begun = c.args.search in
     let now = c.loop-made.search in
     let are_made = c.loop-made.invariant.made in record {
-      made = one_more_made begun now c.step_shared.new.search c.args.limit c.loop-made._made 0 0 0 c.loop-made-test.true are_made
+      made =
+          one_more_made begun now c.step_shared.new.search c.args.limit c.loop-made._made 0 0 0 c.loop-made-test.true
+          are_made
           (rw c.in_default.is at c.in_ok-outcome.ensures.further) (omega arith) (omega arith);
-      counted = step_counted c.args.workers c.args.steps.now.items c.loop-made.steps.items c.step_shared.new.steps.items (frames_a_step begun)
-          (frames_a_step now) c.loop-made._made (same_frames begun now are_made.plan are_made.bounds) c.loop-made.invariant.counted
+      counted =
+          step_counted c.args.workers c.args.steps.now.items c.loop-made.steps.items c.step_shared.new.steps.items
+          (frames_a_step begun)
+          (frames_a_step now) c.loop-made._made (same_frames begun now are_made.plan are_made.bounds)
+          c.loop-made.invariant.counted
           c.step_shared.ensures.frames;
     }

@@ -9,7 +9,8 @@ use Rattle.nj_search.proofs.Counters.{start_counted, all_counted}
 use Rattle.nj_search.proofs.sharing.share_planned.Goals as goal
 
 pub returns-in_err-outcome-clause-frames : goal.returns-in_err-outcome-clause-frames
-returns-in_err-outcome-clause-frames g c = start_counted c.args.plan c.args.workers _ _ c.requires.workers.0 c.begin_first.ensures.frames
+returns-in_err-outcome-clause-frames g c =
+    start_counted c.args.plan c.args.workers _ _ c.requires.workers.0 c.begin_first.ensures.frames
 
 pub returns-in-Over-clause-ended : goal.returns-in-Over-clause-ended
 returns-in-Over-clause-ended g c =
@@ -17,18 +18,22 @@ returns-in-Over-clause-ended g c =
     c.unsaved.ensures ∙ sym (begun c.args.keep)
 
 pub returns-in-Over-clause-frames : goal.returns-in-Over-clause-frames
-returns-in-Over-clause-frames g c = start_counted c.args.plan c.args.workers _ _ c.requires.workers.0 c.begin_first.ensures.frames
+returns-in-Over-clause-frames g c =
+    start_counted c.args.plan c.args.workers _ _ c.requires.workers.0 c.begin_first.ensures.frames
 
 pub returns-in-Going-clause-ended : goal.returns-in-Going-clause-ended
 returns-in-Going-clause-ended g c =
     let search = c.in-Going.search in
     let going = subst (λ (b : Begun). IsBegun c.args.plan b) c.in-Going.is c.in_ok-outcome.ensures.begun in
-    IfOk-weaker c.share_on.result (λ ended. answer_of search.plan c.args.keep (rest_of search c.steps-limit.result) ≡ ended)
+    IfOk-weaker c.share_on.result
+    (λ ended. answer_of search.plan c.args.keep (rest_of search c.steps-limit.result) ≡ ended)
     (λ ended. ended ≡ ended_of c.args.plan c.args.keep)
-    (λ ended told. answered c.args.plan search c.args.keep c.steps-limit.result ended going c.steps-limit.ensures.steps told) c.share_on.ensures.ended
+    (λ ended told. answered c.args.plan search c.args.keep c.steps-limit.result ended going c.steps-limit.ensures.steps
+    told) c.share_on.ensures.ended
 
 pub returns-in-Going-clause-frames : goal.returns-in-Going-clause-frames
 returns-in-Going-clause-frames g c =
     let going = subst (λ (b : Begun). IsBegun c.args.plan b) c.in-Going.is c.in_ok-outcome.ensures.begun in
-    all_counted c.args.plan c.in-Going.search c.steps-limit.result c.args.workers _ _ _ c.requires.workers.0 going c.steps-limit.ensures.steps
+    all_counted c.args.plan c.in-Going.search c.steps-limit.result c.args.workers _ _ _ c.requires.workers.0 going
+    c.steps-limit.ensures.steps
     c.begin_first.ensures.frames c.share_on.ensures.frames

@@ -9,7 +9,8 @@ pub outcome_after-requires-clause-spent : goal.outcome_after-requires-clause-spe
 outcome_after-requires-clause-spent g c = unspent_after _ _ _ c.requires.spent c.in_ok-stepped.ensures.next
 
 pub outcome_after-requires-clause-step : goal.outcome_after-requires-clause-step
-outcome_after-requires-clause-step g c = step_after c.steps_are_counted.ensures _ _ _ c.requires.spent c.in_ok-stepped.ensures.next c.requires.step
+outcome_after-requires-clause-step g c =
+    step_after c.steps_are_counted.ensures _ _ _ c.requires.spent c.in_ok-stepped.ensures.next c.requires.step
 
 pub outcome_after-requires-clause-row : goal.outcome_after-requires-clause-row
 outcome_after-requires-clause-row g c = can_end _ _ _ c.in_ok-stepped.ensures.next
@@ -26,4 +27,5 @@ returns-clause-further g c =
     let old = c.args.search.now in
     IfOk-weaker c.outcome_after.result (λ told. IsEnded c.in_ok-stepped.stepped c.next_shared.new.search told)
     (λ told. IfNone told (IsFurther old c.next_shared.new.search))
-    (λ told h. further_step c.steps_are_counted.ensures _ _ _ told c.requires.spent c.in_ok-stepped.ensures.next h) c.outcome_after.ensures
+    (λ told h. further_step c.steps_are_counted.ensures _ _ _ told c.requires.spent c.in_ok-stepped.ensures.next h)
+    c.outcome_after.ensures

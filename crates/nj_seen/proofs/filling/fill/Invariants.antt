@@ -7,5 +7,6 @@ use Rattle.nj_seen.proofs.filling.fill.Given as goal
 abbrev pub invariant-loop-place : goal.invariant-loop-place
 invariant-loop-place l = record {
   from : l.first ≤ l.place;
-  filled : AreFilled (slot_count l.fn.words) (drop l.first l.generations) (l.step + 1 - length (drop l.first l.generations)) (l.place - l.first) l.words;
+  filled : AreFilled (slot_count l.fn.words) (drop l.first l.generations)
+      (l.step + 1 - length (drop l.first l.generations)) (l.place - l.first) l.words;
 }

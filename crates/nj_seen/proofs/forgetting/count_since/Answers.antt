@@ -12,15 +12,18 @@ loop-slot-preserved c =
     elim c.if-is_since.branch [
       | then-is_since w ↦ let is : c.if-is_since.count ≡ c.loop-slot.count + 1 = w.count-is in record {
         counted = is ∙ (ap (λ n. n + 1) c.loop-slot.invariant.counted
-            ∙ sym (count_taken c.args.words.now c.args.from c.loop-slot.slot inside (sym c.is_since.ensures ∙ w.if-is_since.true)));
+            ∙ sym (count_taken c.args.words.now c.args.from c.loop-slot.slot inside
+            (sym c.is_since.ensures ∙ w.if-is_since.true)));
         few = omega arith;
       }
       | else-is_since w ↦ let is : c.if-is_since.count ≡ c.loop-slot.count = w.count-is in record {
         counted = is ∙ (c.loop-slot.invariant.counted
-            ∙ sym (count_passed c.args.words.now c.args.from c.loop-slot.slot inside (sym c.is_since.ensures ∙ w.if-is_since.false)));
+            ∙ sym (count_passed c.args.words.now c.args.from c.loop-slot.slot inside
+            (sym c.is_since.ensures ∙ w.if-is_since.false)));
         few = omega arith;
       }
     ]
 
 pub returns : goal.returns
-returns c = c.loop-slot.invariant.counted ∙ ap length (all_since_slots c.args.words.now c.args.from c.loop-slot.slot c.loop-slot-test.false)
+returns c = c.loop-slot.invariant.counted
+    ∙ ap length (all_since_slots c.args.words.now c.args.from c.loop-slot.slot c.loop-slot-test.false)

@@ -14,9 +14,13 @@ loop-slot-preserved c =
     elim c.if-is_since.branch [
       | then-is_since w ↦
           let t = sym c.is_since.ensures ∙ w.if-is_since.true in
-          let is : c.if-is_since.first ≡ min c.loop-slot.first (owner_at c.args.words.now c.loop-slot.slot) = w.first-is ∙ w.min-first.ensures in
-          let high : c.args.from ≤ owner_at c.args.words.now c.loop-slot.slot = (holds_since c.args.words.now c.args.from c.loop-slot.slot t).1 in record {
-            least = least_taken c.args.words.now c.args.from c.loop-slot.slot c.loop-slot.first c.if-is_since.first inside t is c.loop-slot.invariant.least;
+          let is : c.if-is_since.first ≡ min c.loop-slot.first (owner_at c.args.words.now c.loop-slot.slot) =
+          w.first-is ∙ w.min-first.ensures in
+          let high : c.args.from ≤ owner_at c.args.words.now c.loop-slot.slot =
+          (holds_since c.args.words.now c.args.from c.loop-slot.slot t).1 in
+          record {
+            least = least_taken c.args.words.now c.args.from c.loop-slot.slot c.loop-slot.first c.if-is_since.first
+                inside t is c.loop-slot.invariant.least;
             within = omega arith;
           }
       | else-is_since w ↦ let is : c.if-is_since.first ≡ c.loop-slot.first = w.first-is in record {
@@ -28,4 +32,6 @@ loop-slot-preserved c =
 
 pub returns-clause-least : goal.returns-clause-least
 returns-clause-least c =
-    subst (All (λ entry. c.loop-slot.first ≤ entry.1)) (all_since_slots c.args.words.now c.args.from c.loop-slot.slot c.loop-slot-test.false) c.loop-slot.invariant.least
+    subst (All (λ entry. c.loop-slot.first ≤ entry.1))
+    (all_since_slots c.args.words.now c.args.from c.loop-slot.slot c.loop-slot-test.false)
+    c.loop-slot.invariant.least

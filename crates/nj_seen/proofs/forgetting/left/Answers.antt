@@ -9,15 +9,18 @@ use Rattle.nj_seen.proofs.forgetting.left.Goals as goal
 
 pub returns-then-keys-room-clause-oldest : goal.returns-then-keys-room-clause-oldest
 returns-then-keys-room-clause-oldest c = λ seen step holds first count.
-    first ∙ ap (oldest_step step) (stay (slot_count c.args.words.now) c.args.room c.args.keys.count seen count c.if-keys-room.true)
+    first ∙ ap (oldest_step step) (stay (slot_count c.args.words.now) c.args.room c.args.keys.count seen
+    count c.if-keys-room.true)
 
 pub returns-then-keys-room-clause-gone : goal.returns-then-keys-room-clause-gone
 returns-then-keys-room-clause-gone c = λ seen step holds first count.
-    none_gone c.args.keys.oldest seen ∙ stay (slot_count c.args.words.now) c.args.room c.args.keys.count seen count c.if-keys-room.true
+    none_gone c.args.keys.oldest seen
+    ∙ stay (slot_count c.args.words.now) c.args.room c.args.keys.count seen count c.if-keys-room.true
 
 pub returns-then-keys-room-clause-count : goal.returns-then-keys-room-clause-count
 returns-then-keys-room-clause-count c = λ seen step holds first count.
-    count ∙ ap key_count (stay (slot_count c.args.words.now) c.args.room c.args.keys.count seen count c.if-keys-room.true)
+    count ∙ ap key_count (stay (slot_count c.args.words.now) c.args.room c.args.keys.count seen
+    count c.if-keys-room.true)
 
 -- the entries are the map
 is : (c : goal.After-count_since) → IsMap c.args.words.now
@@ -26,14 +29,17 @@ is c = let laws = c.entries_are_the_map.ensures in is_map laws.once laws.owners 
 pub returns-clause-oldest : goal.returns-clause-oldest
 returns-clause-oldest c = λ seen step holds first count.
     c.max.ensures
-    ∙ left_oldest c.different_numbers_fit.ensures c.args.words.now seen step c.args.room c.oldest_kept-from.result c.args.keys.oldest (is c) holds c.requires.fits c.oldest_kept-from.ensures first
+    ∙ left_oldest c.different_numbers_fit.ensures c.args.words.now seen step c.args.room c.oldest_kept-from.result
+    c.args.keys.oldest (is c) holds c.requires.fits c.oldest_kept-from.ensures first
 
 pub returns-clause-gone : goal.returns-clause-gone
 returns-clause-gone c = λ seen step holds first count.
     ap (λ n. drop (n - c.args.keys.oldest) seen) c.max.ensures
-    ∙ left_gone c.different_numbers_fit.ensures c.args.words.now seen step c.args.room c.oldest_kept-from.result c.args.keys.oldest (is c) holds c.requires.fits c.oldest_kept-from.ensures first
+    ∙ left_gone c.different_numbers_fit.ensures c.args.words.now seen step c.args.room c.oldest_kept-from.result
+    c.args.keys.oldest (is c) holds c.requires.fits c.oldest_kept-from.ensures first
 
 pub returns-clause-count : goal.returns-clause-count
 returns-clause-count c = λ seen step holds first count.
-    left_count c.different_numbers_fit.ensures c.args.words.now seen step c.args.room c.oldest_kept-from.result c.args.keys.oldest (is c) holds c.requires.fits c.oldest_kept-from.ensures first
+    left_count c.different_numbers_fit.ensures c.args.words.now seen step c.args.room c.oldest_kept-from.result
+    c.args.keys.oldest (is c) holds c.requires.fits c.oldest_kept-from.ensures first
     c.count_since.result c.count_since.ensures

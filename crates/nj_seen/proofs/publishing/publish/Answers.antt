@@ -14,9 +14,11 @@ loop-slot-preserved c =
     let inside : 2 * c.loop-slot.slot + 1 < length c.loop-slot.words = omega arith in
     elim c.if-is_since.branch [
       | then-is_since w ↦ subst (IsPublished c.args.words.now c.args.step (c.loop-slot.slot + 1)) (sym w.words-is)
-          (slot_published c.args.words.now c.loop-slot.words c.args.step c.loop-slot.slot inside (sym c.is_since.ensures ∙ w.if-is_since.true) c.loop-slot.invariant)
+          (slot_published c.args.words.now c.loop-slot.words c.args.step c.loop-slot.slot inside
+          (sym c.is_since.ensures ∙ w.if-is_since.true) c.loop-slot.invariant)
       | else-is_since w ↦ subst (IsPublished c.args.words.now c.args.step (c.loop-slot.slot + 1)) (sym w.words-is)
-          (slot_left c.args.words.now c.loop-slot.words c.args.step c.loop-slot.slot inside (sym c.is_since.ensures ∙ w.if-is_since.false) c.loop-slot.invariant)
+          (slot_left c.args.words.now c.loop-slot.words c.args.step c.loop-slot.slot inside
+          (sym c.is_since.ensures ∙ w.if-is_since.false) c.loop-slot.invariant)
     ]
 
 pub is_since-requires : goal.is_since-requires
@@ -29,8 +31,11 @@ pub returns-clause-table : goal.returns-clause-table
 returns-clause-table c = c.loop-slot.invariant.table
 
 pub returns-clause-entries : goal.returns-clause-entries
-returns-clause-entries c = all_published c.args.words.now c.loop-slot.words c.args.step c.loop-slot.slot c.loop-slot-test.false c.loop-slot.invariant
+returns-clause-entries c =
+    all_published c.args.words.now c.loop-slot.words c.args.step c.loop-slot.slot
+    c.loop-slot-test.false c.loop-slot.invariant
 
 pub returns-clause-owners : goal.returns-clause-owners
 returns-clause-owners c = λ key. owners_published c.args.words.now c.loop-slot.words c.args.step key
-    (all_published c.args.words.now c.loop-slot.words c.args.step c.loop-slot.slot c.loop-slot-test.false c.loop-slot.invariant)
+    (all_published c.args.words.now c.loop-slot.words c.args.step c.loop-slot.slot
+    c.loop-slot-test.false c.loop-slot.invariant)

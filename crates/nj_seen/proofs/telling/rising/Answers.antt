@@ -7,5 +7,6 @@ use Rattle.nj_seen.proofs.telling.rising.Goals as goal
 pub returns : goal.returns
 returns c =
     c.from_vec.ensures
-    ∙ (in_rising_order c.into_vec-keys.result.items c.sort_unstable.new.self.items c.sort_unstable.ensures.permutation c.sort_unstable.ensures.sorted
+    ∙ (in_rising_order c.into_vec-keys.result.items c.sort_unstable.new.self.items c.sort_unstable.ensures.permutation
+    c.sort_unstable.ensures.sorted
     ∙ ap (in_order nat_lt) c.into_vec-keys.ensures)

@@ -10,15 +10,19 @@ use Rattle.nj_seen.proofs.tests.publish_step.Goals as goal
 
 below : (step owner : ℕ) → step < first_claim → published step owner < first_claim
 below step owner lt =
-    ⊎_elim (λ (early : owner < first_claim). subst (λ (o : ℕ). o < first_claim) (sym (published_low step owner early)) early)
+    ⊎_elim (λ (early : owner < first_claim).
+    subst (λ (o : ℕ). o < first_claim) (sym (published_low step owner early)) early)
     (λ (claim : first_claim ≤ owner). subst (λ (o : ℕ). o < first_claim) (sym (published_high step owner claim)) lt)
     (cases_lt owner first_claim)
 
-all_below : (step : ℕ) (entries : List (ℕ × ℕ)) → step < first_claim → All (λ entry. entry.1 < first_claim) (map (published_entry step) entries)
+all_below : (step : ℕ) (entries : List (ℕ × ℕ)) → step < first_claim
+    → All (λ entry. entry.1 < first_claim) (map (published_entry step) entries)
 all_below step entries lt =
     All-map (λ entry. entry.1 < first_claim) (published_entry step) entries
-    (All-from_get_or (λ entry. published step entry.1 < first_claim) entries (0, 0) (λ i _. below step (let entry : ℕ × ℕ = get_or entries i (0, 0) in entry.1) lt))
+    (All-from_get_or (λ entry. published step entry.1 < first_claim) entries (0, 0)
+    (λ i _. below step (let entry : ℕ × ℕ = get_or entries i (0, 0) in entry.1) lt))
 
 pub returns-clause-steps : goal.returns-clause-steps
 returns-clause-steps c =
-    All-same (λ entry. entry.1 < first_claim) (entries_in c.publish.new.words) _ c.publish.ensures.entries (all_below c.args.step (entries_in c.args.words.now) c.requires.step)
+    All-same (λ entry. entry.1 < first_claim) (entries_in c.publish.new.words) _ c.publish.ensures.entries
+    (all_below c.args.step (entries_in c.args.words.now) c.requires.step)

@@ -6,7 +6,8 @@ use Rattle.nj_trace.proofs.tracing.frame_lines.Goals as goal
 
 pub returns-then-jammed-clause-text : goal.returns-then-jammed-clause-text
 returns-then-jammed-clause-text g c =
-    c.new.ensures.items ∙ sym (ap (flat_map unit_line) (jammed_none c.args.pad c.args.machine.now (sym c.jammed.ensures ∙ c.if-jammed.true)))
+    c.new.ensures.items ∙ sym (ap (flat_map unit_line)
+    (jammed_none c.args.pad c.args.machine.now (sym c.jammed.ensures ∙ c.if-jammed.true)))
 
 pub returns-then-jammed-clause-count : goal.returns-then-jammed-clause-count
 returns-then-jammed-clause-count g c =

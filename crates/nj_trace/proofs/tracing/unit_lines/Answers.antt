@@ -25,7 +25,11 @@ loop-text-init g c =
 pub push_unit-requires-clause-few : goal.push_unit-requires-clause-few
 push_unit-requires-clause-few g c =
     let machine = c.loop-text.machine in
-    omega (arith, ap (λ s. s.len) c.unit_step-step.ensures.seen, few_seen machine.cpu (record { cells = machine.cells; pad = c.args.pad }))
+    omega (
+      arith,
+      ap (λ s. s.len) c.unit_step-step.ensures.seen,
+      few_seen machine.cpu (record { cells = machine.cells; pad = c.args.pad }),
+    )
 
 pub push_unit-requires-clause-whole : goal.push_unit-requires-clause-whole
 push_unit-requires-clause-whole g c e =
@@ -36,16 +40,19 @@ push_unit-requires-clause-whole g c e =
 
 pub returns-then-ends_frame-clause-text : goal.returns-then-ends_frame-clause-text
 returns-then-ends_frame-clause-text g c =
-    let laws : UnitLaws = record { nearer = c.frames_are_units.ensures.nearer; ready = c.frames_are_units.ensures.ready } in
+    let laws : UnitLaws =
+    record { nearer = c.frames_are_units.ensures.nearer; ready = c.frames_are_units.ensures.ready } in
     let inv = c.loop-text.invariant in
     let ended = ended_by c.unit_step-step.result (sym c.ends_frame.ensures ∙ c.if-ends_frame.true) in
-    line_last laws c.args.pad c.loop-text.machine c.unit_step-step.new.self ended.0 c.loop-text.text.items c.push_unit.new.text.items _ inv.ready
+    line_last laws c.args.pad c.loop-text.machine c.unit_step-step.new.self ended.0 c.loop-text.text.items
+    c.push_unit.new.text.items _ inv.ready
     (c.unit_step-step.ensures.after ∙ ap (λ end. (c.unit_step-step.new.self, end)) ended.1)
     (c.in_ok-push_unit.ensures ∙ ap (λ s. c.loop-text.text.items ++ unit_line s) c.unit_step-step.ensures.seen) inv.text
 
 pub returns-then-ends_frame-clause-count : goal.returns-then-ends_frame-clause-count
 returns-then-ends_frame-clause-count g c =
-    let laws : UnitLaws = record { nearer = c.frames_are_units.ensures.nearer; ready = c.frames_are_units.ensures.ready } in
+    let laws : UnitLaws =
+    record { nearer = c.frames_are_units.ensures.nearer; ready = c.frames_are_units.ensures.ready } in
     let inv = c.loop-text.invariant in
     let ended = ended_by c.unit_step-step.result (sym c.ends_frame.ensures ∙ c.if-ends_frame.true) in
     count_last laws c.args.pad c.loop-text.machine c.unit_step-step.new.self ended.0 c.loop-text.count _ inv.ready
@@ -53,7 +60,8 @@ returns-then-ends_frame-clause-count g c =
 
 pub loop-text-preserved : goal.loop-text-preserved
 loop-text-preserved g c =
-    let laws : UnitLaws = record { nearer = c.frames_are_units.ensures.nearer; ready = c.frames_are_units.ensures.ready } in
+    let laws : UnitLaws =
+    record { nearer = c.frames_are_units.ensures.nearer; ready = c.frames_are_units.ensures.ready } in
     let inv = c.loop-text.invariant in
     let machine = c.loop-text.machine in
     let next = c.unit_step-step.new.self in
@@ -64,7 +72,8 @@ loop-text-preserved g c =
       ready = c.unit_step-step.ensures.ready;
       text =
           line_on laws c.args.pad machine next c.loop-text.text.items c.push_unit.new.text.items _ inv.ready after
-          (c.in_ok-push_unit.ensures ∙ ap (λ s. c.loop-text.text.items ++ unit_line s) c.unit_step-step.ensures.seen) inv.text;
+          (c.in_ok-push_unit.ensures
+          ∙ ap (λ s. c.loop-text.text.items ++ unit_line s) c.unit_step-step.ensures.seen) inv.text;
       count = count_on laws c.args.pad machine next c.loop-text.count _ inv.ready after inv.count;
       few = omega (arith, inv.few, laws.nearer machine next c.args.pad inv.ready after);
       steps = c.unit_step-step.ensures.counted ∙ counted_not c.unit_step-step.result c.loop-text.steps test ∙ inv.steps;

@@ -9,7 +9,8 @@ use Rattle.nj_trace.proofs.tracing.unit_lines.Given as goal
 abbrev pub invariant-loop-text : goal.invariant-loop-text
 invariant-loop-text g l = record {
   ready : IsReady l.machine;
-  text : l.text.items ++ flat_map unit_line (units_from l.pad (dots_left l.machine) l.machine) ≡ flat_map unit_line (frame_units l.pad l.fn.machine);
+  text : l.text.items ++ flat_map unit_line (units_from l.pad (dots_left l.machine) l.machine)
+      ≡ flat_map unit_line (frame_units l.pad l.fn.machine);
   count : l.count + length (units_from l.pad (dots_left l.machine) l.machine) ≡ length (frame_units l.pad l.fn.machine);
   few : l.count + dots_left l.machine ≤ 171525;
   steps : l.steps ≡ l.fn.steps;

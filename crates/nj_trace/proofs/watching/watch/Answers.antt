@@ -15,10 +15,12 @@ loop-frame-init g c =
           first_lines cart properties movie c.as_bytes.result.now line c.push_line.new.text.items
           (c.as_bytes.ensures.value ∙ c.in_ok-watch_head.ensures
           ∙ ap₂ watch_head (ap length c.pads-pads.ensures.pads) (ap length c.properties-properties.ensures.value))
-          (line_after_is cart properties c.properties-properties.result.now movie 0 c.in_ok-machine.machine c.ram.result.now c.properties-properties.ensures.value
+          (line_after_is cart properties c.properties-properties.result.now movie 0 c.in_ok-machine.machine
+          c.ram.result.now c.properties-properties.ensures.value
           c.ram.ensures.bytes c.in_ok-machine.ensures.begun)
           (c.in_ok-push_line.ensures
-          ∙ ap (λ t. t ++ line) (c.in_ok-extend_from_slice.ensures.items ∙ ap (λ t. t ++ c.as_bytes.result.now) c.new-text.ensures.items));
+          ∙ ap (λ t. t ++ line)
+          (c.in_ok-extend_from_slice.ensures.items ∙ ap (λ t. t ++ c.as_bytes.result.now) c.new-text.ensures.items));
       machine = c.in_ok-machine.ensures.begun;
       frames = omega arith;
       never_falls = omega arith;
@@ -33,13 +35,16 @@ loop-frame-preserved g c =
     let inv = c.loop-frame.invariant in
     let line = watch_line c.properties-properties.result.now (i + 1) c.ram-in-loop-frame.result.now in
     let next : c.frame.new.self ≡ play cart (take (i + 1) movie) =
-    played_on cart movie c.pads-pads.result.now i c.index-pads-frame.result c.loop-frame.machine c.frame.new.self _ c.pads-pads.ensures.pads
+    played_on cart movie c.pads-pads.result.now i c.index-pads-frame.result c.loop-frame.machine c.frame.new.self _
+    c.pads-pads.ensures.pads
     c.loop-frame-test.true c.index-pads-frame.is inv.machine c.frame.ensures.after in
     record {
       text =
-          lines_on (line_after cart properties movie) c.loop-frame.text.items c.push_line-in-loop-frame.new.text.items _ line i (length movie)
+          lines_on (line_after cart properties movie) c.loop-frame.text.items c.push_line-in-loop-frame.new.text.items _
+          line i (length movie)
           (omega (arith, c.loop-frame-test.true, ap length c.pads-pads.ensures.pads)) c.in_ok-push_line-2.ensures
-          (line_after_is cart properties c.properties-properties.result.now movie (i + 1) c.frame.new.self c.ram-in-loop-frame.result.now
+          (line_after_is cart properties c.properties-properties.result.now movie
+          (i + 1) c.frame.new.self c.ram-in-loop-frame.result.now
           c.properties-properties.ensures.value c.ram-in-loop-frame.ensures.bytes next) inv.text;
       machine = next;
       frames = omega (arith, c.frame.ensures.counted, inv.frames);
@@ -48,5 +53,6 @@ loop-frame-preserved g c =
 
 pub returns-clause-text : goal.returns-clause-text
 returns-clause-text g c =
-    lines_end (line_after c.args.cart.now c.args.script.now.properties c.args.movie.now) c.loop-frame.text.items _ c.loop-frame.frame (length c.args.movie.now)
+    lines_end (line_after c.args.cart.now c.args.script.now.properties c.args.movie.now) c.loop-frame.text.items _
+    c.loop-frame.frame (length c.args.movie.now)
     (omega (arith, c.loop-frame-test.false, ap length c.pads-pads.ensures.pads)) c.loop-frame.invariant.text

@@ -5,4 +5,5 @@ use Rattle.nj_turns.proofs.turn.has_same_flags.Goals as goal
 
 pub returns : goal.returns
 returns c = λ e.
-    same_flags c.args.one c.args.other (search rules) (search rules) (search rules) (search rules) (search rules) (search rules)
+    same_flags c.args.one c.args.other (search rules) (search rules) (search rules) (search rules) (search rules)
+    (search rules)

@@ -6,7 +6,8 @@ use Rattle.nj_workers.proofs.desks.stand_up.Given as goal
 abbrev pub invariant-loop-desk : goal.invariant-loop-desk
 invariant-loop-desk g l =
     (map (λ desk. desk.end) l.desks.items ++ reverse l.ends.items ≡ map (λ desk. desk.end) l.fn.desks.items)
-    × (map (λ desk. desk.steps) l.desks.items ++ reverse l.steps.items ≡ map (λ desk. desk.steps) l.fn.desks.items ++ reverse l.fn.steps.items)
+    × (map (λ desk. desk.steps) l.desks.items ++ reverse l.steps.items
+    ≡ map (λ desk. desk.steps) l.fn.desks.items ++ reverse l.fn.steps.items)
     × (vec_len l.desks + vec_len l.ends ≤ vec_capacity l.ends)
     × (vec_len l.desks + vec_len l.steps ≤ vec_capacity l.steps)
     × (vec_capacity l.ends ≡ vec_capacity l.fn.ends)

@@ -6,12 +6,18 @@ use Rattle.nj_workers.proofs.Sitting.{all_at, all_stood_within}
 use Rattle.nj_workers.proofs.desks.work_all.Goals as goal
 
 pub serve_all-requires-clause-may : goal.serve_all-requires-clause-may
-serve_all-requires-clause-may g c = λ κs lives. all_at (λ (end : WorkEnd). MayWork c.args.table.now c.args.pieces.now end.hand) (λ (desk : Desk g.row.L.Denot). desk.end)
-    c.sit_down.new.desks.items c.as_mut_slice.result.now c.args.ends.now.items c.as_mut_slice.ensures.value c.sit_down.ensures.ends c.requires.may
+serve_all-requires-clause-may g c =
+    λ κs lives. all_at (λ (end : WorkEnd). MayWork c.args.table.now c.args.pieces.now end.hand)
+    (λ (desk : Desk g.row.L.Denot). desk.end)
+    c.sit_down.new.desks.items c.as_mut_slice.result.now c.args.ends.now.items c.as_mut_slice.ensures.value
+    c.sit_down.ensures.ends c.requires.may
 
 pub returns-clause-served : goal.returns-clause-served
 returns-clause-served g c =
-    all_stood_within (λ (desk : Desk g.row.L.Denot). desk.end) (λ (desk : Desk g.row.L.Denot). desk.steps) c.args.table.now c.args.pieces.now _
-    c.sit_down.new.desks.items c.as_mut_slice.result.now c.serve_all.new.desks _ c.args.ends.now.items c.stand_up.new.ends.items c.args.steps.now.items c.stand_up.new.steps.items c.sit_down.new.steps.items
-    c.as_mut_slice.ensures.value c.sit_down.new.desks.ok.0 c.serve_all.ensures.many c.serve_all.ensures.served c.sit_down.ensures.ends c.sit_down.ensures.counters c.stand_up.ensures.ends
+    all_stood_within (λ (desk : Desk g.row.L.Denot). desk.end) (λ (desk : Desk g.row.L.Denot).
+    desk.steps) c.args.table.now c.args.pieces.now _
+    c.sit_down.new.desks.items c.as_mut_slice.result.now c.serve_all.new.desks _ c.args.ends.now.items
+    c.stand_up.new.ends.items c.args.steps.now.items c.stand_up.new.steps.items c.sit_down.new.steps.items
+    c.as_mut_slice.ensures.value c.sit_down.new.desks.ok.0 c.serve_all.ensures.many c.serve_all.ensures.served
+    c.sit_down.ensures.ends c.sit_down.ensures.counters c.stand_up.ensures.ends
     c.stand_up.ensures.counters

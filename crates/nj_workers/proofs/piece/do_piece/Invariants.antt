@@ -6,7 +6,8 @@ use Rattle.nj_workers.proofs.piece.do_piece.Given as goal
 
 abbrev pub invariant-loop-place : goal.invariant-loop-place
 invariant-loop-place g l =
-    IsDone l.fn.search (16 * l.fn.piece) l.place l.fn.pass l.pass l.fn.rows.items l.rows.items l.fn.steps l.steps (vec_len l.fn.rows) (vec_len l.rows) l.machine
+    IsDone l.fn.search (16 * l.fn.piece) l.place l.fn.pass l.pass l.fn.rows.items l.rows.items l.fn.steps l.steps
+    (vec_len l.fn.rows) (vec_len l.rows) l.machine
     × (16 * l.fn.piece ≤ l.place)
     × (l.place ≤ 16 * l.fn.piece + 16)
     × (length l.image ≡ length l.fn.image)

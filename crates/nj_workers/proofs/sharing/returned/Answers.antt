@@ -28,10 +28,15 @@ loop-end-preserved c =
     let more = c.push_reserved.ensures.len in
     let same = c.push_reserved.ensures.capacity in
     let room = was.6 in (
-      joined_next c.loop-end.pass c.join_end-taker.new.pass c.loop-end.ends.items c.pop.new.self.items c.in-Some.end _ c.in-Some.ensures.items c.join_end-taker.ensures.pass was.0,
-      still_back taker_of c.loop-end.ends.items c.pop.new.self.items c.in-Some.end _ c.loop-end.takers.items c.push_reserved.new.self.items _ (sym c.join_end-taker.ensures.taker) c.in-Some.ensures.items c.push_reserved.ensures.items was.1,
-      rows_next c.loop-end.added c.add_rows-added.result c.loop-end.rows.items c.add_rows-added.new.rows.items c.as_slice.result.now c.loop-end.ends.items c.pop.new.self.items c.in-Some.end _
-          c.in-Some.ensures.items (c.as_slice.ensures.value ∙ c.join_end-taker.ensures.rows) c.add_rows-added.ensures.before c.add_rows-added.ensures.rows was.2,
+      joined_next c.loop-end.pass c.join_end-taker.new.pass c.loop-end.ends.items c.pop.new.self.items c.in-Some.end _
+          c.in-Some.ensures.items c.join_end-taker.ensures.pass was.0,
+      still_back taker_of c.loop-end.ends.items c.pop.new.self.items c.in-Some.end _ c.loop-end.takers.items
+          c.push_reserved.new.self.items _ (sym c.join_end-taker.ensures.taker) c.in-Some.ensures.items
+          c.push_reserved.ensures.items was.1,
+      rows_next c.loop-end.added c.add_rows-added.result c.loop-end.rows.items c.add_rows-added.new.rows.items
+          c.as_slice.result.now c.loop-end.ends.items c.pop.new.self.items c.in-Some.end _
+          c.in-Some.ensures.items (c.as_slice.ensures.value
+          ∙ c.join_end-taker.ensures.rows) c.add_rows-added.ensures.before c.add_rows-added.ensures.rows was.2,
       ap (λ (p : PassView). p.table) c.join_end-taker.ensures.pass ∙ was.3,
       ap (λ (p : PassView). p.is_root) c.join_end-taker.ensures.pass ∙ was.4,
       own_next c.args.table.now c.loop-end.ends.items c.pop.new.self.items c.in-Some.end c.in-Some.ensures.items was.5,
@@ -48,7 +53,8 @@ pub returns-clause-takers : goal.returns-clause-takers
 returns-clause-takers c =
     let none = c.in_default.ensures.cases in
     let long = c.loop-end.ends.ok.0 in
-    c.reverse.ensures.items ∙ over_back taker_of c.loop-end.ends.items c.loop-end.takers.items _ (omega arith) c.loop-end.invariant.1
+    c.reverse.ensures.items
+    ∙ over_back taker_of c.loop-end.ends.items c.loop-end.takers.items _ (omega arith) c.loop-end.invariant.1
 
 pub returns-clause-rows : goal.returns-clause-rows
 returns-clause-rows c =

@@ -8,4 +8,5 @@ pub returns-clause-few : goal.returns-clause-few
 returns-clause-few c =
     let bounds = c.bounds-bounds.ensures in
     few_live c.args.search.now c.live_rows_are_live.ensures
-    (c.a_step_is_bounded.ensures.candidates c.args.search.now (sym (ap (λ (b : Bounds). b.inputs) bounds.bounds) ∙ bounds.inputs))
+    (c.a_step_is_bounded.ensures.candidates c.args.search.now (sym (ap (λ (b : Bounds). b.inputs) bounds.bounds)
+    ∙ bounds.inputs))

@@ -12,18 +12,34 @@ returns-in_err-table-clause-frames g c = counted_none _ _ c.args.steps.now.items
 
 pub returns-clause-rows : goal.returns-clause-rows
 returns-clause-rows g c =
-    (all_serves (record { own = c.claims_are_of_rows.ensures.own; moved = c.claims_are_of_rows.ensures.moved; owned = c.owned_is_fresh.ensures; room = c.room_is_enough.ensures })
-    c.args.search.now c.args.opening.items c.close.result.items (first_pass c.in_ok-table.table.id) c.claimed_rows.new.pass (live_rows c.args.search.now) c.in_ok-rows.rows.items
-    c.requires.opening (let step = c.requires.step in omega arith) c.lives_are_few.ensures.rising c.lives_are_few.ensures.few (IsPermutation-refl (live_rows c.args.search.now)) refl refl refl
+    (all_serves (record {
+      own = c.claims_are_of_rows.ensures.own;
+      moved = c.claims_are_of_rows.ensures.moved;
+      owned = c.owned_is_fresh.ensures;
+      room = c.room_is_enough.ensures;
+    })
+    c.args.search.now c.args.opening.items c.close.result.items (first_pass c.in_ok-table.table.id)
+    c.claimed_rows.new.pass (live_rows c.args.search.now) c.in_ok-rows.rows.items
+    c.requires.opening (let step = c.requires.step in omega arith) c.lives_are_few.ensures.rising
+    c.lives_are_few.ensures.few (IsPermutation-refl (live_rows c.args.search.now)) refl refl refl
     c.in_ok-rows.ensures.claimed
-    (closed_after c.in_ok-table.table.opening c.args.opening.items c.close.result.items c.claimed_rows.new.pass c.in_ok-table.ensures.table c.close.ensures.table c.close.ensures.size
+    (closed_after c.in_ok-table.table.opening c.args.opening.items c.close.result.items c.claimed_rows.new.pass
+    c.in_ok-table.ensures.table c.close.ensures.table c.close.ensures.size
     c.close.ensures.owners c.close.ensures.seen c.close.ensures.full)).0
 
 pub returns-clause-words : goal.returns-clause-words
 returns-clause-words g c =
-    (all_serves (record { own = c.claims_are_of_rows.ensures.own; moved = c.claims_are_of_rows.ensures.moved; owned = c.owned_is_fresh.ensures; room = c.room_is_enough.ensures })
-    c.args.search.now c.args.opening.items c.close.result.items (first_pass c.in_ok-table.table.id) c.claimed_rows.new.pass (live_rows c.args.search.now) c.in_ok-rows.rows.items
-    c.requires.opening (let step = c.requires.step in omega arith) c.lives_are_few.ensures.rising c.lives_are_few.ensures.few (IsPermutation-refl (live_rows c.args.search.now)) refl refl refl
+    (all_serves (record {
+      own = c.claims_are_of_rows.ensures.own;
+      moved = c.claims_are_of_rows.ensures.moved;
+      owned = c.owned_is_fresh.ensures;
+      room = c.room_is_enough.ensures;
+    })
+    c.args.search.now c.args.opening.items c.close.result.items (first_pass c.in_ok-table.table.id)
+    c.claimed_rows.new.pass (live_rows c.args.search.now) c.in_ok-rows.rows.items
+    c.requires.opening (let step = c.requires.step in omega arith) c.lives_are_few.ensures.rising
+    c.lives_are_few.ensures.few (IsPermutation-refl (live_rows c.args.search.now)) refl refl refl
     c.in_ok-rows.ensures.claimed
-    (closed_after c.in_ok-table.table.opening c.args.opening.items c.close.result.items c.claimed_rows.new.pass c.in_ok-table.ensures.table c.close.ensures.table c.close.ensures.size
+    (closed_after c.in_ok-table.table.opening c.args.opening.items c.close.result.items c.claimed_rows.new.pass
+    c.in_ok-table.ensures.table c.close.ensures.table c.close.ensures.size
     c.close.ensures.owners c.close.ensures.seen c.close.ensures.full)).1

@@ -4,4 +4,6 @@ use Rattle.nj_banked.proofs.Kept.{put-windowed}
 use Rattle.nj_banked.proofs.banked.Banked.load_pattern.Goals as goal
 
 pub invariant_of-self : goal.invariant_of-self
-invariant_of-self c = put-windowed _ _ _ _ _ c.self.invariant (ap (λ m. m.chr_ram) c.self.view_is ∙ c.requires.ram) (omega (arith, length-take {A = ℕ}, length-append {A = ℕ}, length-drop {A = ℕ}))
+invariant_of-self c =
+    put-windowed _ _ _ _ _ c.self.invariant (ap (λ m. m.chr_ram) c.self.view_is
+    ∙ c.requires.ram) (omega (arith, length-take {A = ℕ}, length-append {A = ℕ}, length-drop {A = ℕ}))

@@ -12,4 +12,7 @@ pub slice_bounds-result-end : goal.slice_bounds-result-end
 slice_bounds-result-end c = let view = pattern-view _ _ _ _ c.self.invariant in omega (arith, view.inside)
 
 pub returns-clause-bytes : goal.returns-clause-bytes
-returns-clause-bytes c = let view = pattern-view _ _ _ _ c.self.invariant in ap (λ l. slice_range l c.self.inside.pattern (c.self.inside.pattern + 8192)) c.deref.ensures.value ∙ (view.bytes ∙ ap pattern_of c.self.view_is)
+returns-clause-bytes c = let view =
+    pattern-view _ _ _ _ c.self.invariant in
+    ap (λ l. slice_range l c.self.inside.pattern (c.self.inside.pattern + 8192)) c.deref.ensures.value
+    ∙ (view.bytes ∙ ap pattern_of c.self.view_is)

@@ -12,11 +12,14 @@ unfolding rom_in
 returns-clause-begun g c =
     let plan = plan_of c.args.cart.now c.args.script.now c.args.start.now in
     let ran : c.play.new.self ≡ state_of plan [] =
-    start_state c.args.cart.now c.args.script.now c.args.start.now c.pads.result.now c.in_ok-machine.machine c.play.new.self
-    c.in_ok-machine.ensures.begun c.pads.ensures.pads c.play.ensures.played (c.the_empty_word_is_the_start.ensures.state plan) in
+    start_state c.args.cart.now c.args.script.now c.args.start.now c.pads.result.now
+    c.in_ok-machine.machine c.play.new.self
+    c.in_ok-machine.ensures.begun c.pads.ensures.pads c.play.ensures.played
+    (c.the_empty_word_is_the_start.ensures.state plan) in
     record {
       machine = c.saved.ensures.same ∙ ran;
       cartridge = ap rom_of c.saved.ensures.same ∙ (c.play.ensures.cartridge ∙ ap rom_of c.in_ok-machine.ensures.begun);
       image = start_image plan c.play.new.self c.in_ok-image.image.items ran c.in_ok-image.ensures.image;
-      judged = start_judged plan c.play.new.self c.judge_state-judged.result ran c.judge_state-judged.ensures (c.the_empty_word_is_the_start.ensures.judged plan);
+      judged = start_judged plan c.play.new.self c.judge_state-judged.result ran c.judge_state-judged.ensures
+          (c.the_empty_word_is_the_start.ensures.judged plan);
     }

@@ -30,6 +30,10 @@ returns c =
     record { table = c.add_keys.ensures.table; size = c.add_keys.ensures.size; owners = c.add_keys.ensures.owners } in
     let same : IsAdded c.in_ok-words.words.items c.args.keys.now (c.args.self.now.state.step + 1) c.add_keys.new.words =
     subst (λ (n : ℕ). IsAdded c.in_ok-words.words.items c.args.keys.now n c.add_keys.new.words) step
-    (subst (λ (words : List ℕ). IsAdded words c.args.keys.now (s.step + 1) c.add_keys.new.words) c.as_mut_slice.ensures.value added) in
-    subst (IsMade c.args.self.now) (sym (with_items_is c.in_ok-words.words c.add_keys.new.words (c.add_keys.auto.words ∙ c.as_mut_slice.ensures.len)))
-    (c.may_add.ensures.adds c.in_ok-words.words.items c.args.keys.now c.add_keys.new.words c.in_ok-words.ensures c.requires.keys same)
+    (subst (λ (words : List ℕ). IsAdded words c.args.keys.now (s.step + 1) c.add_keys.new.words)
+    c.as_mut_slice.ensures.value added) in
+    subst (IsMade c.args.self.now)
+    (sym (with_items_is c.in_ok-words.words c.add_keys.new.words
+    (c.add_keys.auto.words ∙ c.as_mut_slice.ensures.len)))
+    (c.may_add.ensures.adds c.in_ok-words.words.items c.args.keys.now c.add_keys.new.words
+    c.in_ok-words.ensures c.requires.keys same)

@@ -9,6 +9,7 @@ pub returns-then-left-self : goal.returns-then-left-self
 returns-then-left-self c =
     let s = c.self.inside in
     own_keys c.args.self.now c.args.left s.keys.oldest c.args.keys.items c.requires.left
-    (subst (λ (h : Held). s.keys.oldest ≡ oldest_step h.state.step h.state.seen) c.self.view_is c.self.invariant.2.oldest)
+    (subst (λ (h : Held). s.keys.oldest ≡ oldest_step h.state.step h.state.seen) c.self.view_is
+    c.self.invariant.2.oldest)
     c.if-left-self.true (λ words holds. c.may_add.ensures.can words c.args.keys.items holds c.requires.keys)
     (λ before after holds added. c.may_add.ensures.adds before c.args.keys.items after holds c.requires.keys added)

@@ -1,8 +1,12 @@
 -- The unit that ended the loop ends the frame that it is in.
 use Rattle.std.proofs.Common.{sym, ◌∙◌, arith}
-use Rattle.nj_machine.proofs.Units.{end_tells}
-use Rattle.nj_machine.proofs.Fuel.{frame_ends, frame_goes_on, fewer_left}
+use Rattle.nj_machine.proofs.Units.{end_tells, goes_on_running}
+use Rattle.nj_machine.proofs.Fuel.{frame_ends, frame_goes_on, fewer_left, frame_jammed}
 use Rattle.nj_machine.proofs.frames.Console.frame.Goals as goal
+
+pub returns-then-stands-clause-after : goal.returns-then-stands-clause-after
+returns-then-stands-clause-after g c =
+    frame_jammed _ _ c.stands.ensures.ready (sym c.stands.ensures.jammed ∙ c.if-stands.true)
 
 pub returns-in-Some-clause-after : goal.returns-in-Some-clause-after
 returns-in-Some-clause-after g c =
@@ -24,4 +28,5 @@ loop-end-preserved g c = record {
       c.look_for_turns.ensures.same _ ∙ frame_goes_on _ _ _ c.in_default.ensures.began c.in_default.ensures.step
       ∙ c.loop-end.invariant.same_frame;
   same_rom = c.look_for_turns.ensures.cartridge ∙ c.in_default.ensures.cartridge ∙ c.loop-end.invariant.same_rom;
+  running = c.look_for_turns.ensures.jam ∙ goes_on_running _ _ _ c.in_default.ensures.step;
 }

@@ -17,12 +17,17 @@ get-requires-clause-long g c = omega (arith, c.requires.sized, image-long (rom_o
 
 pub get-requires-clause-stored : goal.get-requires-clause-stored
 get-requires-clause-stored g c =
-    let settled = c.settle.ensures.same [] ∙ ap (λ q. g.P.Picture.meaning c.self.inside.recorder.cells.picture q) c.pattern-pattern.ensures.bytes in
+    let settled =
+    c.settle.ensures.same []
+    ∙ ap (λ q. g.P.Picture.meaning c.self.inside.recorder.cells.picture q) c.pattern-pattern.ensures.bytes in
     let mirroring = ap (λ x. x.vram.vertical) settled ∙ ap (λ s. s.cells.screen.vram.vertical) c.self.view_is in (
       [],
       (
         (of_image (rom_of c.args.self.now) c.args.image.now).cells.screen,
-        (holds_of (rom_of c.args.self.now) c.args.image.now c.requires, mirroring_of c.args.self.now c.args.image.now c.requires ∙ sym mirroring),
+        (
+          holds_of (rom_of c.args.self.now) c.args.image.now c.requires,
+          mirroring_of c.args.self.now c.args.image.now c.requires ∙ sym mirroring,
+        ),
       ),
     )
 
@@ -42,7 +47,9 @@ set_bank-requires g c =
 pub returns-clause-state : goal.returns-clause-state
 returns-clause-state g c =
     let p = pattern_of c.set_bank.new.self in
-    let settled = c.settle.ensures.same p ∙ ap (λ q. g.P.Picture.meaning c.self.inside.recorder.cells.picture q) c.pattern-pattern.ensures.bytes in
+    let settled =
+    c.settle.ensures.same p
+    ∙ ap (λ q. g.P.Picture.meaning c.self.inside.recorder.cells.picture q) c.pattern-pattern.ensures.bytes in
     let mirroring = ap (λ x. x.vram.vertical) settled ∙ ap (λ s. s.cells.screen.vram.vertical) c.self.view_is in
     load_chain c.args.self.now c.args.image.now _ _ _ _ _ _ _ _ _ (record {
       rest_is = c.rest_part-bytes.ensures.part;
@@ -53,7 +60,8 @@ returns-clause-state g c =
       ram_is = c.copy_from_slice.ensures.after ∙ c.ram_part.ensures.part;
       board_is =
           c.set_bank.ensures
-          ∙ ap (λ m. with_bank m (slice_index c.rest_part-bytes.result.now 25)) (c.take_pattern.ensures ∙ ap (with_pattern c.args.image.now) (ap (λ s. s.cells.board) c.self.view_is));
+          ∙ ap (λ m. with_bank m (slice_index c.rest_part-bytes.result.now 25)) (c.take_pattern.ensures
+          ∙ ap (with_pattern c.args.image.now) (ap (λ s. s.cells.board) c.self.view_is));
       page_is = c.page_at-self-inside.ensures;
       odd_is = c.flag-self-inside.ensures;
       one_is = c.port_at-self-inside.ensures;

@@ -16,7 +16,8 @@ put-requires-clause-long g c = omega (arith, c.place.auto.image, c.requires, ima
 
 pub place-requires-2 : goal.place-requires-2
 place-requires-2 g c =
-    let rest : length c.rest_bytes-rest.result ≡ 32 = ap length c.rest_bytes-rest.ensures ∙ length-rest c.args.self.now in
+    let rest : length c.rest_bytes-rest.result ≡ 32 =
+    ap length c.rest_bytes-rest.ensures ∙ length-rest c.args.self.now in
     omega (arith, c.put.auto.image, c.place.auto.image, c.requires, image-long (rom_of c.args.self.now))
 
 pub place_pattern-requires : goal.place_pattern-requires
@@ -28,11 +29,13 @@ place_pattern-requires g c is_ram =
 pub returns-clause-image : goal.returns-clause-image
 returns-clause-image g c =
     save_chain c.args.self.now _ _ _ _ _ _ _ _ _ (subst IsReady c.self.view_is c.self.invariant)
-    (ap (λ s. s.cells.ram) c.self.view_is) (ap (λ s. s.cells.screen) c.self.view_is) (ap (λ s. s.cells.board) c.self.view_is)
+    (ap (λ s. s.cells.ram) c.self.view_is) (ap (λ s. s.cells.screen) c.self.view_is)
+    (ap (λ s. s.cells.board) c.self.view_is)
     c.requires c.rest_bytes-rest.ensures c.place.ensures
     (c.put.ensures []
     ∙ ap (λ x. with_picture x c.place.new.image)
-    (c.settle.ensures.same [] ∙ ap (λ q. g.P.Picture.meaning c.self.inside.recorder.cells.picture q) c.pattern.ensures.bytes))
+    (c.settle.ensures.same []
+    ∙ ap (λ q. g.P.Picture.meaning c.self.inside.recorder.cells.picture q) c.pattern.ensures.bytes))
     c.place-2.ensures c.place_pattern.ensures
 
 pub returns-clause-is_image : goal.returns-clause-is_image

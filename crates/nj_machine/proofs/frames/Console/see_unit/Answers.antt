@@ -6,7 +6,9 @@ use Rattle.nj_machine.proofs.frames.Console.see_unit.Goals as goal
 
 pub invariant_of-self : goal.invariant_of-self
 invariant_of-self g c =
-    let left = leaves_by c.args.pad _ _ _ _ c.self.invariant c.unit-end.ensures.cpu c.unit-end.ensures.held (c.take_end-ended.ensures.taken _) in
+    let left =
+    leaves_by c.args.pad _ _ _ _ c.self.invariant c.unit-end.ensures.cpu c.unit-end.ensures.held
+    (c.take_end-ended.ensures.taken _) in
     left.ready
 
 pub returns-clause-ready : goal.returns-clause-ready
@@ -14,5 +16,7 @@ returns-clause-ready g c = invariant_of-self g c
 
 pub returns-clause-cartridge : goal.returns-clause-cartridge
 returns-clause-cartridge g c =
-    let left = leaves_by c.args.pad _ _ _ _ c.self.invariant c.unit-end.ensures.cpu c.unit-end.ensures.held (c.take_end-ended.ensures.taken _) in
+    let left =
+    leaves_by c.args.pad _ _ _ _ c.self.invariant c.unit-end.ensures.cpu c.unit-end.ensures.held
+    (c.take_end-ended.ensures.taken _) in
     left.of_rom ∙ ap rom_of c.self.view_is

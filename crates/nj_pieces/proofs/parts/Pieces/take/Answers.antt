@@ -17,7 +17,8 @@ returns-in-Some-clause-below g c = dealt_below _ _ _ _ c.in-Some.ensures.from
 
 pub returns-in-Some-clause-own_first : goal.returns-in-Some-clause-own_first
 returns-in-Some-clause-own_first g c =
-    inl (subst (λ pieces. Contains pieces c.in-Some.piece) (sym (own_dealt c.args.self.now c.args.taker.now c.requires)) c.in-Some.ensures.from)
+    inl (subst (λ pieces. Contains pieces c.in-Some.piece) (sym (own_dealt c.args.self.now c.args.taker.now c.requires))
+    c.in-Some.ensures.from)
 
 pub returns-in-Some-take_at-clause-below : goal.returns-in-Some-take_at-clause-below
 unfolding count_of
@@ -32,7 +33,8 @@ loop-at-preserved g c =
       now.number ∙ was.1,
       now.none ∙ was.2,
       now.dealt ∙ was.3,
-      λ k d within. dite (ℕ_discrete k c.loop-at.at) (λ e. subst (λ (j : ℕ). (get_or c.take_at-in-loop-at.new.taker.accesses.items j d).ended ≡ true) (sym e) (now.ended d))
+      λ k d within. dite (ℕ_discrete k c.loop-at.at) (λ e. subst (λ (j : ℕ).
+          (get_or c.take_at-in-loop-at.new.taker.accesses.items j d).ended ≡ true) (sym e) (now.ended d))
           (λ other. now.kept k d (omega arith) (was.4 k d (omega arith))),
       λ k d within e. now.kept k d within (was.5 k d within e),
       λ d. now.kept c.args.taker.now.number d c.requires.within (was.6 d),

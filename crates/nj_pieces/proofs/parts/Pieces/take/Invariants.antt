@@ -11,6 +11,7 @@ invariant-loop-at g l =
     × ((worker_view l.taker.owner).log ≡ (worker_view l.fn.taker.owner).log)
     × ((worker_view l.taker.owner).dealt ≡ (worker_view l.fn.taker.owner).dealt)
     × ((k : ℕ) (d : Access) → k < l.at → (slice_index_or l.taker.accesses.items k d).ended ≡ true)
-    × ((k : ℕ) (d : Access) → k < length l.self.thieves.items → (slice_index_or l.fn.taker.accesses.items k d).ended ≡ true
+    × ((k : ℕ) (d : Access) → k < length l.self.thieves.items
+    → (slice_index_or l.fn.taker.accesses.items k d).ended ≡ true
     → (slice_index_or l.taker.accesses.items k d).ended ≡ true)
     × ((d : Access) → (slice_index_or l.taker.accesses.items l.fn.taker.number d).ended ≡ true)

@@ -5,4 +5,10 @@ use Rattle.nj_pool.proofs.strings.Strings.len.Goals as goal
 
 pub returns : goal.returns
 returns c =
-    omega (arith, c.len.ensures, c.self.inside.ends.ok.0, strings_count 0 c.self.inside.ends.items c.self.inside.bytes.items, ap length c.self.view_is)
+    omega (
+      arith,
+      c.len.ensures,
+      c.self.inside.ends.ok.0,
+      strings_count 0 c.self.inside.ends.items c.self.inside.bytes.items,
+      ap length c.self.view_is,
+    )

@@ -12,7 +12,10 @@ invariant-loop-rest g l = record {
   counted : l.count + length l.rest ≤ length l.behind;
   frames : l.steps + length l.rest ≤ l.fn.steps + length l.behind;
   never_falls : l.fn.steps ≤ l.steps;
-  after : (plan : Plan) → plan.script.rules ≡ l.rules → plan.script.hold ≡ l.hold → IsAfter plan [] l.fn.self.machine l.fn.self.judged → IsAfter plan (take l.count (first_pads l.hold l.behind)) l.self.machine l.self.judged;
+  after :
+      (plan : Plan) → plan.script.rules ≡ l.rules → plan.script.hold ≡ l.hold →
+      IsAfter plan [] l.fn.self.machine l.fn.self.judged →
+      IsAfter plan (take l.count (first_pads l.hold l.behind)) l.self.machine l.self.judged;
 }
 
 abbrev pub decreases-loop-rest : goal.decreases-loop-rest

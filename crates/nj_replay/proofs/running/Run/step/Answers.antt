@@ -13,6 +13,8 @@ returns-clause-after g c plan word same_rules same_hold before =
     record {
       state = state;
       judged_is =
-          judged_next plan word child c.args.rules.now c.hold_pad.new.machine c.ram.result.now c.jammed.result c.args.self.now.judged c.judge-self.result same_rules
-          before.judged_is state c.ram.ensures.bytes c.jammed.ensures (c.a_word_goes_on.ensures.judged plan word c.args.pad) c.judge-self.ensures;
+          judged_next plan word child c.args.rules.now c.hold_pad.new.machine c.ram.result.now c.jammed.result
+          c.args.self.now.judged c.judge-self.result same_rules
+          before.judged_is state c.ram.ensures.bytes c.jammed.ensures
+          (c.a_word_goes_on.ensures.judged plan word c.args.pad) c.judge-self.ensures;
     }

@@ -13,24 +13,30 @@ use Rattle.nj_search.proofs.planning.Plan.open.Goals as goal
 
 pub start-requires-clause-front : goal.start-requires-clause-front
 start-requires-clause-front g c =
-    let s = c.self.inside in
-    (some_word (plan_of s.cart s.script s.start) s.limits s.saved c.most.result c.self.invariant.3 c.most.ensures.most, c.most.ensures.within)
+    let s = c.self.inside in (
+      some_word (plan_of s.cart s.script s.start) s.limits s.saved c.most.result c.self.invariant.3 c.most.ensures.most,
+      c.most.ensures.within,
+    )
 
 pub start-requires-clause-fits : goal.start-requires-clause-fits
 start-requires-clause-fits g c =
     let s = c.self.inside in
-    fits_slots (plan_of s.cart s.script s.start) s.limits s.saved c.most.result c.input_count.result c.self.invariant.3 c.most.ensures.most
+    fits_slots (plan_of s.cart s.script s.start) s.limits s.saved c.most.result c.input_count.result c.self.invariant.3
+    c.most.ensures.most
     c.input_count.ensures.value
 
 pub from_saved-requires-clause-front : goal.from_saved-requires-clause-front
 from_saved-requires-clause-front g c =
-    let s = c.self.inside in
-    (some_word (plan_of s.cart s.script s.start) s.limits s.saved c.most.result c.self.invariant.3 c.most.ensures.most, c.most.ensures.within)
+    let s = c.self.inside in (
+      some_word (plan_of s.cart s.script s.start) s.limits s.saved c.most.result c.self.invariant.3 c.most.ensures.most,
+      c.most.ensures.within,
+    )
 
 pub from_saved-requires-clause-fits : goal.from_saved-requires-clause-fits
 from_saved-requires-clause-fits g c =
     let s = c.self.inside in
-    fits_slots (plan_of s.cart s.script s.start) s.limits s.saved c.most.result c.input_count.result c.self.invariant.3 c.most.ensures.most
+    fits_slots (plan_of s.cart s.script s.start) s.limits s.saved c.most.result c.input_count.result c.self.invariant.3
+    c.most.ensures.most
     c.input_count.ensures.value
 
 pub from_saved-requires-clause-few : goal.from_saved-requires-clause-few
@@ -45,9 +51,11 @@ returns-in-None-clause-opened g c =
     let planned : Planned = record { plan = plan_of s.cart s.script s.start; limits = s.limits; saved = s.saved } in
     let given : Given = record { front = c.most.result; exponent = s.limits.exponent; inputs = c.input_count.result } in
     subst (λ (p : Planned). IfOk c.start.result (λ search. search ≡ held_in p)) c.self.view_is
-    (IfOk-weaker c.start.result (λ search. search ≡ opened planned.plan (bounds_of given s.script)) (λ search. search ≡ held_in planned)
+    (IfOk-weaker c.start.result (λ search. search ≡ opened planned.plan (bounds_of given s.script))
+    (λ search. search ≡ held_in planned)
     (λ search is. opens_at_start planned (bounds_of given s.script) search
-    (given_bounds planned given c.most.ensures.most refl c.input_count.ensures.value) c.in-None.is is) c.start.ensures.opened)
+    (given_bounds planned given c.most.ensures.most refl c.input_count.ensures.value) c.in-None.is
+    is) c.start.ensures.opened)
 
 pub returns-in-Some-clause-opened : goal.returns-in-Some-clause-opened
 returns-in-Some-clause-opened g c =
@@ -55,7 +63,9 @@ returns-in-Some-clause-opened g c =
     let planned : Planned = record { plan = plan_of s.cart s.script s.start; limits = s.limits; saved = s.saved } in
     let given : Given = record { front = c.most.result; exponent = s.limits.exponent; inputs = c.input_count.result } in
     subst (λ (p : Planned). IfOk c.from_saved.result (λ search. search ≡ held_in p)) c.self.view_is
-    (IfOk-weaker c.from_saved.result (λ search. search ≡ resumed planned.plan (bounds_of given s.script) c.in-Some.saved)
+    (IfOk-weaker c.from_saved.result
+    (λ search. search ≡ resumed planned.plan (bounds_of given s.script) c.in-Some.saved)
     (λ search. search ≡ held_in planned)
     (λ search is. opens_from_saved planned (bounds_of given s.script) c.in-Some.saved search
-    (given_bounds planned given c.most.ensures.most refl c.input_count.ensures.value) c.in-Some.is is) c.from_saved.ensures.resumed)
+    (given_bounds planned given c.most.ensures.most refl c.input_count.ensures.value) c.in-Some.is
+    is) c.from_saved.ensures.resumed)

@@ -28,7 +28,8 @@ returns c =
     let can : CanRun planned = record {
       limits = c.self.invariant.0;
       hold = subst (λ (n : ℕ). 1 ≤ n) c.hold-hold.ensures.value c.hold-hold.ensures.low;
-      tolerance = subst (λ (n : ℕ). n ≤ 1048576) c.tolerance-tolerance.ensures.value c.tolerance-tolerance.ensures.within;
+      tolerance =
+          subst (λ (n : ℕ). n ≤ 1048576) c.tolerance-tolerance.ensures.value c.tolerance-tolerance.ensures.within;
       rules = subst (λ (n : ℕ). n ≤ 128) c.rule_count-rules.ensures.value c.rule_count-rules.ensures.within;
       pads = subst (λ (n : ℕ). n ≤ 256) c.input_count-inputs.ensures.value c.input_count-inputs.ensures.within;
       saved = c.self.invariant.1;
