@@ -34,7 +34,8 @@ module _ (planned : Planned) (keep : Bool) where
       AreCounted most old new (frames_for (search_reading planned keep) (frames_most planned))
   unfolding search_reading
   found_counted workers most p old new le none is h =
-      rw none (subst (λ q. AreCounted most old new (frames_most q)) is (by_more workers most old new (frames_most p) le h))
+      rw none (subst (λ q. AreCounted most old new (frames_most q)) is
+      (by_more workers most old new (frames_most p) le h))
 
   -- where it is refused, none is counted
   pub refused_counted : (most : ℕ) (counts : List ℕ) →

@@ -71,7 +71,8 @@ unfolding Loads
 part_stops files load made failed stop result e h = rw e (λ next. h (λ a. next (made a)))
 
 -- nothing more is loaded
-pub same_loads : {A : Type 0} (files : Files) (failed : ℕ) (value : A) → Loads files (λ next. next value) failed (Ok value)
+pub same_loads : {A : Type 0} (files : Files) (failed : ℕ) (value : A)
+    → Loads files (λ next. next value) failed (Ok value)
 unfolding Loads
 same_loads files failed value = λ next. record { same = refl; reaches = λ hash reached. reached }
 

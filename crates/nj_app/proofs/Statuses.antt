@@ -68,7 +68,8 @@ module _ (files : Files) (work : Work) (failed : ℕ) where
   }
 
   -- either way
-  pub reply_fails : {W F : Type 0} (reply : Reply) (hash : ℕ) (old new : Option (List ℕ)) (before after : Option Files) →
+  pub reply_fails : {W F : Type 0} (reply : Reply) (hash : ℕ) (old new : Option (List ℕ))
+      (before after : Option Files) →
       Serves files work failed (Ok reply) →
       (W × IsTextCut reply old new before after)
       ⊎ (F × (new ≡ appended old reply.text) × IsPutCut reply.file hash before after) →
@@ -212,7 +213,8 @@ cut_put_named name reply hash before after saved cut =
     subst (λ n. IsSomeAnd n (λ m. hash ≡ fnv_of m)) (sym (saved cut.put cut.is_put).1) cut.named
 
 -- a write failed, or a put of the name that is saved under
-pub failed_either : {W F P Q : Type 0} (name : Option (List ℕ)) (reply : Reply) (hash : ℕ) (before after : Option Files) →
+pub failed_either : {W F P Q : Type 0} (name : Option (List ℕ)) (reply : Reply) (hash : ℕ)
+    (before after : Option Files) →
     IsSavedAs name reply → (W × P) ⊎ (F × Q × IsPutCut reply.file hash before after) →
     W ⊎ (F × IsSomeAnd name (λ n. hash ≡ fnv_of n))
 failed_either name reply hash before after saved (inl cut) = inl cut.0
@@ -225,7 +227,8 @@ always_ok (Ok value) p = p
 always_ok (Err e) p = tt
 
 -- what was said of a fault, as more
-pub fault_more : {A E P Q R : Type 0} (result : Result A E) → OnErr result P → OnErr result Q → (P → Q → R) → OnErr result R
+pub fault_more : {A E P Q R : Type 0} (result : Result A E) → OnErr result P → OnErr result Q → (P → Q → R)
+    → OnErr result R
 fault_more (Ok value) p q more = tt
 fault_more (Err e) p q more = more p q
 

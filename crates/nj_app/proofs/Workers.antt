@@ -70,7 +70,8 @@ AreOneWork first second = (c d : Command) → first ≡ Some c → second ≡ So
 
 made_from : (row : Row) (said others : List Piece) →
     AreOneWork (row.made (taken_as row.form said)) (row.made (taken_as row.form others)) →
-    AreOneWork (option_and_then row.made (taken_from row.form said)) (option_and_then row.made (taken_from row.form others))
+    AreOneWork (option_and_then row.made (taken_from row.form said))
+    (option_and_then row.made (taken_from row.form others))
 made_from row said others same = go (fits row.form said) (fits row.form others) where
   go : (b d : Bool) → AreOneWork
       (option_and_then row.made (if b then Some (taken_as row.form said) else None))
@@ -200,18 +201,25 @@ module _ (said others : List Piece) (same : beside_workers said ≡ beside_worke
 
   -- a trace takes the same names and the same frame
   tracing_row : IsOneWork trace_row
-  tracing_row = one_command _ _ (taken_same (same_names said others same) (same_value (codes "frame") refl said others same)) where
-    taken_same : names_in said ≡ names_in others → value_in said (codes "frame") ≡ value_in others (codes "frame") →
-        trace_of (taken_as trace_row.form said) ≡ trace_of (taken_as trace_row.form others)
-    taken_same names frame = λ i. trace_of (record { names = names i; values = frame i ∷ [] })
+  tracing_row =
+      one_command _ _ (taken_same (same_names said others same)
+      (same_value (codes "frame") refl said others same)) where
+        taken_same : names_in said ≡ names_in others → value_in said (codes "frame") ≡ value_in others (codes "frame") →
+            trace_of (taken_as trace_row.form said) ≡ trace_of (taken_as trace_row.form others)
+        taken_same names frame = λ i. trace_of (record { names = names i; values = frame i ∷ [] })
 
   each_row : All IsOneWork table
   each_row =
-      All-cons IsOneWork play_row (search_row ∷ resume_row ∷ replay_row ∷ check_row ∷ workload_row ∷ asm_row ∷ clean_row ∷ trace_row ∷ watch_row ∷ []) (plain_row play_row refl)
-      (All-cons IsOneWork search_row (resume_row ∷ replay_row ∷ check_row ∷ workload_row ∷ asm_row ∷ clean_row ∷ trace_row ∷ watch_row ∷ []) searching_row
-      (All-cons IsOneWork resume_row (replay_row ∷ check_row ∷ workload_row ∷ asm_row ∷ clean_row ∷ trace_row ∷ watch_row ∷ []) resuming_row
-      (All-cons IsOneWork replay_row (check_row ∷ workload_row ∷ asm_row ∷ clean_row ∷ trace_row ∷ watch_row ∷ []) (plain_row replay_row refl)
-      (All-cons IsOneWork check_row (workload_row ∷ asm_row ∷ clean_row ∷ trace_row ∷ watch_row ∷ []) (plain_row check_row refl)
+      All-cons IsOneWork play_row (search_row ∷ resume_row ∷ replay_row ∷ check_row ∷ workload_row ∷ asm_row ∷ clean_row
+      ∷ trace_row ∷ watch_row ∷ []) (plain_row play_row refl)
+      (All-cons IsOneWork search_row (resume_row ∷ replay_row ∷ check_row ∷ workload_row ∷ asm_row ∷ clean_row
+      ∷ trace_row ∷ watch_row ∷ []) searching_row
+      (All-cons IsOneWork resume_row (replay_row ∷ check_row ∷ workload_row ∷ asm_row ∷ clean_row ∷ trace_row
+      ∷ watch_row ∷ []) resuming_row
+      (All-cons IsOneWork replay_row (check_row ∷ workload_row ∷ asm_row ∷ clean_row ∷ trace_row ∷ watch_row ∷ [])
+      (plain_row replay_row refl)
+      (All-cons IsOneWork check_row (workload_row ∷ asm_row ∷ clean_row ∷ trace_row ∷ watch_row ∷ [])
+      (plain_row check_row refl)
       (All-cons IsOneWork workload_row (asm_row ∷ clean_row ∷ trace_row ∷ watch_row ∷ []) (plain_row workload_row refl)
       (All-cons IsOneWork asm_row (clean_row ∷ trace_row ∷ watch_row ∷ []) (plain_row asm_row refl)
       (All-cons IsOneWork clean_row (trace_row ∷ watch_row ∷ []) (plain_row clean_row refl)
@@ -227,7 +235,8 @@ found_row P test (row ∷ rows) all = go (test row) (found_row P test rows (All-
   go false others = others
 
 -- the commands of two command lines that say the same but for the number of workers
-one_work : PiecesAreSaid → (words others : List Word) → (h : AreOneBesideWorkers words others) → work_of h.read ≡ work_of h.other_read
+one_work : PiecesAreSaid → (words others : List Word) → (h : AreOneBesideWorkers words others)
+    → work_of h.read ≡ work_of h.other_read
 unfolding reading command_of taken
 one_work law words others h =
     go (find (λ row. bytes_eq h.command row.word) table)
@@ -242,7 +251,8 @@ one_work law words others h =
 
       go : (row : Option Row) → IfSome row (IsOneWork h.said h.other_said h.same) →
           option_and_then (λ r. command_of r h.rest) row ≡ Some h.read →
-          option_and_then (λ r. command_of r h.other_rest) row ≡ Some h.other_read → work_of h.read ≡ work_of h.other_read
+          option_and_then (λ r. command_of r h.other_rest) row ≡ Some h.other_read
+          → work_of h.read ≡ work_of h.other_read
       go None same p q = cc
       go (Some row) same p q =
           made_from row h.said h.other_said same h.read h.other_read

@@ -13,7 +13,8 @@ use Rattle.nj_app.specs.Replay.{replay_finding, replay_work}
 use Rattle.nj_app.specs.Search.{search_files, search_finding, search_work}
 use Rattle.nj_app.specs.Trace.{trace_finding, trace_work}
 use Rattle.nj_app.specs.Watch.{watch_finding, watch_work}
-use Rattle.nj_app.specs.Work.{both, found_in}
+use Rattle.nj_app.specs.Work.{Work, both, found_in}
+use Rattle.nj_app.specs.declared.commands.search.SearchInput.{SearchInput}
 
 module _ (command : Command) where
   -- `play`
@@ -35,17 +36,21 @@ module _ (command : Command) where
   asm_is source a is p = ap asm_work p ∙ ap work_of (sym is)
 
   -- `search`
-  pub search_is : (cart script start : List ℕ) (options : SearchOptions) → command ≡ Search cart script start options →
-      search_files cart script start None (found_in (search_finding options)) ≡ work_of command
+  pub search_is : (cart script start : List ℕ) (options asked : SearchOptions) (load : (SearchInput → Work) → Work) →
+      command ≡ Search cart script start options → load ≡ search_files cart script start None → asked ≡ options →
+      load (found_in (search_finding asked)) ≡ work_of command
   unfolding work_of search_work
-  search_is cart script start options is = ap work_of (sym is)
+  search_is cart script start options asked load is e o =
+      ap₂ (λ l (x : SearchOptions). l (found_in (search_finding x))) e o ∙ ap work_of (sym is)
 
   -- `resume`
-  pub resume_is : (cart script start saved : List ℕ) (options : SearchOptions) →
-      command ≡ Resume cart script start saved options →
-      search_files cart script start (Some saved) (found_in (search_finding options)) ≡ work_of command
+  pub resume_is : (cart script start saved : List ℕ) (options asked : SearchOptions)
+      (load : (SearchInput → Work) → Work) →
+      command ≡ Resume cart script start saved options → load ≡ search_files cart script start (Some saved) →
+      asked ≡ options → load (found_in (search_finding asked)) ≡ work_of command
   unfolding work_of search_work
-  resume_is cart script start saved options is = ap work_of (sym is)
+  resume_is cart script start saved options asked load is e o =
+      ap₂ (λ l (x : SearchOptions). l (found_in (search_finding x))) e o ∙ ap work_of (sym is)
 
   -- `replay`
   pub replay_is : (cart script start movie a b d e : List ℕ) → command ≡ Replay cart script start movie →

@@ -42,9 +42,10 @@ pub record IsCutShort (answer : Option Answer) (old new : Option (List ℕ)) : T
   pub within : count ≤ length whole.text
   pub written : new ≡ appended old (take count whole.text)
 
--- the answer refuses nothing and has a file to put, whose name the last failed put had: its whole text was appended to what
--- `out` held, and the file has a front part of its bytes, or is as before; every other file is as before
-pub record IsUnsaved (answer : Option Answer) (failed : ℕ) (old new : Option (List ℕ)) (before after : Option Files) : Type 0 where
+-- the answer refuses nothing and has a file to put, whose name the last failed put had: its whole text was appended to
+-- what `out` held, and the file has a front part of its bytes, or is as before; every other file is as before
+pub record IsUnsaved (answer : Option Answer) (failed : ℕ) (old new : Option (List ℕ))
+    (before after : Option Files) : Type 0 where
   pub whole : Answer
   pub is_whole : answer ≡ Some whole
   pub accepted : whole.line ≡ []

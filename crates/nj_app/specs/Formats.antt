@@ -15,8 +15,8 @@ use Rattle.nj_app.specs.Work.{Work, Read, accepted, refusal_told, value_told}
 use Rattle.nj_app.specs.declared.files.Bounds.{Bounds}
 use Rattle.nj_app.specs.declared.formats.TheConstants.{CART, MOVIE, SAVED, SCRIPT, SOURCE}
 
--- a kind of file: its bounds, what its bytes say or the text of their refusal, and the value that a name stands for which
--- is no file's
+-- a kind of file: its bounds, what its bytes say or the text of their refusal, and the value that a name stands for
+-- which is no file's
 pub record FileFormat (A : Type 0) : Type 0 where
   pub bounds : Bounds
   pub says : List ℕ → Result A (List ℕ)

@@ -35,8 +35,8 @@ pub record ReplaysToItsLine (planned : Planned) (step : ℕ) (word : Word) : Typ
       ((planned.plan.cartridge, planned.plan.script), (planned.plan.start, movie_of_word planned.plan word))
       ≡ Done (done 0 (outcome_head (told planned)) None (length (movie_of_word planned.plan word)))
 
--- so does the text of each search from its start that is not refused and is won, its script being what some text says, and
--- its start movie too
+-- so does the text of each search from its start that is not refused and is won, its script being what some text says,
+-- and its start movie too
 abbrev pub WonTextReplays : Type 0
 WonTextReplays = (planned : Planned) (step : ℕ) (word : Word) (script start : List ℕ)
     → script_of script ≡ Ok planned.plan.script → movie_of start ≡ Ok planned.plan.start

@@ -1,5 +1,5 @@
--- `search CART SCRIPT START` and `resume CART SCRIPT START SAVED`, with their options: what a planned search answers, and
--- the file of its state where it came to its limit. Our own.
+-- `search CART SCRIPT START` and `resume CART SCRIPT START SAVED`, with their options: what a planned search answers,
+-- and the file of its state where it came to its limit. Our own.
 use Rattle.std.specs.Prelude.{ℕ, Bool, List, [], ◌∷◌, ◌++◌, Option, Some, None, option_map, Result, Ok, Err}
 use Rattle.std.specs.Borrow.{Bor}
 use Rattle.std.specs.Option.{is_some, option_map_or}
@@ -54,7 +54,8 @@ saved_bytes cart script saved = file_bytes 2 (record saved { cart = cart; script
 
 -- what is found: the outcome, and the bytes of what is saved
 abbrev pub found_of : ℕ → ℕ → Ended → Found
-found_of cart script ended = record { outcome = ended.outcome; saved = option_map (saved_bytes cart script) ended.saved }
+found_of cart script ended =
+    record { outcome = ended.outcome; saved = option_map (saved_bytes cart script) ended.saved }
 
 -- the file that is put: at the limit alone, where there is a name for it
 abbrev pub file_of : Option (List ℕ) → Outcome → Option (List ℕ) → Option Put
@@ -79,8 +80,8 @@ search_finding options = record {
 abbrev pub Game : Type 0
 Game = ((Cartridge × ℕ) × (Record × ℕ)) × List ℕ
 
--- what a search is of before its saved file is read: with the hash of the cartridge file, and with that of the script file
--- followed by a byte for each pad of the start
+-- what a search is of before its saved file is read: with the hash of the cartridge file, and with that of the script
+-- file followed by a byte for each pad of the start
 abbrev pub input_of : Game → SearchInput
 input_of said = record {
   setting = record { cart = said.0.0.0; script = said.0.1.0; start = said.1; saved = None };

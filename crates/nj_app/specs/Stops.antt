@@ -35,8 +35,8 @@ Reads kind reading result =
     (λ stop. (stop ≡ NoMemory) ⊎ ((refusal : List ℕ) × (reading ≡ Err refusal)
     × (stop ≡ Refused kind (refusal_line kind refusal))))
 
--- the stop is the work's end over these files: a refusal is its answer, and at a failed read the work comes to a file whose
--- name has the hash of the last failed read
+-- the stop is the work's end over these files: a refusal is its answer, and at a failed read the work comes to a file
+-- whose name has the hash of the last failed read
 unfoldable pub Ends : Files → Work → ℕ → Stop → Type 0
 Ends files work failed Usage = given files work ≡ Some (refused 3 usage_line)
 Ends files work failed (Refused kind line) = given files work ≡ Some (refused (kind_status kind) line)

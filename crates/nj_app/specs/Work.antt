@@ -8,8 +8,8 @@ use Rattle.nj_texts.specs.declared.kinds.Kind.{Kind}
 use Rattle.nj_texts.specs.declared.kinds.Kind.TheVariants as kinds
 use Rattle.nj_app.specs.declared.stops.Put.{Put}
 
--- an answer: the exit status, the bytes for `out`, the line for `err`, the file that is put, if there is one, and how many
--- frames are run for it at most
+-- an answer: the exit status, the bytes for `out`, the line for `err`, the file that is put, if there is one, and how
+-- many frames are run for it at most
 pub record Answer : Type 0 where
   pub status : ℕ
   pub text : List ℕ

@@ -1,6 +1,6 @@
 //! What a command does once its files were read, and the one way in which each is carried out.
 
-ghost use Rattle.std.specs.Prelude.{◌≡◌, ◌≢◌, ◌+◌, ◌≤◌, List, ℕ, IfOk, Option, Some, Err, map, Contains, IsErrOf};
+ghost use Rattle.std.specs.Prelude.{◌≡◌, ◌≢◌, ◌+◌, ◌≤◌, List, ℕ, IfOk, Option, Some, None, Err, map, Contains, IsErrOf};
 ghost use Rattle.nj_outside.specs.Fnv.{fnv_of};
 ghost use Rattle.nj_outside.specs.Rise.{Rose};
 ghost use Rattle.nj_outside.specs.Told.{Files};
@@ -23,10 +23,10 @@ pub trait Job<V> {
     ghost finding: { Self → Finding V Self.Found };
 
     /// What the job has to know of itself and of what was read.
-    ghost needs: { Self → V → Type 0 };
+    ghost needs: { Self → V → Type 0 } = { λ _ _. Unit {0} };
 
     /// The name that it saves under, if it was given one.
-    ghost saves: { Self → Option (List ℕ) };
+    ghost saves: { Self → Option (List ℕ) } = { λ _. None };
 
     fn find<L: Ledger>(
         &self,
@@ -50,31 +50,37 @@ pub trait Job<V> {
         ensures saved { IfOk result (IsSavedAs (saves self.now)) };
 }
 
-/// The reply to a command that reads this and does this job.
+/// What a command reads, and what it does then.
+#[derive(Clone, Copy)]
+pub struct Task<A, J> {
+    pub source: A,
+    pub job: J,
+}
+
+/// The reply to a command with this task.
 pub fn serve<A: Source, J: Job<A::Value>, S: Shelf, L: Ledger>(
     alloc: Global,
-    source: &A,
-    job: &J,
+    task: &Task<A, J>,
     shelf: &mut S,
     steps: &mut Steps<L>,
 ) -> Result<Reply, Stop>
-    requires { (said : A.Value) → A.holds said → J.needs job.now said }
+    requires { (said : A.Value) → A.holds said → J.needs task.now.job said }
     ensures serves { (files : Files) → S.content shelf.old ≡ Some files →
-        Serves files (A.work source.now (found_in (J.finding job.now))) (S.failed_read shelf.new) result }
+        Serves files (A.work task.now.source (found_in (J.finding task.now.job))) (S.failed_read shelf.new) result }
     ensures done { IfOk result (λ reply. IsCarriedOut reply.status) }
-    ensures saved { IfOk result (IsSavedAs (J.saves job.now)) }
+    ensures saved { IfOk result (IsSavedAs (J.saves task.now.job)) }
     ensures not_words { result ≢ Err Stop.Usage }
     ensures fault { IsErrOf result Stop.ReadFault → Rose (S.read_faults shelf.old) (S.read_faults shelf.new) }
     ensures no_fault { ¬ IsErrOf result Stop.ReadFault → S.read_faults shelf.new ≡ S.read_faults shelf.old }
     ensures fault_name { IsErrOf result Stop.ReadFault →
-        Contains (map fnv_of (A.names source.now)) (S.failed_read shelf.new) }
+        Contains (map fnv_of (A.names task.now.source)) (S.failed_read shelf.new) }
     ensures frames { (files : Files) → S.content shelf.old ≡ Some files →
-        steps.new ≤ steps.old + frames_of (given files (A.work source.now (found_in (J.finding job.now)))) }
+        steps.new ≤ steps.old + frames_of (given files (A.work task.now.source (found_in (J.finding task.now.job)))) }
     ensures never_falls { steps.old ≤ steps.new }
     ensures content { S.content shelf.new ≡ S.content shelf.old }
     ensures put_faults { S.put_faults shelf.new ≡ S.put_faults shelf.old }
 {
-    let said = source.load(alloc, shelf)?;
-    let found = job.find(alloc, said, steps)?;
-    Ok(job.reply(alloc, found)?)
+    let said = task.source.load(alloc, shelf)?;
+    let found = task.job.find(alloc, said, steps)?;
+    Ok(task.job.reply(alloc, found)?)
 }

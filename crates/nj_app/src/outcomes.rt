@@ -35,17 +35,9 @@ fn outcome_lines(alloc: Global, outcome: &Outcome) -> Result<Vec<u8>, AllocError
     ensures { IfOk result (λ lines. lines.items ≡ outcome_lines outcome.now) }
 {
     match outcome {
-        Outcome::Won {
-            step: _,
-            reward: _,
-            movie,
-        } => write_movie(alloc, movie),
-        Outcome::Exhausted { step: _ } => Ok(Vec::new(alloc)),
-        Outcome::Limit {
-            step: _,
-            reward: _,
-            movie,
-        } => write_movie(alloc, movie),
+        Outcome::Won { movie, .. } => write_movie(alloc, movie),
+        Outcome::Exhausted { .. } => Ok(Vec::new(alloc)),
+        Outcome::Limit { movie, .. } => write_movie(alloc, movie),
     }
 }
 
@@ -67,16 +59,8 @@ pub fn outcome_status(outcome: &Outcome) -> u8
     ensures carried_out { IsCarriedOut result }
 {
     match outcome {
-        Outcome::Won {
-            step: _,
-            reward: _,
-            movie: _,
-        } => 0,
-        Outcome::Exhausted { step: _ } => 1,
-        Outcome::Limit {
-            step: _,
-            reward: _,
-            movie: _,
-        } => 2,
+        Outcome::Won { .. } => 0,
+        Outcome::Exhausted { .. } => 1,
+        Outcome::Limit { .. } => 2,
     }
 }

@@ -9,17 +9,15 @@ ghost use Rattle.nj_app.specs.Stops.{Serves};
 ghost use Rattle.nj_app.specs.Work.{given, Reaches};
 ghost use Rattle.nj_words.specs.Commands.{reading, IsInRange};
 
-use crate::commands::asm::Asm;
-use crate::commands::check::Check;
-use crate::commands::clean::Clean;
-use crate::commands::play::Play;
-use crate::commands::replay::Replay;
-use crate::commands::search::{Search, SearchFiles};
-use crate::commands::trace::Trace;
-use crate::commands::watch::Watch;
+use crate::commands::asm::assembled;
+use crate::commands::check::checked;
+use crate::commands::clean::cleaned;
+use crate::commands::play::played;
+use crate::commands::replay::replayed;
+use crate::commands::search::{resumed, searched};
+use crate::commands::trace::traced;
+use crate::commands::watch::watched;
 use crate::commands::workload::workload;
-use crate::files::named;
-use crate::formats::{CartFormat, MovieFormat, ScriptFormat, SourceFormat};
 use crate::jobs::serve;
 use crate::stops::{Reply, Stop};
 use crate::telling::tell;
@@ -54,7 +52,8 @@ pub fn run_plain<S: Shelf, O: Sink, E: Sink, L: Ledger>(
     // where no count of faults rose there is the answer, or memory ran out
     ensures complete { (files : Files) → S.content shelf.old ≡ Some files →
         ¬ Rose (S.read_faults shelf.old) (S.read_faults shelf.new) → ¬ Rose (O.faults out.old) (O.faults out.new) →
-        ¬ Rose (S.put_faults shelf.old) (S.put_faults shelf.new) → result ≢ 9 → IsAnswered (answer (map string_bytes words.now) files) result (O.written out.old)
+        ¬ Rose (S.put_faults shelf.old) (S.put_faults shelf.new) → result ≢ 9
+        → IsAnswered (answer (map string_bytes words.now) files) result (O.written out.old)
         (O.written out.new) }
 
     // status 3 tells that the words have no reading, and such words have it unless memory ran out
@@ -164,34 +163,19 @@ pub fn carry_out<S: Shelf, L: Ledger>(
     ensures put_faults { S.put_faults shelf.new ≡ S.put_faults shelf.old }
 {
     match command {
-        Command::Play { cart, movie } => {
-            let files = (named(CartFormat, cart), named(MovieFormat, movie));
-            serve(alloc, &files, &Play, shelf, steps)
-        }
+        Command::Play { cart, movie } => serve(alloc, &played(cart, movie), shelf, steps),
         Command::Replay {
             cart,
             script,
             start,
             movie,
-        } => {
-            let game = (named(CartFormat, cart), named(ScriptFormat, script));
-            let movies = (named(MovieFormat, start), named(MovieFormat, movie));
-            serve(alloc, &(game, movies), &Replay, shelf, steps)
-        }
+        } => serve(alloc, &replayed(cart, script, start, movie), shelf, steps),
         Command::Search {
             cart,
             script,
             start,
             options,
-        } => {
-            let files = SearchFiles {
-                cart,
-                script,
-                start,
-                saved: None,
-            };
-            serve(alloc, &files, &Search { options }, shelf, steps)
-        }
+        } => serve(alloc, &searched(cart, script, start, options), shelf, steps),
         Command::Resume {
             cart,
             script,
@@ -199,43 +183,25 @@ pub fn carry_out<S: Shelf, L: Ledger>(
             saved,
             options,
         } => {
-            let files = SearchFiles {
-                cart,
-                script,
-                start,
-                saved: Some(saved),
-            };
-            serve(alloc, &files, &Search { options }, shelf, steps)
+            let task = resumed(cart, script, start, saved, options);
+            serve(alloc, &task, shelf, steps)
         }
-        Command::Check { cart, script } => {
-            let files = (named(CartFormat, cart), named(ScriptFormat, script));
-            serve(alloc, &files, &Check, shelf, steps)
-        }
+        Command::Check { cart, script } => serve(alloc, &checked(cart, script), shelf, steps),
         Command::Workload { number } => workload(alloc, *number, shelf, steps),
-        Command::Asm { source } => serve(alloc, &named(SourceFormat, source), &Asm, shelf, steps),
+        Command::Asm { source } => serve(alloc, &assembled(source), shelf, steps),
         Command::Clean {
             cart,
             script,
             start,
             movie,
-        } => {
-            let game = (named(CartFormat, cart), named(ScriptFormat, script));
-            let movies = (named(MovieFormat, start), named(MovieFormat, movie));
-            serve(alloc, &(game, movies), &Clean, shelf, steps)
-        }
+        } => serve(alloc, &cleaned(cart, script, start, movie), shelf, steps),
         Command::Trace { cart, movie, frame } => {
-            let files = (named(CartFormat, cart), named(MovieFormat, movie));
-            let job = Trace { frame: *frame };
-            serve(alloc, &files, &job, shelf, steps)
+            serve(alloc, &traced(cart, movie, *frame), shelf, steps)
         }
         Command::Watch {
             cart,
             script,
             movie,
-        } => {
-            let game = (named(CartFormat, cart), named(ScriptFormat, script));
-            let files = (game, named(MovieFormat, movie));
-            serve(alloc, &files, &Watch, shelf, steps)
-        }
+        } => serve(alloc, &watched(cart, script, movie), shelf, steps),
     }
 }

@@ -13,7 +13,7 @@ ghost use Rattle.nj_app.specs.Work.{given, Reaches};
 ghost use Rattle.nj_words.specs.Commands.{reading, IsInRange};
 ghost use Rattle.nj_workers.specs.Counted.{AreCounted};
 
-use crate::commands::search::{SearchFiles, share};
+use crate::commands::search::{resumed, searched, share};
 use crate::running::carry_out;
 use crate::stops::{Reply, Stop};
 use crate::telling::tell;
@@ -28,9 +28,9 @@ use std::thread::Threads;
 /// How many counters [`run`] takes: one for each worker that words may ask for.
 pub const COUNTERS: usize = 64;
 
-/// Carries out one command line as [`run_plain`](crate::run_plain) does, and a search by as many workers as the words ask
-/// for. What it writes and answers is the same for any number of them. Each worker counts its frames on a counter of its
-/// own, and passes the gate when it begins a piece of the work.
+/// Carries out one command line as [`run_plain`](crate::run_plain) does, and a search by as many workers as the words
+/// ask for. What it writes and answers is the same for any number of them. Each worker counts its frames on a counter
+/// of its own, and passes the gate when it begins a piece of the work.
 pub fn run<R: Threads + Wait + Sync, S: Shelf, O: Sink, E: Sink, G: Gate, L: Ledger + Send>(
     rt: &R,
     alloc: Global,
@@ -56,7 +56,8 @@ pub fn run<R: Threads + Wait + Sync, S: Shelf, O: Sink, E: Sink, G: Gate, L: Led
     // where no count of faults rose there is the answer, or memory ran out
     ensures complete { (files : Files) → S.content shelf.old ≡ Some files →
         ¬ Rose (S.read_faults shelf.old) (S.read_faults shelf.new) → ¬ Rose (O.faults out.old) (O.faults out.new) →
-        ¬ Rose (S.put_faults shelf.old) (S.put_faults shelf.new) → result ≢ 9 → IsAnswered (answer (map string_bytes words.now) files) result (O.written out.old)
+        ¬ Rose (S.put_faults shelf.old) (S.put_faults shelf.new) → result ≢ 9
+        → IsAnswered (answer (map string_bytes words.now) files) result (O.written out.old)
         (O.written out.new) }
 
     // status 3 tells that the words have no reading, and such words have it unless memory ran out
@@ -144,7 +145,8 @@ fn reply_by_workers<R: Threads + Wait + Sync, S: Shelf, G: Gate, L: Ledger + Sen
     }
 }
 
-/// The reply to a command. Every command but a search by several workers, begun or gone on with, is carried out on the first counter.
+/// The reply to a command. Every command but a search by several workers, begun or gone on with, is carried out on the
+/// first counter.
 #[tactic(auto, unfolding(crate::specs::Answer::work_of, crate::specs::Search::search_work, nj_words::specs::Commands::IsInRange))]
 fn carry_out_by_workers<R: Threads + Wait + Sync, S: Shelf, G: Gate, L: Ledger + Send>(
     rt: &R,
@@ -178,13 +180,8 @@ fn carry_out_by_workers<R: Threads + Wait + Sync, S: Shelf, G: Gate, L: Ledger +
             start,
             options,
         } if options.workers > 1 => {
-            let files = SearchFiles {
-                cart,
-                script,
-                start,
-                saved: None,
-            };
-            share(rt, alloc, &files, options, shelf, gate, steps)
+            let task = searched(cart, script, start, options);
+            share(rt, alloc, &task.source, options, shelf, gate, steps)
         }
         Command::Resume {
             cart,
@@ -193,13 +190,8 @@ fn carry_out_by_workers<R: Threads + Wait + Sync, S: Shelf, G: Gate, L: Ledger +
             saved,
             options,
         } if options.workers > 1 => {
-            let files = SearchFiles {
-                cart,
-                script,
-                start,
-                saved: Some(saved),
-            };
-            share(rt, alloc, &files, options, shelf, gate, steps)
+            let task = resumed(cart, script, start, saved, options);
+            share(rt, alloc, &task.source, options, shelf, gate, steps)
         }
         _ => carry_out(alloc, command, shelf, &mut steps[0]),
     }

@@ -25,7 +25,7 @@ impl Stop {
     {
         match self {
             Stop::Usage => 3,
-            Stop::Refused { kind, line: _ } => kind.status(),
+            Stop::Refused { kind, .. } => kind.status(),
             Stop::ReadFault => 7,
             Stop::NoMemory => 9,
         }
@@ -37,7 +37,7 @@ impl Stop {
     {
         match self {
             Stop::Usage => b"nj: usage\n",
-            Stop::Refused { kind: _, line } => line.as_bytes(),
+            Stop::Refused { line, .. } => line.as_bytes(),
             Stop::ReadFault => b"nj: read fault\n",
             Stop::NoMemory => b"nj: no memory\n",
         }

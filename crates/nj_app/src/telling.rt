@@ -110,7 +110,8 @@ pub fn tell<S: Shelf, O: Sink, E: Sink>(
     ensures line { (files : Files) (work : Work) (failed : ℕ) → Serves files work failed reply →
         ¬ Rose (E.faults err.old) (E.faults err.new) →
         E.written err.new ≡ appended (E.written err.old) (line_for (given files work) result) }
-    ensures fixed_line { (line : List ℕ) → fixed_line result ≡ Some line → ¬ Rose (E.faults err.old) (E.faults err.new) →
+    ensures fixed_line { (line : List ℕ) → fixed_line result ≡ Some line
+        → ¬ Rose (E.faults err.old) (E.faults err.new) →
         E.written err.new ≡ appended (E.written err.old) line }
 {
     match reply {

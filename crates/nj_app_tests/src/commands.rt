@@ -2,14 +2,12 @@
 
 ghost use Rattle.std.specs.Prelude.{◌≡◌};
 
-use crate::cases::{
-    CHECKS, CLEANS, FAULTS, LISTS, PLANS, PLAYS, QUOTAS, REPLAYS, SAVES, SEARCHES, SOURCES, TRACES,
-    WINS,
-};
-use crate::files::{GOAL, made_shelf, shelf_with};
+use crate::cases::{CHECKS, CLEANS, FAULTS, LISTS, PLANS, PLAYS, REPLAYS, SOURCES, TRACES};
+use crate::files::{made_shelf, shelf_with};
 use crate::meeting::Meeting;
+use crate::searches::{QUOTAS, SAVES, SEARCHES, WINS};
 use nj_app::{COUNTERS, Gate, OpenGate, run, run_plain};
-use nj_outside::{MemShelf, MemSink, fnv, fnv_on, read_decimal};
+use nj_outside::{MemShelf, MemSink, read_decimal};
 use nj_steps::Steps;
 use std::alloc::{AllocError, Global};
 use std::marker::Brand;
@@ -414,29 +412,14 @@ fn saved_files_are_refused(rt: HostRuntime) -> Result<(), Fail> {
         "start",
         "nj: saved 2 Version n=9\n",
     )?;
-    Ok(())
-}
-
-// The hash of a saved file's bytes before the hash in it.
-fn hash_of(alloc: Global, saved: &[u8]) -> Result<u64, AllocError> {
-    let mut fields = Vec::from_slice(alloc, saved)?;
-    fields.truncate(82);
-    Ok(fnv(fields.as_slice()))
-}
-
-#[test]
-fn saved_files_have_hashes(rt: HostRuntime) -> Result<(), Fail> {
-    let alloc = rt.alloc();
-    let saved = saved_bytes(alloc)?;
-    let changed = with_byte(alloc, saved.as_slice(), 44, 1)?;
-    let kept = hash_of(alloc, saved.as_slice())?;
-    let now = hash_of(alloc, changed.as_slice())?;
-    let line = format!(in alloc; "nj: saved 9 Damaged kept={kept} now={now}\n")?;
-    expect_saved(&rt, alloc, changed.as_slice(), "start", line.as_str())?;
-    let now = fnv(GOAL.as_bytes());
-    let kept = fnv_on(now, &[0, 0, 0]);
-    let line = format!(in alloc; "nj: saved 4 OtherScript kept={kept} now={now}\n")?;
-    expect_saved(&rt, alloc, saved.as_slice(), "-", line.as_str())?;
+    let damaged = with_byte(alloc, saved.as_slice(), 44, 1)?;
+    expect_saved(
+        &rt,
+        alloc,
+        damaged.as_slice(),
+        "start",
+        "nj: saved 9 Damaged kept=15950387202685951007 now=3479608552922645262\n",
+    )?;
     Ok(())
 }
 
@@ -484,8 +467,8 @@ const COUNTS: &str = r#"{"version":1,
 "inputs":[{"pads":["........","...R...."]}],
 "rules":[]}"#;
 
-// A search of two workers that meet: how many pieces met the other, the status, whether the text is that of 23 frames without
-// a button, and the bytes of `err`.
+// A search of two workers that meet: how many pieces met the other, the status, whether the text is that of 23 frames
+// without a button, and the bytes of `err`.
 fn met<R: Threads + Wait + Sync, L: Ledger + Send>(
     rt: &R,
     alloc: Global,
@@ -517,8 +500,8 @@ fn work_is_shared(rt: HostRuntime) -> Result<(), Fail> {
     Ok(())
 }
 
-// The files of the workload of number 0, searched by one worker and by eight: both statuses, whether the first text is that
-// of a win in four steps, and whether the second text is the first.
+// The files of the workload of number 0, searched by one worker and by eight: both statuses, whether the first text is
+// that of a win in four steps, and whether the second text is the first.
 fn eight_as_one<R: Threads + Wait + Sync, L: Ledger + Send>(
     rt: &R,
     alloc: Global,

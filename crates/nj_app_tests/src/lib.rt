@@ -1,5 +1,5 @@
-//! The tests of the top call, by one thread and by several workers. They stand apart, since a crate with tests of its own is
-//! proved twice.
+//! The tests of the top call, by one thread and by several workers. They stand apart, since a crate with tests of its
+//! own is proved twice.
 #![tactic(auto)]
 
 #[cfg(test)]
@@ -10,3 +10,5 @@ mod commands;
 mod files;
 #[cfg(test)]
 mod meeting;
+#[cfg(test)]
+mod searches;

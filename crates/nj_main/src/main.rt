@@ -1,5 +1,5 @@
-//! The program. It carries out the command line over the system's files and streams, by as many workers as a search asks
-//! for, and its exit status is the answer's. Words that are not text have no reading.
+//! The program. It carries out the command line over the system's files and streams, by as many workers as a search
+//! asks for, and its exit status is the answer's. Words that are not text have no reading.
 #![tactic(auto)]
 
 ghost use Rattle.std.specs.Prelude.{◌≡◌};

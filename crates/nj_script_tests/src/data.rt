@@ -2,16 +2,40 @@
 
 /// A script with every kind of object and every key.
 pub(crate) fn whole() -> &'static str {
-    r#"{"version":2,"properties":[{"name":"x","kind":"u8","at":16},{"name":"y","kind":"i16","at":2046}],"hash":["x",{"from":3,"to":9}],"hold":2,"tolerance":7,"inputs":[{"when":[{"property":"x","op":"<","other":"y"}],"pads":["U.......",".......A"],"stop":true},{"pads":["U.......","...R...."]}],"rules":[{"name":"go","when":[{"property":"y","op":">=","value":-5}],"win":true,"fail":false,"checkpoint":true,"reward":-3,"weights":[{"property":"x","weight":2}],"also":["end"]},{"name":"end"}],"bucket":["y","x"],"quota":9}"#
+    concat!(
+        r#"{"version":2,"properties":[{"name":"x","kind":"u8","at":16},{"name":"y","kind":"i16","at":2046}],"#,
+        r#""hash":["x",{"from":3,"to":9}],"#,
+        r#""hold":2,"tolerance":7,"inputs":[{"when":[{"property":"x","op":"<","other":"y"}],"#,
+        r#""pads":["U.......",".......A"],"stop":true},{"pads":["U.......","...R...."]}],"#,
+        r#""rules":[{"name":"go","when":[{"property":"y","op":">=","value":-5}],"#,
+        r#""win":true,"fail":false,"checkpoint":true,"reward":-3,"#,
+        r#""weights":[{"property":"x","weight":2}],"also":["end"]},{"name":"end"}],"#,
+        r#""bucket":["y","x"],"quota":9}"#,
+    )
 }
 
 /// Seven rules, of which the first names the second and the second the third.
 pub(crate) fn judged() -> &'static str {
-    r#"{"version":1,"properties":[{"name":"x","at":16,"kind":"u8"},{"name":"t","at":17,"kind":"i8"}],"hash":[{"from":3,"to":7}],"tolerance":5,"inputs":[{"when":[{"property":"x","op":"==","value":1}],"pads":["...R....","........","...R...."],"stop":true},{"pads":["U.......","........"]}],"rules":[{"name":"a","when":[{"property":"x","op":"==","value":1}],"reward":10,"weights":[{"property":"t","weight":3}],"also":["b"]},{"name":"b","when":[{"property":"x","op":"==","value":2}],"win":true,"checkpoint":true,"also":["c"]},{"name":"c","when":[{"property":"x","op":"==","value":2},{"property":"t","op":"<","value":-1}],"fail":true},{"name":"d","when":[{"property":"x","op":">","value":2}]},{"name":"e","when":[{"property":"x","op":">","value":2}]},{"name":"f","when":[{"property":"x","op":">","value":2}]},{"name":"g","when":[{"property":"x","op":">","value":2}]}]}"#
+    concat!(
+        r#"{"version":1,"properties":[{"name":"x","at":16,"kind":"u8"},{"name":"t","at":17,"kind":"i8"}],"#,
+        r#""hash":[{"from":3,"to":7}],"tolerance":5,"#,
+        r#""inputs":[{"when":[{"property":"x","op":"==","value":1}],"#,
+        r#""pads":["...R....","........","...R...."],"stop":true},{"pads":["U.......","........"]}],"#,
+        r#""rules":[{"name":"a","when":[{"property":"x","op":"==","value":1}],"reward":10,"#,
+        r#""weights":[{"property":"t","weight":3}],"also":["b"]},"#,
+        r#"{"name":"b","when":[{"property":"x","op":"==","value":2}],"#,
+        r#""win":true,"checkpoint":true,"also":["c"]},"#,
+        r#"{"name":"c","when":[{"property":"x","op":"==","value":2},"#,
+        r#"{"property":"t","op":"<","value":-1}],"fail":true},"#,
+        r#"{"name":"d","when":[{"property":"x","op":">","value":2}]},"#,
+        r#"{"name":"e","when":[{"property":"x","op":">","value":2}]},"#,
+        r#"{"name":"f","when":[{"property":"x","op":">","value":2}]},"#,
+        r#"{"name":"g","when":[{"property":"x","op":">","value":2}]}]}"#,
+    )
 }
 
-/// A piece of the whole script, what stands in its place, and the answer.
-pub(crate) fn edits() -> &'static str {
+/// Edits of the whole script's own keys but its lists: a piece, what stands in its place, and the answer.
+pub(crate) fn edited_heads() -> &'static str {
     r#""version":2, =>  => Missing(version)
 "version":2 => "version":"2" => WrongKind(version)
 "version":2 => "version":0 => Version(0)
@@ -27,7 +51,30 @@ pub(crate) fn edits() -> &'static str {
 "version":2 => "a":0,"version":2,"b":0 => UnknownKey(a)
 "version":2 => "version":3,"a":0 => Version(3)
 "version":2 => "version":1 => UnknownKey(bucket)
-"properties":[ => "properties":[7, => WrongKind(properties)
+"hold":2 => "hold":0 => OutOfRange(hold, 0)
+"hold":2 => "hold":61 => OutOfRange(hold, 61)
+"hold":2 => "hold":true => WrongKind(hold)
+"hold":2, =>  => ok
+"tolerance":7 => "tolerance":-1 => OutOfRange(tolerance, -1)
+"tolerance":7 => "tolerance":1048577 => OutOfRange(tolerance, 1048577)
+"tolerance":7 => "tolerance":null => WrongKind(tolerance)
+"bucket":["y","x"], =>  => ok
+"bucket":["y","x"] => "bucket":"x" => WrongKind(bucket)
+"bucket":["y" => "bucket":[1 => WrongKind(bucket)
+"bucket":["y" => "bucket":["z" => UnknownName(z)
+"bucket":["y" => "bucket":["z",1 => UnknownName(z)
+"bucket":["y" => "bucket":["x","x","y" => ok
+"bucket":["y","x"],"quota":9 => "bucket":["z"],"quota":0 => UnknownName(z)
+,"quota":9 =>  => ok
+"quota":9 => "quota":0 => OutOfRange(quota, 0)
+"quota":9 => "quota":1048576 => ok
+"quota":9 => "quota":1048577 => OutOfRange(quota, 1048577)
+"quota":9 => "quota":null => WrongKind(quota)"#
+}
+
+/// Edits of its properties and its hash, in the same form.
+pub(crate) fn edited_properties() -> &'static str {
+    r#""properties":[ => "properties":[7, => WrongKind(properties)
 "name":"x", =>  => Missing(name)
 "name":"x" => "name":1 => WrongKind(name)
 "name":"y" => "name":"x" => TwiceNamed(x)
@@ -51,15 +98,12 @@ pub(crate) fn edits() -> &'static str {
 "from":3 => "from":2048 => OutOfRange(from, 2048)
 "to":9 => "to":2 => OutOfRange(to, 2)
 "to":9 => "to":2048 => OutOfRange(to, 2048)
-"to":9 => "to":9,"z":0 => UnknownKey(z)
-"hold":2 => "hold":0 => OutOfRange(hold, 0)
-"hold":2 => "hold":61 => OutOfRange(hold, 61)
-"hold":2 => "hold":true => WrongKind(hold)
-"hold":2, =>  => ok
-"tolerance":7 => "tolerance":-1 => OutOfRange(tolerance, -1)
-"tolerance":7 => "tolerance":1048577 => OutOfRange(tolerance, 1048577)
-"tolerance":7 => "tolerance":null => WrongKind(tolerance)
-"property":"x","op":"<" => "op":"<" => Missing(property)
+"to":9 => "to":9,"z":0 => UnknownKey(z)"#
+}
+
+/// Edits of its input sets and of conditions, in the same form.
+pub(crate) fn edited_inputs() -> &'static str {
+    r#""property":"x","op":"<" => "op":"<" => Missing(property)
 "property":"x","op":"<" => "property":"z","op":"<" => UnknownName(z)
 "op":"<", =>  => Missing(op)
 "op":"<" => "op":"=<" => UnknownName(=<)
@@ -76,8 +120,12 @@ pub(crate) fn edits() -> &'static str {
 ".......A" => ".......a" => UnknownName(.......a)
 ".......A" => "......A" => UnknownName(......A)
 "stop":true => "stop":1 => WrongKind(stop)
-"stop":true => "stop":true,"halt":1 => UnknownKey(halt)
-"name":"go", =>  => Missing(name)
+"stop":true => "stop":true,"halt":1 => UnknownKey(halt)"#
+}
+
+/// Edits of its rules, in the same form.
+pub(crate) fn edited_rules() -> &'static str {
+    r#""name":"go", =>  => Missing(name)
 "name":"end" => "name":"go" => TwiceNamed(go)
 "name":"end" => "name":"go","win":1 => TwiceNamed(go)
 "win":true => "win":"yes" => WrongKind(win)
@@ -96,19 +144,7 @@ pub(crate) fn edits() -> &'static str {
 "also":["end"] => "also":"end" => WrongKind(also)
 "name":"end" => "name":"end","is":0 => UnknownKey(is)
 "rules":[ => "rules":["", => WrongKind(rules)
-"also":["end"]},{"name":"end"}],"bucket":["y" => "also":["nobody"]},{"name":"end"}],"bucket":["z" => UnknownName(nobody)
-"bucket":["y","x"], =>  => ok
-"bucket":["y","x"] => "bucket":"x" => WrongKind(bucket)
-"bucket":["y" => "bucket":[1 => WrongKind(bucket)
-"bucket":["y" => "bucket":["z" => UnknownName(z)
-"bucket":["y" => "bucket":["z",1 => UnknownName(z)
-"bucket":["y" => "bucket":["x","x","y" => ok
-"bucket":["y","x"],"quota":9 => "bucket":["z"],"quota":0 => UnknownName(z)
-,"quota":9 =>  => ok
-"quota":9 => "quota":0 => OutOfRange(quota, 0)
-"quota":9 => "quota":1048576 => ok
-"quota":9 => "quota":1048577 => OutOfRange(quota, 1048577)
-"quota":9 => "quota":null => WrongKind(quota)"#
+"also":["end"]},{"name":"end"}],"bucket":["y" => "also":["nobody"]},{"name":"end"}],"bucket":["z" => UnknownName(nobody)"#
 }
 
 /// Whole texts, and the answer to each.
@@ -126,8 +162,8 @@ pub(crate) fn texts() -> &'static str {
 {"version":1,"properties":[],"hash":[],"inputs":[],"rules":[],"quota":1,"bucket":[]} => UnknownKey(bucket)"#
 }
 
-/// The beginning of a list in the whole script, how many zeros are put there, and the answer. A zero is of a wrong kind,
-/// which is seen only where the list is not too long.
+/// The beginning of a list in the whole script, how many zeros are put there, and the answer. A zero is of a wrong
+/// kind, which is seen only where the list is not too long.
 pub(crate) fn limits() -> &'static str {
     r#""properties":[ => 62 => WrongKind(properties)
 "properties":[ => 63 => TooMany(properties, 64)

@@ -1,5 +1,7 @@
-use crate::data::{edits, judged, limits, texts, whole};
-use nj_rules::{Status, Verdict, allowed, judge, key_of};
+use crate::data::{
+    edited_heads, edited_inputs, edited_properties, edited_rules, judged, limits, texts, whole,
+};
+use nj_rules::{Judged, Status, Verdict, allowed, judge, key_of};
 use nj_script::{Script, ScriptRefused, Text};
 use std::alloc::{AllocError, Global};
 use std::test::Fail;
@@ -43,16 +45,27 @@ fn parts(row: &str) -> Result<(&str, &str), Fail> {
     Ok(row.split_once(" => ").ok_or("no arrow")?)
 }
 
-#[test]
-fn edited_scripts(rt: HostRuntime) -> Result<(), Fail> {
-    let alloc = rt.alloc();
-    for row in edits().lines() {
+// The first row of edits whose script comes to something else than the row says, or nothing.
+fn wrong_edit(alloc: Global, rows: &'static str) -> Result<&'static str, Fail> {
+    for row in rows.lines() {
         let (piece, rest) = parts(row)?;
         let (text, wanted) = parts(rest)?;
         let script = replaced(alloc, piece, text)?;
         let told = answer(alloc, script.as_bytes())?;
-        assert_eq!(rt; told.as_str(), wanted, "{row}");
+        if told.as_str() != wanted {
+            return Ok(row);
+        }
     }
+    Ok("")
+}
+
+#[test]
+fn edited_scripts(rt: HostRuntime) -> Result<(), Fail> {
+    let alloc = rt.alloc();
+    assert_eq!(rt; wrong_edit(alloc, edited_heads())?, "");
+    assert_eq!(rt; wrong_edit(alloc, edited_properties())?, "");
+    assert_eq!(rt; wrong_edit(alloc, edited_inputs())?, "");
+    assert_eq!(rt; wrong_edit(alloc, edited_rules())?, "");
     Ok(())
 }
 
@@ -67,19 +80,21 @@ fn whole_texts(rt: HostRuntime) -> Result<(), Fail> {
     Ok(())
 }
 
+// The whole script with so many zeros at the beginning of a list.
+fn with_zeros(alloc: Global, piece: &str, zeros: &str) -> Result<String, Fail> {
+    let zeros = zeros.parse::<u8>().ok().ok_or("no number")?;
+    let members = "0,".repeat(alloc, usize::from(zeros))?;
+    let text = format!(in alloc; "{piece}{members}")?;
+    replaced(alloc, piece, text.as_str())
+}
+
 #[test]
 fn longest_lists(rt: HostRuntime) -> Result<(), Fail> {
     let alloc = rt.alloc();
     for row in limits().lines() {
         let (piece, rest) = parts(row)?;
         let (zeros, wanted) = parts(rest)?;
-        let zeros = zeros.parse::<usize>().ok().ok_or("no number")?;
-        if zeros > 1000 {
-            return Err(Fail::from("too many zeros"));
-        }
-        let members = "0,".repeat(alloc, zeros)?;
-        let text = format!(in alloc; "{piece}{members}")?;
-        let script = replaced(alloc, piece, text.as_str())?;
+        let script = with_zeros(alloc, piece, zeros)?;
         let told = answer(alloc, script.as_bytes())?;
         assert_eq!(rt; told.as_str(), wanted, "{row}");
     }
@@ -102,7 +117,10 @@ fn bytes_and_nesting(rt: HostRuntime) -> Result<(), Fail> {
 }
 
 fn accepted(alloc: Global, text: &str) -> Result<Script, Fail> {
-    Ok(Script::read(alloc, text.as_bytes()).map_err(|_| "refused")?)
+    match Script::read(alloc, text.as_bytes()) {
+        Ok(script) => Ok(script),
+        Err(_refused) => Err(Fail::from("refused")),
+    }
 }
 
 // What the accessors of numbers say.
@@ -130,29 +148,26 @@ fn places(alloc: Global, script: &Script) -> Result<String, AllocError> {
     Ok(text)
 }
 
-#[test]
-fn what_a_first_script_says(rt: HostRuntime) -> Result<(), Fail> {
-    let script = accepted(rt.alloc(), judged())?;
-    assert_eq!(rt;
-        numbers(rt.alloc(), &script)?.as_str(),
-        "hold=1 tolerance=5 quota=1048576"
-    );
-    assert_eq!(rt;
-        counts(rt.alloc(), &script)?.as_str(),
-        "properties=2 rules=7 inputs=3"
-    );
-    assert_eq!(rt; places(rt.alloc(), &script)?.as_str(), "");
-    Ok(())
+// All of these.
+fn said(alloc: Global, text: &str) -> Result<String, Fail> {
+    let script = accepted(alloc, text)?;
+    let numbers = numbers(alloc, &script)?;
+    let counts = counts(alloc, &script)?;
+    let places = places(alloc, &script)?;
+    Ok(format!(in alloc; "{numbers} {counts} bucket={places}")?)
 }
 
 #[test]
-fn what_a_second_script_says(rt: HostRuntime) -> Result<(), Fail> {
-    let script = accepted(rt.alloc(), whole())?;
+fn what_scripts_say(rt: HostRuntime) -> Result<(), Fail> {
+    let alloc = rt.alloc();
     assert_eq!(rt;
-        numbers(rt.alloc(), &script)?.as_str(),
-        "hold=2 tolerance=7 quota=9"
+        said(alloc, judged())?.as_str(),
+        "hold=1 tolerance=5 quota=1048576 properties=2 rules=7 inputs=3 bucket="
     );
-    assert_eq!(rt; places(rt.alloc(), &script)?.as_str(), "2046;16;");
+    assert_eq!(rt;
+        said(alloc, whole())?.as_str(),
+        "hold=2 tolerance=7 quota=9 properties=2 rules=2 inputs=3 bucket=2046;16;"
+    );
     Ok(())
 }
 
@@ -165,25 +180,59 @@ fn memory(x: u8, t: u8) -> [u8; 2048] {
 }
 
 // How many pads may come next, and the first two.
-fn next_pads(script: &Script, ram: &[u8; 2048]) -> (usize, [u8; 2]) {
+fn next_pads(alloc: Global, script: &Script, ram: &[u8; 2048]) -> Result<String, AllocError> {
     let mut pads = [0; 256];
     let count = allowed(script.inputs(), ram, &mut pads);
-    (count, [pads[0], pads[1]])
+    let (first, second) = (pads[0], pads[1]);
+    format!(in alloc; "{count}: {first} {second}")
+}
+
+// What the rules make of a state.
+fn judgement(
+    alloc: Global,
+    script: &Script,
+    ram: &[u8; 2048],
+    status: Status,
+    jammed: bool,
+) -> Result<String, AllocError> {
+    let judged = judge(script.rules(), ram, status, jammed);
+    judged_text(alloc, judged)
+}
+
+fn judged_text(alloc: Global, judged: Judged) -> Result<String, AllocError> {
+    let verdict = verdict_text(judged.verdict);
+    let (status, reward, level) = (judged.status.0, judged.reward, judged.level);
+    format!(in alloc; "{verdict} status={status} reward={reward} level={level}")
+}
+
+fn verdict_text(verdict: Verdict) -> &'static str {
+    match verdict {
+        Verdict::Go => "go",
+        Verdict::Win => "win",
+        Verdict::Fail => "fail",
+    }
+}
+
+// What seven rules make of a state, and the pads that may come next.
+fn state_told(alloc: Global, x: u8, t: u8, status: Status, jammed: bool) -> Result<String, Fail> {
+    let script = accepted(alloc, judged())?;
+    let ram = memory(x, t);
+    let judgement = judgement(alloc, &script, &ram, status, jammed)?;
+    let pads = next_pads(alloc, &script, &ram)?;
+    Ok(format!(in alloc; "{judgement} pads={pads}")?)
 }
 
 #[test]
 fn judged_states(rt: HostRuntime) -> Result<(), Fail> {
-    let script = accepted(rt.alloc(), judged())?;
-    let ram = memory(1, 0xFE);
-    let first = judge(script.rules(), &ram, Status(0), false);
-    assert_eq!(rt; (first.status, first.verdict), (Status(3), Verdict::Win));
-    assert_eq!(rt; (first.reward, first.level), (4, 1));
-    assert_eq!(rt; next_pads(&script, &ram), (2, [0x80, 0]));
-
-    let ram = memory(0, 0xFE);
-    let second = judge(script.rules(), &ram, first.status, true);
-    assert_eq!(rt; (second.status, second.verdict), (Status(3), Verdict::Fail));
-    assert_eq!(rt; next_pads(&script, &ram), (2, [0x10, 0]));
+    let alloc = rt.alloc();
+    assert_eq!(rt;
+        state_told(alloc, 1, 0xFE, Status(0), false)?.as_str(),
+        "win status=3 reward=4 level=1 pads=2: 128 0"
+    );
+    assert_eq!(rt;
+        state_told(alloc, 0, 0xFE, Status(3), true)?.as_str(),
+        "fail status=3 reward=4 level=1 pads=2: 16 0"
+    );
     Ok(())
 }
 

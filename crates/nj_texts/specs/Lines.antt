@@ -33,7 +33,8 @@ replay_line replayed = outcome_line (outcome_word replayed.verdict) replayed.ste
 unfoldable pub clean_line : ℕ → Replayed → List ℕ
 clean_line released replayed =
     codes "# clean step=" ++ (decimal replayed.step ++ (codes " frames=" ++ (decimal replayed.frames
-    ++ (codes " reward=" ++ (signed_decimal replayed.reward ++ (codes " released=" ++ (decimal released ++ 10 ∷ [])))))))
+    ++ (codes " reward=" ++ (signed_decimal replayed.reward
+    ++ (codes " released=" ++ (decimal released ++ 10 ∷ [])))))))
 
 -- the line of a workload: its number and the bytes of its cartridge
 unfoldable pub workload_line : ℕ → ℕ → List ℕ

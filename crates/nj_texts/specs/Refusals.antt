@@ -1,5 +1,5 @@
--- The line of a refusal: `nj: `, what is refused, and the refusal, which is its number, its name and each of its fields.
--- Our own.
+-- The line of a refusal: `nj: `, what is refused, and the refusal, which is its number, its name and each of its
+-- fields. Our own.
 use Rattle.std.specs.Prelude.{ℕ, nat_le, ◌&&◌, List, [], ◌∷◌, ◌++◌, map, codes, if◌then◌else◌}
 use Rattle.std.specs.Fmt.{decimal, signed_decimal}
 use Rattle.nj_asm.specs.declared.refusals.AsmRefused.{AsmRefused}

@@ -1,7 +1,7 @@
 //! What the program prints: the line of each refusal ([`Refusal`], [`refusal_line`]), which begins with its kind
-//! ([`Kind`]), and the first lines and texts of commands. Each text is a definition over numbers, and a function that makes
-//! it; what is told in it is computed elsewhere. Of the definitions read `refusal_line` in specs/Refusals first, and then
-//! `outcome_line` in specs/Lines, whose text is a movie again ([`won_text_is_a_movie`]).
+//! ([`Kind`]), and the first lines and texts of commands. Each text is a definition over numbers, and a function that
+//! makes it; what is told in it is computed elsewhere. Of the definitions read `refusal_line` in specs/Refusals first,
+//! and then `outcome_line` in specs/Lines, whose text is a movie again ([`won_text_is_a_movie`]).
 #![tactic(auto)]
 
 mod counts;

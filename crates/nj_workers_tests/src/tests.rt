@@ -180,6 +180,20 @@ fn met<R: Threads + Wait + Sync, L: Ledger + Send>(
     ))
 }
 
+// The words of the front after the first step by two workers, and the bytes that their states need.
+fn front_of_one_step<R: Threads + Wait + Sync, L: Ledger + Send>(
+    rt: &R,
+    alloc: Global,
+    blank: Blank,
+) -> Result<(usize, u64), Fail>
+    requires blank { blank.name ≡ L.name }
+{
+    let mut steps = Steps::<L>::open_many(alloc, blank, 64)?;
+    let mut search = begun(alloc, GOAL, &mut steps[0])?;
+    step(rt, alloc, &mut search, 2, &OpenGate, &mut steps)?;
+    Ok((search.front_len(), search.bytes()))
+}
+
 // Asks that so many workers end the search for the goal as one thread does.
 fn win<R: Threads + Wait + Sync + Abort>(rt: &R, alloc: Global, workers: u32) -> Result<(), Fail>
     requires { (1 ≤ workers) × (workers ≤ 64) }
@@ -211,5 +225,13 @@ fn any_number_of_workers_wins_as_one_thread(rt: HostRuntime) -> Result<(), Fail>
 fn two_workers_meet_at_a_gate(rt: HostRuntime) -> Result<(), Fail> {
     let met = met::<HostRuntime, Brand>(&rt, rt.alloc(), Blank::new(1))?;
     assert_eq!(rt; met, (2, 18, true, 479));
+    Ok(())
+}
+
+#[test]
+fn a_front_needs_less_than_an_image(rt: HostRuntime) -> Result<(), Fail> {
+    let (words, bytes) = front_of_one_step::<HostRuntime, Brand>(&rt, rt.alloc(), Blank::new(1))?;
+    assert_eq!(rt; words, 2);
+    assert!(rt; bytes <= 4496);
     Ok(())
 }

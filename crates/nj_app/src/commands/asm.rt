@@ -1,12 +1,14 @@
 //! `asm SOURCE`: the listing of an assembled source.
 
-ghost use Rattle.std.specs.Prelude.{None};
+ghost use Rattle.std.specs.Prelude.{◌≡◌, None};
 ghost use Rattle.nj_app.specs.Asm.{asm_finding};
 
-use crate::jobs::Job;
+use crate::files::{File, named};
+use crate::formats::SourceFormat;
+use crate::jobs::{Job, Task};
 use crate::stops::{Reply, Stop};
 use nj_asm::{Assembled, list};
-use nj_seq::Seq;
+use nj_seq::{Seq, Text};
 use nj_steps::Steps;
 use std::alloc::{AllocError, Global};
 use std::sync::ledger::Ledger;
@@ -15,14 +17,20 @@ use std::sync::ledger::Ledger;
 #[derive(Clone, Copy)]
 pub struct Asm;
 
+/// The task of `asm`.
+pub fn assembled(source: &Text) -> Task<File<'_, SourceFormat>, Asm>
+    ensures source { result.source.name.now ≡ source.now }
+{
+    Task {
+        source: named(SourceFormat, source),
+        job: Asm,
+    }
+}
+
 impl Job<Assembled> for Asm {
     type Found = Seq<u8>;
 
     ghost finding = { λ _. asm_finding };
-
-    ghost needs = { λ _ _. Unit {0} };
-
-    ghost saves = { λ _. None };
 
     #[tactic(auto, unfolding(crate::specs::Asm::asm_finding))]
     fn find<L: Ledger>(

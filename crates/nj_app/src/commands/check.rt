@@ -3,12 +3,14 @@
 ghost use Rattle.std.specs.Prelude.{◌≡◌, None};
 ghost use Rattle.nj_app.specs.Check.{check_finding, chr_units, counts_of};
 
-use crate::jobs::Job;
+use crate::files::{File, named};
+use crate::formats::{CartFormat, ScriptFormat};
+use crate::jobs::{Job, Task};
 use crate::stops::{Reply, Stop, bytes_of};
 use nj_ines::Cart;
 use nj_script::Script;
 use nj_search::cost;
-use nj_seq::Seq;
+use nj_seq::{Seq, Text};
 use nj_steps::Steps;
 use nj_texts::{Counts, check_line};
 use std::alloc::{AllocError, Global};
@@ -18,14 +20,24 @@ use std::sync::ledger::Ledger;
 #[derive(Clone, Copy)]
 pub struct Check;
 
+/// The task of `check`.
+pub fn checked<'a>(
+    cart: &'a Text,
+    script: &'a Text,
+) -> Task<(File<'a, CartFormat>, File<'a, ScriptFormat>), Check>
+    ensures cart { result.source.0.name.now ≡ cart.now }
+    ensures script { result.source.1.name.now ≡ script.now }
+{
+    Task {
+        source: (named(CartFormat, cart), named(ScriptFormat, script)),
+        job: Check,
+    }
+}
+
 impl Job<(Cart, Script)> for Check {
     type Found = Seq<u8>;
 
     ghost finding = { λ _. check_finding };
-
-    ghost needs = { λ _ _. Unit {0} };
-
-    ghost saves = { λ _. None };
 
     #[tactic(auto, unfolding(crate::specs::Check::check_finding))]
     fn find<L: Ledger>(

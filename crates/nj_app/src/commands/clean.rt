@@ -6,14 +6,16 @@ ghost use Rattle.nj_texts.specs.Lines.{clean_line};
 ghost use Rattle.nj_app.specs.Clean.{clean_finding};
 
 use crate::commands::replay::NOT_WON;
-use crate::jobs::Job;
+use crate::files::{File, named};
+use crate::formats::{CartFormat, MovieFormat, ScriptFormat};
+use crate::jobs::{Job, Task};
 use crate::stops::{Reply, Stop, bytes_of, refused};
 use nj_clean::{CleanEnd, clean};
 use nj_ines::Cart;
 use nj_movie::{Movie, write_movie};
 use nj_replay::{ReplayRefused, Replayed};
 use nj_script::Script;
-use nj_seq::Seq;
+use nj_seq::{Seq, Text};
 use nj_steps::Steps;
 use nj_texts::{Kind, clean_line, replay_line};
 use std::alloc::{AllocError, Global};
@@ -23,14 +25,38 @@ use std::sync::ledger::Ledger;
 #[derive(Clone, Copy)]
 pub struct Clean;
 
+/// The task of `clean`.
+pub fn cleaned<'a>(
+    cart: &'a Text,
+    script: &'a Text,
+    start: &'a Text,
+    movie: &'a Text,
+) -> Task<
+    (
+        (File<'a, CartFormat>, File<'a, ScriptFormat>),
+        (File<'a, MovieFormat>, File<'a, MovieFormat>),
+    ),
+    Clean,
+>
+    ensures cart { result.source.0.0.name.now ≡ cart.now }
+    ensures script { result.source.0.1.name.now ≡ script.now }
+    ensures start { result.source.1.0.name.now ≡ start.now }
+    ensures movie { result.source.1.1.name.now ≡ movie.now }
+{
+    let game = (named(CartFormat, cart), named(ScriptFormat, script));
+    let movies = (named(MovieFormat, start), named(MovieFormat, movie));
+    Task {
+        source: (game, movies),
+        job: Clean,
+    }
+}
+
 impl Job<((Cart, Script), (Movie, Movie))> for Clean {
     type Found = CleanEnd;
 
     ghost finding = { λ _. clean_finding };
 
     ghost needs = { λ _ said. length said.1.1 ≤ 2 ^ 20 };
-
-    ghost saves = { λ _. None };
 
     #[tactic(auto, unfolding(crate::specs::Clean::clean_finding))]
     fn find<L: Ledger>(

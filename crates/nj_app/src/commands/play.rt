@@ -4,7 +4,9 @@ ghost use Rattle.std.specs.Prelude.{◌≡◌, ◌+◌, ◌≤◌, length, fold,
 ghost use Rattle.nj_machine.specs.Frame.{frame, play};
 ghost use Rattle.nj_app.specs.Play.{play_finding, play_text};
 
-use crate::jobs::Job;
+use crate::files::{File, named};
+use crate::formats::{CartFormat, MovieFormat};
+use crate::jobs::{Job, Task};
 use crate::stops::{Reply, Stop, bytes_of};
 use nj_ines::Cart;
 use nj_machine::Machine;
@@ -20,14 +22,24 @@ use std::sync::ledger::Ledger;
 #[derive(Clone, Copy)]
 pub struct Play;
 
+/// The task of `play`.
+pub fn played<'a>(
+    cart: &'a Text,
+    movie: &'a Text,
+) -> Task<(File<'a, CartFormat>, File<'a, MovieFormat>), Play>
+    ensures cart { result.source.0.name.now ≡ cart.now }
+    ensures movie { result.source.1.name.now ≡ movie.now }
+{
+    Task {
+        source: (named(CartFormat, cart), named(MovieFormat, movie)),
+        job: Play,
+    }
+}
+
 impl Job<(Cart, Movie)> for Play {
     type Found = Seq<u8>;
 
     ghost finding = { λ _. play_finding };
-
-    ghost needs = { λ _ _. Unit {0} };
-
-    ghost saves = { λ _. None };
 
     #[tactic(auto, unfolding(crate::specs::Play::play_finding))]
     fn find<L: Ledger>(

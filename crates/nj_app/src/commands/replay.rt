@@ -1,14 +1,17 @@
 //! `replay CART SCRIPT START MOVIE`: what a movie comes to, as the rules judge it.
 
-ghost use Rattle.std.specs.Prelude.{◌≤◌, ◌^◌, length, None};
+ghost use Rattle.std.specs.Prelude.{◌≡◌, ◌≤◌, ◌^◌, length, None};
 ghost use Rattle.nj_app.specs.Replay.{replay_finding};
 
-use crate::jobs::Job;
+use crate::files::{File, named};
+use crate::formats::{CartFormat, MovieFormat, ScriptFormat};
+use crate::jobs::{Job, Task};
 use crate::stops::{Reply, Stop, bytes_of, refused};
 use nj_ines::Cart;
 use nj_movie::Movie;
 use nj_replay::{ReplayRefused, Replayed, replay};
 use nj_script::Script;
+use nj_seq::Text;
 use nj_steps::Steps;
 use nj_texts::{Kind, is_win, replay_line};
 use std::alloc::{AllocError, Global};
@@ -21,14 +24,38 @@ pub const NOT_WON: u8 = 10;
 #[derive(Clone, Copy)]
 pub struct Replay;
 
+/// The task of `replay`.
+pub fn replayed<'a>(
+    cart: &'a Text,
+    script: &'a Text,
+    start: &'a Text,
+    movie: &'a Text,
+) -> Task<
+    (
+        (File<'a, CartFormat>, File<'a, ScriptFormat>),
+        (File<'a, MovieFormat>, File<'a, MovieFormat>),
+    ),
+    Replay,
+>
+    ensures cart { result.source.0.0.name.now ≡ cart.now }
+    ensures script { result.source.0.1.name.now ≡ script.now }
+    ensures start { result.source.1.0.name.now ≡ start.now }
+    ensures movie { result.source.1.1.name.now ≡ movie.now }
+{
+    let game = (named(CartFormat, cart), named(ScriptFormat, script));
+    let movies = (named(MovieFormat, start), named(MovieFormat, movie));
+    Task {
+        source: (game, movies),
+        job: Replay,
+    }
+}
+
 impl Job<((Cart, Script), (Movie, Movie))> for Replay {
     type Found = Replayed;
 
     ghost finding = { λ _. replay_finding };
 
     ghost needs = { λ _ said. length said.1.1 ≤ 2 ^ 20 };
-
-    ghost saves = { λ _. None };
 
     #[tactic(auto, unfolding(crate::specs::Replay::replay_finding))]
     fn find<L: Ledger>(

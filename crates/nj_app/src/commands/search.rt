@@ -1,5 +1,5 @@
-//! `search CART SCRIPT START` and `resume CART SCRIPT START SAVED`: the outcome of a planned search, by one thread or by
-//! several workers, and at its limit its state as a file to go on with.
+//! `search CART SCRIPT START` and `resume CART SCRIPT START SAVED`: the outcome of a planned search, by one thread or
+//! by several workers, and at its limit its state as a file to go on with.
 
 ghost use Rattle.std.specs.Prelude.{◌≡◌, ◌≢◌, ◌≤◌, length, map, option_map, Contains, IfOk, IfSome, IsErrOf, Some, None, Err};
 ghost use Rattle.std.specs.List.{AllZip};
@@ -14,7 +14,7 @@ ghost use Rattle.nj_app.specs.Answer.{frames_of};
 ghost use Rattle.nj_app.specs.Causes.{IsCarriedOut, IsSavedAs};
 ghost use Rattle.nj_app.specs.Outcomes.{outcome_status};
 ghost use Rattle.nj_app.specs.Search.{file_of, found_of, game_files, game_names, input_of, limits_of, names_in, saved_bytes, saved_loaded};
-ghost use Rattle.nj_app.specs.Search.{search_finding, share_work, works_of};
+ghost use Rattle.nj_app.specs.Search.{search_files, search_finding, search_names, share_work, works_of};
 ghost use Rattle.nj_app.specs.Stops.{Loads, Reads, Serves};
 ghost use Rattle.nj_app.specs.Work.{frames_for, given};
 ghost use Rattle.nj_app.specs.declared.commands.search.SearchFiles.{SearchFiles};
@@ -24,9 +24,9 @@ ghost use Rattle.nj_words.specs.declared.SearchOptions.{SearchOptions};
 
 use crate::files::{Source, named};
 use crate::formats::{CartFormat, Hashed, MovieFormat, SavedFormat, ScriptFormat};
-use crate::jobs::Job;
+use crate::jobs::{Job, Task};
 use crate::outcomes::{outcome_status, outcome_text};
-use crate::planning::{Setting, searched, searched_by_workers};
+use crate::planning::{self, Setting, searched_by_workers};
 use crate::sharing::COUNTERS;
 use crate::stops::{Put, Reply, Stop};
 use nj_ines::Cart;
@@ -180,6 +180,51 @@ pub struct Search<'a> {
     pub options: &'a SearchOptions,
 }
 
+/// The task of `search`.
+pub fn searched<'a>(
+    cart: &'a Text,
+    script: &'a Text,
+    start: &'a Text,
+    options: &'a SearchOptions,
+) -> Task<SearchFiles<'a>, Search<'a>>
+    ensures work { works_of result.source ≡ search_files cart.now script.now start.now None }
+    ensures names { names_in result.source ≡ search_names cart.now script.now start.now None }
+    ensures options { result.job.options.now ≡ options.now }
+{
+    Task {
+        source: SearchFiles {
+            cart,
+            script,
+            start,
+            saved: None,
+        },
+        job: Search { options },
+    }
+}
+
+/// The task of `resume`.
+pub fn resumed<'a>(
+    cart: &'a Text,
+    script: &'a Text,
+    start: &'a Text,
+    saved: &'a Text,
+    options: &'a SearchOptions,
+) -> Task<SearchFiles<'a>, Search<'a>>
+    ensures work { works_of result.source ≡ search_files cart.now script.now start.now (Some saved.now) }
+    ensures names { names_in result.source ≡ search_names cart.now script.now start.now (Some saved.now) }
+    ensures options { result.job.options.now ≡ options.now }
+{
+    Task {
+        source: SearchFiles {
+            cart,
+            script,
+            start,
+            saved: Some(saved),
+        },
+        job: Search { options },
+    }
+}
+
 impl Job<SearchInput> for Search<'_> {
     type Found = Found;
 
@@ -203,7 +248,7 @@ impl Job<SearchInput> for Search<'_> {
             script_hash,
         } = said;
         let keep = self.options.save.is_some();
-        let ended = searched(alloc, setting, limits_of(self.options), keep, steps)?;
+        let ended = planning::searched(alloc, setting, limits_of(self.options), keep, steps)?;
         Ok(found_of(alloc, ended, cart_hash, script_hash)?)
     }
 
@@ -304,7 +349,8 @@ pub fn share<R: Threads + Wait + Sync, S: Shelf, G: Gate, L: Ledger + Send>(
     ensures fault_name { IsErrOf result Stop.ReadFault →
         Contains (map fnv_of (names_in files.now)) (S.failed_read shelf.new) }
     ensures frames { (told : Files) → S.content shelf.old ≡ Some told →
-        AreCounted COUNTERS steps.old.items steps.new.items (frames_of (given told (share_work files.now options.now))) }
+        AreCounted COUNTERS steps.old.items steps.new.items
+        (frames_of (given told (share_work files.now options.now))) }
     ensures never_falls { AllZip (λ before after. before ≤ after) steps.old.items steps.new.items }
     ensures content { S.content shelf.new ≡ S.content shelf.old }
     ensures put_faults { S.put_faults shelf.new ≡ S.put_faults shelf.old }

@@ -1,13 +1,15 @@
 //! `trace CART MOVIE`: what the processor does in one frame of a movie.
 
-ghost use Rattle.std.specs.Prelude.{◌≤◌, None};
+ghost use Rattle.std.specs.Prelude.{◌≡◌, ◌≤◌, None};
 ghost use Rattle.nj_app.specs.Trace.{trace_finding};
 
-use crate::jobs::Job;
+use crate::files::{File, named};
+use crate::formats::{CartFormat, MovieFormat};
+use crate::jobs::{Job, Task};
 use crate::stops::{Reply, Stop, refused};
 use nj_ines::Cart;
 use nj_movie::Movie;
-use nj_seq::Seq;
+use nj_seq::{Seq, Text};
 use nj_steps::Steps;
 use nj_texts::Kind;
 use nj_trace::{TraceRefused, trace};
@@ -21,14 +23,28 @@ pub struct Trace {
     pub frame: u32,
 }
 
+/// The task of `trace`.
+pub fn traced<'a>(
+    cart: &'a Text,
+    movie: &'a Text,
+    frame: u32,
+) -> Task<(File<'a, CartFormat>, File<'a, MovieFormat>), Trace>
+    ensures cart { result.source.0.name.now ≡ cart.now }
+    ensures movie { result.source.1.name.now ≡ movie.now }
+    ensures frame { result.job.frame ≡ frame }
+{
+    Task {
+        source: (named(CartFormat, cart), named(MovieFormat, movie)),
+        job: Trace { frame },
+    }
+}
+
 impl Job<(Cart, Movie)> for Trace {
     type Found = Seq<u8>;
 
     ghost finding = { λ job. trace_finding job.frame };
 
     ghost needs = { λ job _. 1 ≤ job.frame };
-
-    ghost saves = { λ _. None };
 
     #[tactic(auto, unfolding(crate::specs::Trace::trace_finding))]
     fn find<L: Ledger>(

@@ -1,14 +1,16 @@
 //! `watch CART SCRIPT MOVIE`: the values of a script's properties after each frame of a movie.
 
-ghost use Rattle.std.specs.Prelude.{None};
+ghost use Rattle.std.specs.Prelude.{◌≡◌, None};
 ghost use Rattle.nj_app.specs.Watch.{watch_finding};
 
-use crate::jobs::Job;
+use crate::files::{File, named};
+use crate::formats::{CartFormat, MovieFormat, ScriptFormat};
+use crate::jobs::{Job, Task};
 use crate::stops::{Reply, Stop};
 use nj_ines::Cart;
 use nj_movie::Movie;
 use nj_script::Script;
-use nj_seq::Seq;
+use nj_seq::{Seq, Text};
 use nj_steps::Steps;
 use nj_trace::watch;
 use std::alloc::{AllocError, Global};
@@ -18,14 +20,33 @@ use std::sync::ledger::Ledger;
 #[derive(Clone, Copy)]
 pub struct Watch;
 
+/// The task of `watch`.
+pub fn watched<'a>(
+    cart: &'a Text,
+    script: &'a Text,
+    movie: &'a Text,
+) -> Task<
+    (
+        (File<'a, CartFormat>, File<'a, ScriptFormat>),
+        File<'a, MovieFormat>,
+    ),
+    Watch,
+>
+    ensures cart { result.source.0.0.name.now ≡ cart.now }
+    ensures script { result.source.0.1.name.now ≡ script.now }
+    ensures movie { result.source.1.name.now ≡ movie.now }
+{
+    let game = (named(CartFormat, cart), named(ScriptFormat, script));
+    Task {
+        source: (game, named(MovieFormat, movie)),
+        job: Watch,
+    }
+}
+
 impl Job<((Cart, Script), Movie)> for Watch {
     type Found = Seq<u8>;
 
     ghost finding = { λ _. watch_finding };
-
-    ghost needs = { λ _ _. Unit {0} };
-
-    ghost saves = { λ _. None };
 
     #[tactic(auto, unfolding(crate::specs::Watch::watch_finding))]
     fn find<L: Ledger>(

@@ -13,7 +13,7 @@ ghost use Rattle.nj_app.specs.Workload.{workload_finding, workload_work};
 
 use crate::files::Made;
 use crate::formats::{CartFormat, MovieFormat, ScriptFormat};
-use crate::jobs::{Job, serve};
+use crate::jobs::{Job, Task, serve};
 use crate::outcomes::outcome_head;
 use crate::planning::{Setting, searched};
 use crate::stops::{Reply, Stop, bytes_of};
@@ -49,8 +49,6 @@ impl Job<((Cart, Script), Movie)> for Report {
     ghost finding = { λ job. workload_finding job.number };
 
     ghost needs = { λ job _. job.size ≡ length (game_file job.number) };
-
-    ghost saves = { λ _. None };
 
     #[tactic(auto, unfolding(crate::specs::Workload::workload_finding))]
     fn find<L: Ledger>(
@@ -111,13 +109,11 @@ pub fn workload<S: Shelf, L: Ledger>(
         bytes: made.start.as_bytes(),
     };
     let size = made.cart.len() as u64;
-    serve(
-        alloc,
-        &((cart, script), start),
-        &Report { number, size },
-        shelf,
-        steps,
-    )
+    let task = Task {
+        source: ((cart, script), start),
+        job: Report { number, size },
+    };
+    serve(alloc, &task, shelf, steps)
 }
 
 fn report_text(alloc: Global, number: u64, size: u64, outcome: &Outcome) -> Result<Text, AllocError>

@@ -11,7 +11,8 @@ returns-in-Some-clause-loads g c = λ files told.
 pub returns-in-Ok-clause-loads : goal.returns-in-Ok-clause-loads
 returns-in-Ok-clause-loads g c = λ files told.
     let limit = ap (λ (b : Bounds). b.limit) c.bounds-bounds.ensures in
-    file_loads files (g.F.Format.format c.args.format) _ c.args.name.now c.in-None.ensures.value c.in-Ok.bytes.items c.read.result
+    file_loads files (g.F.Format.format c.args.format) _ c.args.name.now c.in-None.ensures.value c.in-Ok.bytes.items
+    c.read.result
     (c.in-Ok.ensures.whole files told)
     (made_loads files (g.F.Format.format c.args.format) _ c.in-Ok.bytes.items c.read.result
     (omega (arith, limit, c.in-Ok.ensures.within, c.in-Ok.bytes.ok.0))
@@ -27,9 +28,11 @@ returns-in-Err-TooLong-clause-loads g c = λ files told.
     let limit = ap (λ (b : Bounds). b.limit) c.bounds-bounds.ensures in
     let file = c.in-Err-TooLong.ensures.too_long files told c.in-Err-TooLong.field-0-0
     (ap Err c.in-Err-TooLong.field-0-is) in
-    file_loads files (g.F.Format.format c.args.format) _ c.args.name.now c.in-None.ensures.value file.0 (Err c.too_long.result) file.1
+    file_loads files (g.F.Format.format c.args.format) _ c.args.name.now c.in-None.ensures.value file.0
+    (Err c.too_long.result) file.1
     (made_past files (g.F.Format.format c.args.format) _ file.0 c.too_long.result (omega (arith, limit, file.2))
     (rw c.bounds-bounds.ensures at c.too_long.ensures))
 
 pub returns-in-Err-NoMemory-clause-loads : goal.returns-in-Err-NoMemory-clause-loads
-returns-in-Err-NoMemory-clause-loads g c = λ files told. no_memory_loads files (g.F.Format.format c.args.format) _ c.args.name.now
+returns-in-Err-NoMemory-clause-loads g c =
+    λ files told. no_memory_loads files (g.F.Format.format c.args.format) _ c.args.name.now

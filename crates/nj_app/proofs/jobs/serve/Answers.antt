@@ -8,14 +8,14 @@ use Rattle.nj_app.proofs.jobs.serve.Goals as goal
 pub returns-in_err-said-clause-serves : goal.returns-in_err-said-clause-serves
 returns-in_err-said-clause-serves g c = λ files told.
     let p = err_from_is_err_and c.from_residual.result c.from_residual.ensures.1 in
-    serves_unloaded files (g.A.Source.work c.args.source.now) (found_in (g.J.Job.finding c.args.job.now)) _
+    serves_unloaded files (g.A.Source.work c.args.task.now.source) (found_in (g.J.Job.finding c.args.task.now.job)) _
     c.in_err-said.field-0.0 c.from_residual.result (p.1 ∙ ap Err p.2) (c.in_err-said.ensures.loads files told)
 
 pub returns-in_err-found-clause-serves : goal.returns-in_err-found-clause-serves
 returns-in_err-found-clause-serves g c = λ files told.
     let p = err_from_is_err_and c.from_residual-in_err-found.result c.from_residual-in_err-found.ensures.1 in
-    let finding = g.J.Job.finding c.args.job.now in
-    serves_loaded files (g.A.Source.work c.args.source.now) (found_in finding) _ _ c.in_ok-said.said
+    let finding = g.J.Job.finding c.args.task.now.job in
+    serves_loaded files (g.A.Source.work c.args.task.now.source) (found_in finding) _ _ c.in_ok-said.said
     c.from_residual-in_err-found.result (c.in_ok-said.ensures.loads files told)
     (reading_stops files finding.kind (finding.reading c.in_ok-said.said) (answered_by finding c.in_ok-said.said) _
     c.in_err-found.field-0.0 c.from_residual-in_err-found.result (p.1 ∙ ap Err p.2) c.in_err-found.ensures.reads)
@@ -27,8 +27,8 @@ returns-in_err-reply-clause-serves g c = λ files told.
 
 pub returns-clause-serves : goal.returns-clause-serves
 returns-clause-serves g c = λ files told.
-    let finding = g.J.Job.finding c.args.job.now in
-    serves_loaded files (g.A.Source.work c.args.source.now) (found_in finding) _ _ c.in_ok-said.said _
+    let finding = g.J.Job.finding c.args.task.now.job in
+    serves_loaded files (g.A.Source.work c.args.task.now.source) (found_in finding) _ _ c.in_ok-said.said _
     (c.in_ok-said.ensures.loads files told)
     (reading_serves files finding.kind (finding.reading c.in_ok-said.said) (answered_by finding c.in_ok-said.said) _
     c.in_ok-found.found _ c.in_ok-found.ensures.reads
@@ -37,24 +37,24 @@ returns-clause-serves g c = λ files told.
 
 pub returns-in_err-found-clause-frames : goal.returns-in_err-found-clause-frames
 returns-in_err-found-clause-frames g c = λ files told.
-    let finding = g.J.Job.finding c.args.job.now in
-    frames_loaded files (g.A.Source.work c.args.source.now) (found_in finding) _ c.in_ok-said.said _ _
+    let finding = g.J.Job.finding c.args.task.now.job in
+    frames_loaded files (g.A.Source.work c.args.task.now.source) (found_in finding) _ c.in_ok-said.said _ _
     (c.in_ok-said.ensures.loads files told)
     (reading_frames files finding.kind (finding.reading c.in_ok-said.said) (answered_by finding c.in_ok-said.said)
     (finding.frames c.in_ok-said.said) _ _ (λ value. refl) c.in_err-found.ensures.frames)
 
 pub returns-in_err-reply-clause-frames : goal.returns-in_err-reply-clause-frames
 returns-in_err-reply-clause-frames g c = λ files told.
-    let finding = g.J.Job.finding c.args.job.now in
-    frames_loaded files (g.A.Source.work c.args.source.now) (found_in finding) _ c.in_ok-said.said _ _
+    let finding = g.J.Job.finding c.args.task.now.job in
+    frames_loaded files (g.A.Source.work c.args.task.now.source) (found_in finding) _ c.in_ok-said.said _ _
     (c.in_ok-said.ensures.loads files told)
     (reading_frames files finding.kind (finding.reading c.in_ok-said.said) (answered_by finding c.in_ok-said.said)
     (finding.frames c.in_ok-said.said) _ _ (λ value. refl) c.in_ok-found.ensures.frames)
 
 pub returns-clause-frames : goal.returns-clause-frames
 returns-clause-frames g c = λ files told.
-    let finding = g.J.Job.finding c.args.job.now in
-    frames_loaded files (g.A.Source.work c.args.source.now) (found_in finding) _ c.in_ok-said.said _ _
+    let finding = g.J.Job.finding c.args.task.now.job in
+    frames_loaded files (g.A.Source.work c.args.task.now.source) (found_in finding) _ c.in_ok-said.said _ _
     (c.in_ok-said.ensures.loads files told)
     (reading_frames files finding.kind (finding.reading c.in_ok-said.said) (answered_by finding c.in_ok-said.said)
     (finding.frames c.in_ok-said.said) _ _ (λ value. refl) c.in_ok-found.ensures.frames)

@@ -64,7 +64,8 @@ won_answered : (plan : Plan) (step : ℕ) (reward : ℤ) (pads : List ℕ) →
 unfolding replay_finding
 won_answered plan step reward pads replayed =
     ap (λ (r : Result Replayed ReplayRefused). accepted kinds.Movie
-    (answered_by replay_finding ((plan.cartridge, plan.script), (plan.start, pads))) (refusal_told replay_refusal r)) replayed
+    (answered_by replay_finding ((plan.cartridge, plan.script), (plan.start, pads))) (refusal_told replay_refusal r))
+    replayed
 
 -- the pads that lines say are bytes
 said_bytes : (parts : List (List ℕ)) (pads : List ℕ) → Says parts pads → AreBytes pads
@@ -90,7 +91,8 @@ returns c = λ planned step word script start script_read start_read fresh none 
     record {
       read =
           ap (λ (o : Outcome). reading_of movie_format (outcome_text o)) is_told
-          ∙ won_read step reward pads few c.won_text_is_short.ensures (c.won_text_is_a_movie.ensures step (length pads) reward pads bytes few);
+          ∙ won_read step reward pads few c.won_text_is_short.ensures
+          (c.won_text_is_a_movie.ensures step (length pads) reward pads bytes few);
       is_of_word = replays.read;
       replayed = replays.replayed;
       answered =

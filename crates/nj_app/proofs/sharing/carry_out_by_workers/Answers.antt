@@ -1,5 +1,5 @@
 -- A search is shared; every other command is carried out on the first counter.
-use Rattle.std.proofs.Common.{arith, subst}
+use Rattle.std.proofs.Common.{arith, refl, subst}
 use Rattle.nj_words.specs.Commands.{IsInRange}
 use Rattle.nj_workers.specs.Counted.{AreCounted}
 use Rattle.nj_app.specs.Answer.{frames_of}
@@ -17,12 +17,14 @@ share-requires-clause-options g c = λ lifetimes rule. subst IsInRange c.in-Sear
 pub returns-in-Search-clause-serves : goal.returns-in-Search-clause-serves
 returns-in-Search-clause-serves g c = λ files told.
     subst (λ work. Serves files work (g.S.Shelf.failed_read c.share.new.shelf) c.share.result)
-    (search_is c.args.command.now _ _ _ _ c.in-Search.is) (c.share.ensures.serves files told)
+    (search_is c.args.command.now _ _ _ _ _ _ c.in-Search.is c.searched-task.ensures.work refl)
+    (c.share.ensures.serves files told)
 
 pub returns-in-Search-clause-frames : goal.returns-in-Search-clause-frames
 returns-in-Search-clause-frames g c = λ files told.
     subst (λ work. AreCounted COUNTERS c.args.steps.now.items c.share.new.steps.items (frames_of (given files work)))
-    (search_is c.args.command.now _ _ _ _ c.in-Search.is) (c.share.ensures.frames files told)
+    (search_is c.args.command.now _ _ _ _ _ _ c.in-Search.is c.searched-task.ensures.work refl)
+    (c.share.ensures.frames files told)
 
 pub share-requires-in-Resume-clause-options : goal.share-requires-in-Resume-clause-options
 unfolding IsInRange
@@ -31,12 +33,15 @@ share-requires-in-Resume-clause-options g c = λ lifetimes rule. subst IsInRange
 pub returns-in-Resume-clause-serves : goal.returns-in-Resume-clause-serves
 returns-in-Resume-clause-serves g c = λ files told.
     subst (λ work. Serves files work (g.S.Shelf.failed_read c.share-in-Resume.new.shelf) c.share-in-Resume.result)
-    (resume_is c.args.command.now _ _ _ _ _ c.in-Resume.is) (c.share-in-Resume.ensures.serves files told)
+    (resume_is c.args.command.now _ _ _ _ _ _ _ c.in-Resume.is c.resumed-task.ensures.work refl)
+    (c.share-in-Resume.ensures.serves files told)
 
 pub returns-in-Resume-clause-frames : goal.returns-in-Resume-clause-frames
 returns-in-Resume-clause-frames g c = λ files told.
-    subst (λ work. AreCounted COUNTERS c.args.steps.now.items c.share-in-Resume.new.steps.items (frames_of (given files work)))
-    (resume_is c.args.command.now _ _ _ _ _ c.in-Resume.is) (c.share-in-Resume.ensures.frames files told)
+    subst (λ work. AreCounted COUNTERS c.args.steps.now.items c.share-in-Resume.new.steps.items
+    (frames_of (given files work)))
+    (resume_is c.args.command.now _ _ _ _ _ _ _ c.in-Resume.is c.resumed-task.ensures.work refl)
+    (c.share-in-Resume.ensures.frames files told)
 
 pub returns-in_default-clause-frames : goal.returns-in_default-clause-frames
 returns-in_default-clause-frames g c = λ files told.

@@ -6,18 +6,21 @@ use Rattle.nj_app.specs.Work.{Reaches}
 use Rattle.nj_app.proofs.sharing.run.Goals as goal
 
 pub returns-clause-settled : goal.returns-clause-settled
-returns-clause-settled g c = λ files told. c.tell.ensures.settled files _ _ (c.reply_by_workers-reply.ensures.serves files told)
+returns-clause-settled g c =
+    λ files told. c.tell.ensures.settled files _ _ (c.reply_by_workers-reply.ensures.serves files told)
 
 pub returns-clause-saved : goal.returns-clause-saved
 returns-clause-saved g c = λ files told plain.
-    rw c.reply_by_workers-reply.ensures.content at (c.tell.ensures.saved files _ _ (c.reply_by_workers-reply.ensures.serves files told) plain)
+    rw c.reply_by_workers-reply.ensures.content at
+    (c.tell.ensures.saved files _ _ (c.reply_by_workers-reply.ensures.serves files told) plain)
 
 pub returns-clause-complete : goal.returns-clause-complete
 returns-clause-complete g c = λ files told reads writes puts memory.
     c.tell.ensures.complete files _ _ (c.reply_by_workers-reply.ensures.serves files told)
     (λ e. reads (subst (λ n. Rose (g.S.Shelf.read_faults c.args.shelf.now) n) (sym c.tell.ensures.read_faults)
     (c.reply_by_workers-reply.ensures.fault e))) writes
-    (λ rose. puts (subst (λ n. Rose n (g.S.Shelf.put_faults c.tell.new.shelf)) c.reply_by_workers-reply.ensures.put_faults rose)) memory
+    (λ rose. puts (subst (λ n. Rose n (g.S.Shelf.put_faults c.tell.new.shelf))
+    c.reply_by_workers-reply.ensures.put_faults rose)) memory
 
 pub returns-clause-read_in_order : goal.returns-clause-read_in_order
 returns-clause-read_in_order g c = λ files told seven.

@@ -6,7 +6,8 @@ use Rattle.nj_app.proofs.telling.hand_over.Goals as goal
 
 pub returns-in-Ok-clause-written : goal.returns-in-Ok-clause-written
 returns-in-Ok-clause-written g c =
-    always_ok c.put.result (c.in-Ok.ensures.ok ∙ ap (λ text. appended (g.O.Sink.written c.args.out.now) text) c.as_slice.ensures.value)
+    always_ok c.put.result (c.in-Ok.ensures.ok
+    ∙ ap (λ text. appended (g.O.Sink.written c.args.out.now) text) c.as_slice.ensures.value)
 
 pub returns-in-Ok-clause-no_write_fault : goal.returns-in-Ok-clause-no_write_fault
 returns-in-Ok-clause-no_write_fault g c = always_ok c.put.result c.in-Ok.ensures.no_fault
@@ -29,7 +30,9 @@ returns-in-Err-clause-fault g c =
       record {
         count = front.0;
         within = subst (λ text. front.0 ≤ length text) c.as_slice.ensures.value front.1;
-        written = front.2 ∙ ap (λ text. appended (g.O.Sink.written c.args.out.now) (take front.0 text)) c.as_slice.ensures.value;
+        written =
+            front.2 ∙ ap (λ text. appended (g.O.Sink.written c.args.out.now) (take front.0 text))
+            c.as_slice.ensures.value;
         files = refl;
       },
     )

@@ -16,4 +16,5 @@ returns-in_err-saved-clause-loads g c = λ files told.
 pub returns-clause-loads : goal.returns-clause-loads
 returns-clause-loads g c = λ files told.
     part_loads files (loaded (saved_format c.args.input.cart_hash c.args.input.script_hash) c.args.name.now)
-    (with_saved c.args.input) _ c.in_ok-saved.saved (rw (c.named.ensures.format, c.named.ensures.name) at (c.in_ok-saved.ensures.loads files told))
+    (with_saved c.args.input) _ c.in_ok-saved.saved
+    (rw (c.named.ensures.format, c.named.ensures.name) at (c.in_ok-saved.ensures.loads files told))

@@ -18,7 +18,8 @@ module _ (files : Files) (cart script start : List ℕ) (saved : Option (Bor (Li
       Loads files (search_files cart script start (name_in saved)) failed result
   unfolding search_files
   game_stops failed stop result e h =
-      first_stops files (game_files cart script start) (λ said. saved_loaded (name_in saved) (input_of said)) failed stop
+      first_stops files (game_files cart script start)
+      (λ said. saved_loaded (name_in saved) (input_of said)) failed stop
       result e h
 
   -- no saved search is read
