@@ -4,7 +4,8 @@
  * NJ_REFUSED=N..    the Nth and all behind it
  * NJ_REQUESTS=FILE  a file of at least 8 bytes, in which the number of requests so far stands
  *
- * A request is a call of malloc, calloc, realloc or one of the aligned ones, from any thread. `tests/refused-memory` builds and uses it.
+ * A request is a call of malloc, calloc, realloc or one of the aligned ones, from any thread. `tests/refused-memory`
+ * builds and uses it.
  */
 #define _GNU_SOURCE
 #include <errno.h>
