@@ -1,4 +1,3 @@
 pub mod Beginnings
-pub mod Numbers
 pub mod Pairs
 pub mod Pieces

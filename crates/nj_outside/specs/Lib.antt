@@ -1,5 +1,3 @@
-pub mod Decimal
-pub mod Fnv
 pub mod Handed
 pub mod Memory
 pub mod Real

@@ -1,5 +1,5 @@
 ghost use Rattle.std.specs.Prelude.{◌≡◌, ℕ, ◌+◌, ◌-◌, ◌<◌, ◌≤◌, ◌⊎◌, List, Option, Some, None, length, take, drop, IfOk, OnOk, OnErr, IsErr};
-ghost use Rattle.nj_outside.specs.Fnv.{fnv_of};
+ghost use Rattle.nj_bytes.specs.Fnv.{fnv_of};
 ghost use Rattle.nj_outside.specs.Rise.{Rose};
 ghost use Rattle.nj_outside.specs.Told.{Files, bytes_at, put_file_from};
 

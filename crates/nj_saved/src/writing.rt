@@ -7,7 +7,7 @@ ghost use Rattle.nj_saved.specs.Ranges.{IsInRange, words_of};
 ghost use Rattle.nj_saved.specs.Bytes.{head_bytes, generation_bytes, field_bytes, file_bytes};
 
 use crate::Saved;
-use nj_outside::fnv;
+use nj_bytes::fnv;
 use std::alloc::{AllocError, Global};
 
 /// The version that is written.
