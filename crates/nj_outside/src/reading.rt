@@ -7,7 +7,7 @@ use crate::shelves::Shelf;
 use std::alloc::{AllocError, Global};
 
 /// Why a file was not read whole.
-#[derive(Clone, Copy, Debug, PartialEq, Eq)]
+#[derive(Clone, Copy)]
 pub enum ReadRefused {
     /// The shelf had a fault, as where there is no such file.
     ReadFault,

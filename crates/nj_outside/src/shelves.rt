@@ -4,7 +4,7 @@ ghost use Rattle.nj_outside.specs.Rise.{Rose};
 ghost use Rattle.nj_outside.specs.Told.{Files, bytes_at, put_file_from};
 
 /// A call of the outside that failed.
-#[derive(Clone, Copy, Debug, PartialEq, Eq)]
+#[derive(Clone, Copy)]
 pub struct Failed;
 
 /// Files by name, read and put piece by piece.
