@@ -1,7 +1,7 @@
-//! The outside: files by name ([`Shelf`]) and a stream of bytes ([`Sink`]) as traits, and one of each over the system's
-//! files and streams, which tell nothing but their faults (those over memory, whose answers are exact, are nj_memory's).
-//! Beside them whole readings and writings, and the gate ([`Gate`]) that workers pass. Of the definitions read
-//! `specs/Told.antt` first.
+//! The outside: files by name ([`Shelf`]) and a stream of bytes ([`Sink`]) as traits, and one of each over the
+//! system's files and streams, which tell nothing but their faults (those over memory, whose answers are exact, are
+//! nj_memory's). Beside them whole readings and writings, and the gate ([`Gate`]) that workers pass. Of the definitions
+//! read `specs/Told.antt` first.
 //!
 //! A shelf or sink may tell what it has. What is said of bytes holds where they are told; what is said
 //! of faults holds always: a call fails exactly where its object's count of faults rose in that call, or

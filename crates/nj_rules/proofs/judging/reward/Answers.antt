@@ -7,8 +7,8 @@ use Rattle.nj_rules.proofs.judging.reward.Goals as goal
 
 pub loop-number-preserved : goal.loop-number-preserved
 loop-number-preserved c =
-    let step = sum-members c.args.ram.now c.args.status c.args.rules.now c.loop-number.number c.index-rules-number.result
-    c.loop-number-test.true in
+    let step = sum-members c.args.ram.now c.args.status c.args.rules.now c.loop-number.number
+    c.index-rules-number.result c.loop-number-test.true in
     let given : c.gain_if-sum.result
     ≡ (if is_in c.args.status c.loop-number.number
     then gain_of c.args.ram.now (get_or c.args.rules.now c.loop-number.number c.index-rules-number.result) else pos 0) =
