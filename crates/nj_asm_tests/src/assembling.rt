@@ -20,30 +20,43 @@ fn a_source_is_listed(rt: HostRuntime) -> Result<(), Fail> {
 fn unofficial_opcodes_are_listed_alone(rt: HostRuntime) -> Result<(), Fail> {
     let text = list(rt.alloc(), &[0xA7, 0x10], 0x8000)?;
     assert_eq!(rt; text.as_slice(), b"8000 A7 10    LAX $10\n".as_slice());
-    assert_eq!(rt;
-        assemble(rt.alloc(), b"LAX $10").err(),
-        Some(AsmRefused::UnknownOp { line: 1 })
+    assert!(rt;
+        matches!(
+            assemble(rt.alloc(), b"LAX $10"),
+            Err(AsmRefused::UnknownOp { line: 1 })
+        )
     );
     Ok(())
 }
 
+// A refusal's kind and line.
+fn told(refused: AsmRefused) -> (&'static str, u64) {
+    match refused {
+        AsmRefused::Syntax { line } => ("Syntax", line),
+        AsmRefused::UnknownOp { line } => ("UnknownOp", line),
+        AsmRefused::NoMode { line } => ("NoMode", line),
+        AsmRefused::Range { line } => ("Range", line),
+        AsmRefused::UnknownLabel { line } => ("UnknownLabel", line),
+        AsmRefused::TwiceLabel { line } => ("TwiceLabel", line),
+        AsmRefused::TooLong { line } => ("TooLong", line),
+        AsmRefused::NoMemory => ("NoMemory", 0),
+    }
+}
+
 #[test]
 fn sources_are_refused(rt: HostRuntime) -> Result<(), Fail> {
-    for (source, refused) in [
-        (".org $8000\nFOO", AsmRefused::UnknownOp { line: 2 }),
-        ("BNE $9000", AsmRefused::Range { line: 1 }),
-        ("x:\nx:", AsmRefused::TwiceLabel { line: 2 }),
-        ("nop\r", AsmRefused::Syntax { line: 1 }),
-        ("NOP ; a\r\n.org $9000", AsmRefused::Syntax { line: 2 }),
-        ("STX x,Y\nx:", AsmRefused::NoMode { line: 1 }),
-        ("JMP y", AsmRefused::UnknownLabel { line: 1 }),
-        (".org $FFFE\nJMP $8000", AsmRefused::TooLong { line: 2 }),
+    for (source, kind, line) in [
+        (".org $8000\nFOO", "UnknownOp", 2),
+        ("BNE $9000", "Range", 1),
+        ("x:\nx:", "TwiceLabel", 2),
+        ("nop\r", "Syntax", 1),
+        ("NOP ; a\r\n.org $9000", "Syntax", 2),
+        ("STX x,Y\nx:", "NoMode", 1),
+        ("JMP y", "UnknownLabel", 1),
+        (".org $FFFE\nJMP $8000", "TooLong", 2),
     ] {
-        assert_eq!(rt;
-            assemble(rt.alloc(), source.as_bytes()).err(),
-            Some(refused),
-            "of {source:?}"
-        );
+        let refused = assemble(rt.alloc(), source.as_bytes()).err().map(told);
+        assert_eq!(rt; refused, Some((kind, line)), "of {source:?}");
     }
     Ok(())
 }

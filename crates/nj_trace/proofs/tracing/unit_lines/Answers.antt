@@ -41,7 +41,7 @@ push_unit-requires-clause-whole g c e =
 pub returns-then-ends_frame-clause-text : goal.returns-then-ends_frame-clause-text
 returns-then-ends_frame-clause-text g c =
     let laws : UnitLaws =
-    record { nearer = c.frames_are_units.ensures.nearer; ready = c.frames_are_units.ensures.ready } in
+    record { nearer = c.units_go_on.ensures.nearer; ready = c.units_go_on.ensures.ready } in
     let inv = c.loop-text.invariant in
     let ended = ended_by c.unit_step-step.result (sym c.ends_frame.ensures ∙ c.if-ends_frame.true) in
     line_last laws c.args.pad c.loop-text.machine c.unit_step-step.new.self ended.0 c.loop-text.text.items
@@ -52,7 +52,7 @@ returns-then-ends_frame-clause-text g c =
 pub returns-then-ends_frame-clause-count : goal.returns-then-ends_frame-clause-count
 returns-then-ends_frame-clause-count g c =
     let laws : UnitLaws =
-    record { nearer = c.frames_are_units.ensures.nearer; ready = c.frames_are_units.ensures.ready } in
+    record { nearer = c.units_go_on.ensures.nearer; ready = c.units_go_on.ensures.ready } in
     let inv = c.loop-text.invariant in
     let ended = ended_by c.unit_step-step.result (sym c.ends_frame.ensures ∙ c.if-ends_frame.true) in
     count_last laws c.args.pad c.loop-text.machine c.unit_step-step.new.self ended.0 c.loop-text.count _ inv.ready
@@ -61,7 +61,7 @@ returns-then-ends_frame-clause-count g c =
 pub loop-text-preserved : goal.loop-text-preserved
 loop-text-preserved g c =
     let laws : UnitLaws =
-    record { nearer = c.frames_are_units.ensures.nearer; ready = c.frames_are_units.ensures.ready } in
+    record { nearer = c.units_go_on.ensures.nearer; ready = c.units_go_on.ensures.ready } in
     let inv = c.loop-text.invariant in
     let machine = c.loop-text.machine in
     let next = c.unit_step-step.new.self in
