@@ -5,7 +5,7 @@ use Rattle.nj_machine.specs.Frame.{dots_left, unit_step}
 use Rattle.nj_trace.specs.Units.{units_from}
 use Rattle.nj_trace.specs.Trace.{unit_line}
 use Rattle.nj_trace.proofs.Wholes.{few_seen, whole_seen}
-use Rattle.nj_trace.proofs.FrameUnits.{UnitLaws, unjammed, few_left, ended_by, goes_by, counted_not, line_on, line_last, count_on, count_last}
+use Rattle.nj_trace.proofs.FrameUnits.{UnitLaws, unjammed, few_left, ended_by, goes_by, counted_once, counted_not, line_on, line_last, count_on, count_last}
 use Rattle.nj_trace.proofs.tracing.unit_lines.Goals as goal
 
 pub loop-text-init : goal.loop-text-init
@@ -78,3 +78,39 @@ loop-text-preserved g c =
       few = omega (arith, inv.few, laws.nearer machine next c.args.pad inv.ready after);
       steps = c.unit_step-step.ensures.counted ∙ counted_not c.unit_step-step.result c.loop-text.steps test ∙ inv.steps;
     }
+
+pub returns-then-ends_frame-clause-frames : goal.returns-then-ends_frame-clause-frames
+returns-then-ends_frame-clause-frames g c =
+    omega (
+      arith,
+      c.unit_step-step.ensures.counted,
+      counted_once c.unit_step-step.result c.loop-text.steps,
+      c.loop-text.invariant.steps,
+    )
+
+pub returns-then-ends_frame-clause-never_falls : goal.returns-then-ends_frame-clause-never_falls
+returns-then-ends_frame-clause-never_falls g c =
+    omega (arith, c.unit_step-step.ensures.never_falls, c.loop-text.invariant.steps)
+
+pub returns-in_err-push_unit-clause-frames : goal.returns-in_err-push_unit-clause-frames
+returns-in_err-push_unit-clause-frames g c =
+    omega (
+      arith,
+      c.unit_step-step.ensures.counted,
+      counted_once c.unit_step-step.result c.loop-text.steps,
+      c.loop-text.invariant.steps,
+    )
+
+pub returns-in_err-push_unit-clause-never_falls : goal.returns-in_err-push_unit-clause-never_falls
+returns-in_err-push_unit-clause-never_falls g c =
+    omega (arith, c.unit_step-step.ensures.never_falls, c.loop-text.invariant.steps)
+
+pub overflow_add-count : goal.overflow_add-count
+overflow_add-count g c = omega (arith, c.loop-text.invariant.few)
+
+pub loop-text-smaller : goal.loop-text-smaller
+loop-text-smaller g c =
+    let next = c.unit_step-step.new.self in
+    let test = sym c.ends_frame.ensures ∙ c.if-ends_frame.false in
+    c.units_go_on.ensures.nearer c.loop-text.machine next c.args.pad c.loop-text.invariant.ready
+    (c.unit_step-step.ensures.after ∙ ap (λ end. (next, end)) (goes_by c.unit_step-step.result test))
