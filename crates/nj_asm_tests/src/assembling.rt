@@ -1,4 +1,5 @@
-use nj_asm::{AsmRefused, assemble, list};
+use nj_asm::{AsmRefused, Assembled, assemble, list};
+use std::alloc::Global;
 use std::test::Fail;
 
 const FOUR_LINES: &str = ".org $8000\nSEI\nLDA #$80\nSTA $2000\nloop: JMP loop\n";
@@ -6,9 +7,13 @@ const FOUR_LINES: &str = ".org $8000\nSEI\nLDA #$80\nSTA $2000\nloop: JMP loop\n
 const FOUR_LISTED: &str =
     "8000 78       SEI\n8001 A9 80    LDA #$80\n8003 8D 00 20 STA $2000\n8006 4C 06 80 JMP $8006\n";
 
+fn assembled(alloc: Global, source: &str) -> Result<Assembled, Fail> {
+    Ok(assemble(alloc, source.as_bytes()).ok().ok_or("refused")?)
+}
+
 #[test]
 fn a_source_is_listed(rt: HostRuntime) -> Result<(), Fail> {
-    let assembled = assemble(rt.alloc(), FOUR_LINES.as_bytes())?;
+    let assembled = assembled(rt.alloc(), FOUR_LINES)?;
     assert_eq!(rt; assembled.origin, 0x8000);
     let text = list(rt.alloc(), assembled.bytes.as_slice(), assembled.origin)?;
     assert_eq!(rt; text.as_slice(), FOUR_LISTED.as_bytes());
@@ -68,7 +73,7 @@ fn many_labels_are_found(rt: HostRuntime) -> Result<(), Fail> {
     for n in 0..20_000u32 {
         source.push_str(&format!(in rt.alloc(); "line{n}: JMP line{}\n", 19_999 - n)?)?;
     }
-    let assembled = assemble(rt.alloc(), source.as_bytes())?;
+    let assembled = assembled(rt.alloc(), source.as_str())?;
     assert_eq!(rt; assembled.bytes.as_slice().len(), 60_000);
     Ok(())
 }
