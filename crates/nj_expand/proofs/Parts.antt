@@ -1,6 +1,7 @@
 -- The states of a step's kept rows, in parts that are joined in their order.
 use Rattle.std.proofs.Common.{◌≡◌, ℕ, ◌+◌, ◌*◌, ◌<◌, ◌≤◌, List, [], ◌∷◌, ◌++◌, length, map, refl, ap, ap₂, sym, subst, ◌∙◌, arith, length-append, append_assoc, append-nil, mul-le-mul_right}
-use Rattle.std.specs.Prelude.{reverse, sum_by, None}
+use Rattle.std.specs.Prelude.{Result, IfOk, reverse, sum_by, None}
+use Rattle.std.specs.declared.alloc.AllocError.{AllocError}
 use Rattle.std.specs.List.{All}
 use Rattle.std.proofs.Math.Nat.{add-mul}
 use Rattle.std.proofs.lemmas.List.{map-append, reverse-append, reverse-reverse}
@@ -44,6 +45,22 @@ pub again_is : (h : Held) (rows : List Row) (again : Again) → IsAgain h rows a
     again.pool again.judged.items
 unfolding IsAgain
 again_is h rows again is = is
+
+-- what was run from the parts of a search was run from its front
+pub run_from : (h now : Held) (rows : List Row) (before : Before) (base : List ℕ) (limit : ℕ)
+    (result : Result Again AllocError) → h ≡ now
+    → before ≡ before_of h.plan h.state.front → base ≡ image_at h.plan []
+    → limit ≡ h.bounds.most * (size_in h.plan + 16)
+    → IfOk result (λ again. AreRunFrom before base limit rows again.pool again.judged.items)
+    → IfOk result (IsAgain now rows)
+unfolding IsAgain
+run_from h now rows before base limit result same was base_is limit_is ran =
+    subst (λ (h : Held). IfOk result (IsAgain h rows)) same
+    (subst (λ l. IfOk result (λ again. AreRunFrom (before_of h.plan h.state.front) (image_at h.plan []) l rows again.pool
+    again.judged.items)) limit_is
+    (subst (λ b. IfOk result (λ again. AreRunFrom (before_of h.plan h.state.front) b limit rows again.pool
+    again.judged.items)) base_is
+    (subst (λ b. IfOk result (λ again. AreRunFrom b base limit rows again.pool again.judged.items)) was ran)))
 
 -- what a pool of them has
 base_again : (before : Before) (base : List ℕ) (limit : ℕ) (rows : List Row) (pool : Front)
@@ -205,9 +222,3 @@ all_joined h rows all [] joining none =
     joining.whole ∙ ap (λ rest. joining.done ++ rest) joining.parts ∙ append-nil joining.done in
     subst (λ rows. IsAgain h rows all) (sym whole) joining.all_is
 all_joined h rows all (part ∷ left) joining none = absurd (omega arith)
-
--- some rows have some part
-pub some_part : (h : Held) (rows : List Row) (parts : List Again) → ArePartsOf h rows parts → 0 < length rows
-    → 0 < length parts
-some_part h rows [] are some = absurd (omega (arith, ap length are, some))
-some_part h rows (part ∷ parts) are some = omega arith

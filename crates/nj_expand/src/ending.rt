@@ -1,6 +1,7 @@
 //! The end of a step: a winner, nothing that is kept, or the kept as the next front.
 
-ghost use Rattle.std.specs.Prelude.{◌≡◌, ◌≤◌, ◌<◌, ◌+◌, ◌*◌, false, true, max, length, IfOk, OnOk, OnErr, if◌then◌else◌, nat_lt};
+ghost use Rattle.std.specs.Prelude.{◌≡◌, ◌≤◌, ◌<◌, ◌+◌, ◌*◌, [], false, true, max, length, IfOk, OnOk, OnErr, if◌then◌else◌, nat_lt};
+ghost use Rattle.nj_expand.specs.Front.{size_in, image_at};
 ghost use Rattle.nj_expand.specs.Held.{live_rows, kept_in};
 ghost use Rattle.nj_expand.specs.Step.{IsStep};
 ghost use Rattle.nj_expand.specs.Closed.{AreRowsOf, IsClosedFor};
@@ -169,6 +170,7 @@ impl Search {
         ensures plan { self.new.plan ≡ self.old.plan }
         ensures bounds { self.new.bounds ≡ self.old.bounds }
     {
+        self.images_are_long();
         let mut parts = parts;
         parts.reverse();
         let Some(mut all) = parts.pop() else {
@@ -178,6 +180,13 @@ impl Search {
             all.append(part)?;
         }
         self.move_on(alloc, kept, all)
+    }
+
+    // The start's image is as long as all.
+    fn images_are_long(&self)
+        ensures { length (image_at self.now.plan []) ≡ size_in self.now.plan }
+    {
+        let _pool = &self.pool;
     }
 
     // Makes what a step keeps the front, by its states.

@@ -26,7 +26,7 @@ loop-row-init g c =
       pool =
           pool_none before c.args.front.now.base c.base.result.now c.args.limit c.in_ok-pool.pool
           c.base.ensures.base c.in_ok-pool.ensures;
-      judged = c.new-2.ensures.items;
+      judged = c.in_ok-with_capacity.ensures.items;
       bytes = omega (arith, ap bytes_held c.in_ok-pool.ensures);
       frames = le-add_right c.args.steps.now (c.args.script.now.hold * 0);
       never_falls = omega arith;
