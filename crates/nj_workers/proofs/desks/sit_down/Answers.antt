@@ -39,8 +39,8 @@ loop-end-preserved g c =
           refl c.push_reserved.ensures.items c.in-Some-pop.ensures.items was.1,
       omega arith,
       omega arith,
-      c.pop.ensures.capacity ∙ was.4,
-      c.pop-in-Some.ensures.capacity ∙ was.5,
+      omega (arith, c.pop.ensures.capacity, was.4),
+      omega (arith, c.pop-in-Some.ensures.capacity, was.5),
     )
 
 pub returns-clause-ends : goal.returns-clause-ends

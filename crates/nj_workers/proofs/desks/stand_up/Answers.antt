@@ -34,7 +34,7 @@ loop-desk-preserved g c =
           refl c.in-Some.ensures.items c.push_reserved-in-Some.ensures.items was.1,
       omega arith,
       omega arith,
-      same ∙ was.4,
+      omega (arith, same, was.4),
     )
 
 pub returns-clause-ends : goal.returns-clause-ends

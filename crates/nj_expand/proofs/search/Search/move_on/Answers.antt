@@ -63,16 +63,16 @@ put-requires c =
     (record { table = table.table; slots = table.slots; seen = table.seen }) kept.table)
 
 after : (c : goal.After-drop-rows-2) → (let s = c.self.inside in let h : Held = record {
-      plan = plan_of s.cart s.script s.start;
-      bounds = bounds_of s.bounds s.script;
-      state = record {
-        step = s.step;
-        front = s.pool.words;
-        seen = seen_in s.words.items s.step s.keys.oldest;
-        mark = record { level = s.mark.level; until = s.mark.until };
-      };
-      spent = s.spent;
-    } in
+  plan = plan_of s.cart s.script s.start;
+  bounds = bounds_of s.bounds s.script;
+  state = record {
+    step = s.step;
+    front = s.pool.words;
+    seen = seen_in s.words.items s.step s.keys.oldest;
+    mark = record { level = s.mark.level; until = s.mark.until };
+  };
+  spent = s.spent;
+} in
     IsAfter h c.put.result.items c.args.kept.keys s.bounds.exponent)
 after c =
     let s = c.self.inside in
