@@ -1,4 +1,2 @@
 pub mod Beginnings
-pub mod Numbers
-pub mod Pairs
 pub mod Pieces

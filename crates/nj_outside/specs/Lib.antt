@@ -1,7 +1,4 @@
-pub mod Decimal
-pub mod Fnv
 pub mod Handed
-pub mod Memory
 pub mod Real
 pub mod Rise
 pub mod Told

@@ -1,5 +1,5 @@
 ghost use Rattle.std.specs.Prelude.{◌≡◌, ℕ, ◌<◌, ◌≤◌, ◌⊎◌, List, Some, length, vec_len, IfOk, OnOk, OnErr, IsErrOf, IsOkUnless};
-ghost use Rattle.nj_outside.specs.Fnv.{fnv_of};
+ghost use Rattle.nj_bytes.specs.Fnv.{fnv_of};
 ghost use Rattle.nj_outside.specs.Rise.{Rose};
 ghost use Rattle.nj_outside.specs.Told.{Files};
 
@@ -7,7 +7,7 @@ use crate::shelves::Shelf;
 use std::alloc::{AllocError, Global};
 
 /// Why a file was not read whole.
-#[derive(Clone, Copy, Debug, PartialEq, Eq)]
+#[derive(Clone, Copy)]
 pub enum ReadRefused {
     /// The shelf had a fault, as where there is no such file.
     ReadFault,

@@ -1,10 +1,10 @@
 ghost use Rattle.std.specs.Prelude.{◌≡◌, ℕ, ◌+◌, ◌-◌, ◌<◌, ◌≤◌, ◌⊎◌, List, Option, Some, None, length, take, drop, IfOk, OnOk, OnErr, IsErr};
-ghost use Rattle.nj_outside.specs.Fnv.{fnv_of};
+ghost use Rattle.nj_bytes.specs.Fnv.{fnv_of};
 ghost use Rattle.nj_outside.specs.Rise.{Rose};
 ghost use Rattle.nj_outside.specs.Told.{Files, bytes_at, put_file_from};
 
 /// A call of the outside that failed.
-#[derive(Clone, Copy, Debug, PartialEq, Eq)]
+#[derive(Clone, Copy)]
 pub struct Failed;
 
 /// Files by name, read and put piece by piece.

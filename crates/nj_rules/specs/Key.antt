@@ -2,7 +2,7 @@
 -- (Fowler, Noll and Vo).
 use Rattle.std.specs.Prelude.{ℕ, ◌+◌, ◌/◌, ◌%◌, ◌^◌, ◌==◌, List, ◌++◌, take, slice_range, flat_map, if◌then◌else◌}
 use Rattle.std.specs.Int.{to_le_bytes, w128}
-use Rattle.nj_outside.specs.Fnv.{fnv_of}
+use Rattle.nj_bytes.specs.Fnv.{fnv_of}
 use Rattle.nj_rules.specs.declared.record.HashItem.{HashItem}
 
 -- the bytes that the item names, by address, both ends included

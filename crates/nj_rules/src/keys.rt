@@ -1,10 +1,10 @@
 ghost use Rattle.std.specs.Prelude.{◌≡◌, ◌≤◌, ◌<◌, ◌%◌, ◌^◌, ◌++◌, length, flat_map};
-ghost use Rattle.nj_outside.specs.Fnv.{fnv_of};
+ghost use Rattle.nj_bytes.specs.Fnv.{fnv_of};
 ghost use Rattle.nj_rules.specs.Key.{item_bytes, key_bytes, key_in};
 ghost use Rattle.nj_rules.specs.Limits.{AreItemsInRange};
 
 use crate::record::{HashItem, HashItems, Status};
-use nj_outside::{fnv, fnv_on};
+use nj_bytes::{fnv, fnv_on};
 
 /// The key of a state whose working memory is `ram` and whose status is `status`, of a script with so
 /// many rules.
@@ -33,7 +33,7 @@ fn state_hash(items: &[HashItem], rules: u32, ram: &[u8], status: Status) -> u64
 }
 
 // The hash of the items' bytes.
-#[tactic(auto, unfolding(nj_outside::specs::Fnv::fnv_of, nj_outside::specs::Fnv::fnv_from))]
+#[tactic(auto, unfolding(nj_bytes::specs::Fnv::fnv_of, nj_bytes::specs::Fnv::fnv_from))]
 fn memory_hash(items: &[HashItem], ram: &[u8]) -> u64
     requires ram { length ram.now ≡ 2048 }
     requires items { AreItemsInRange items.now }

@@ -33,7 +33,7 @@ pub struct Weight {
 }
 
 /// The rules satisfied so far: bit k is 1 where rule k is.
-#[derive(Clone, Copy, Debug, PartialEq, Eq)]
+#[derive(Clone, Copy)]
 pub struct Status(pub u128);
 
 /// What the satisfied rules come to.
@@ -45,7 +45,7 @@ pub enum Verdict {
 }
 
 /// A state as the rules judge it.
-#[derive(Clone, Copy, Debug, PartialEq, Eq)]
+#[derive(Clone, Copy)]
 pub struct Judged {
     pub status: Status,
     pub verdict: Verdict,

@@ -2,7 +2,7 @@
 use Rattle.std.proofs.Common.{◌≡◌, ◌⊎◌, inl, inr, ℕ, ◌+◌, ◌≤◌, ◌==◌, ◌||◌, Bool, true, false, List, [], ◌∷◌, ◌++◌, length, take, refl, sym, ap, ◌∙◌, arith, ltb-false, eqb-true}
 use Rattle.std.specs.Prelude.{Option, None, Some, Ok, if◌then◌else◌}
 use Rattle.std.proofs.lemmas.Bool.{not-false, or_cases, cond-true, cond-false}
-use Rattle.nj_outside.specs.Fnv.{fnv_of}
+use Rattle.nj_bytes.specs.Fnv.{fnv_of}
 use Rattle.nj_saved.specs.declared.saved.Saved.{Saved}
 use Rattle.nj_saved.specs.declared.refusal.SavedRefused.{SavedRefused}
 use Rattle.nj_saved.specs.Fields.{u64_at, version_of, keys_end, contents_of}

@@ -6,7 +6,7 @@ use Rattle.std.proofs.lemmas.Bool.{cases_lt}
 use Rattle.std.proofs.lemmas.List.{take-append-le, drop-take, get_or_past}
 use Rattle.std.proofs.lemmas.List.Elements.{All-append, All-take, All-drop}
 use Rattle.std.proofs.lemmas.Nat.{le_bytes_8}
-use Rattle.nj_outside.specs.Fnv.{fnv_of}
+use Rattle.nj_bytes.specs.Fnv.{fnv_of}
 use Rattle.nj_saved.specs.Fields.{u32_at, u64_at, version_of, words_end, place_of, keys_end, count_of, front_of, step_of}
 use Rattle.nj_saved.specs.Reading.{first_refusal, tests_of}
 use Rattle.nj_saved.proofs.Hash.{same_text}

@@ -4,7 +4,7 @@ use Rattle.std.proofs.lemmas.Nat.{mul-mod_first, mul-mod_second, xor_lt, xor_com
 use Rattle.std.proofs.lemmas.Nat.Bits.{bit_at_xor, bit_at-lt, same_from_bits}
 use Rattle.std.proofs.lemmas.List.Sums.{fold-append}
 use Rattle.std.specs.Int.{bit_at}
-use Rattle.nj_outside.specs.Fnv.{fnv_step, fnv_from, fnv_of}
+use Rattle.nj_bytes.specs.Fnv.{fnv_step, fnv_from, fnv_of}
 
 -- a product by the FNV prime modulo 2^64 is undone by a product by the prime's inverse
 undone : (x : ℕ) → x < 2 ^ 64 → ((x * 1099511628211) % 2 ^ 64 * 14886173955864302971) % 2 ^ 64 ≡ x

@@ -6,7 +6,7 @@ use Rattle.std.proofs.lemmas.Nat.{from_le_bytes-to_le_bytes_4, from_le_bytes-to_
 use Rattle.std.proofs.lemmas.List.Sums.{get_or-le-sum_by}
 use Rattle.std.proofs.lemmas.List.{get_or_past, drop_all}
 use Rattle.std.proofs.lemmas.Bool.{cases_lt, cond-true, cond-false, and_from}
-use Rattle.nj_outside.specs.Fnv.{fnv_of}
+use Rattle.nj_bytes.specs.Fnv.{fnv_of}
 use Rattle.nj_saved.specs.declared.saved.Saved.{Saved}
 use Rattle.nj_saved.specs.Fields.{file_name, is_named, u32_at, u64_at, version_of, step_of, front_of, count_of, words_end, place_of, keys_end, generations_below, contents_of}
 use Rattle.nj_saved.specs.Reading.{first_refusal, accepted_unless, trailing, is_front, identity_tests, size_tests, generations_tests, hash_tests, tail_tests, generation_tests, tests_below, tests_of, saved_of, key_count}

@@ -1,7 +1,7 @@
 use nj_seq::Seq;
 
 /// A search between two steps.
-#[derive(Debug, Drop)]
+#[derive(Drop)]
 pub struct Saved {
     /// The hash of the cartridge file: FNV-1a of 64 bits.
     pub cart: u64,

@@ -6,7 +6,7 @@ ghost use Rattle.nj_saved.specs.Reading.{tail_tests, trailing, hash_tests, first
 
 use crate::SavedRefused;
 use crate::fields::{short, u32_at, u64_at};
-use nj_outside::fnv;
+use nj_bytes::fnv;
 
 // Tests that no bytes stand behind a place.
 fn check_end(file: &[u8], end: usize) -> Result<(), SavedRefused>

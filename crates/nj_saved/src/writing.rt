@@ -2,12 +2,12 @@
 
 ghost use Rattle.std.specs.Prelude.{◌≡◌, ◌++◌, IfOk, is_ok, if◌then◌else◌, length, ◌<◌, ◌^◌, ◌≤◌};
 ghost use Rattle.std.specs.List.{flat_map};
-ghost use Rattle.std.specs.Int.{w64, to_le_bytes};
+ghost use Rattle.std.specs.Int.{w32, w64, to_le_bytes};
 ghost use Rattle.nj_saved.specs.Ranges.{IsInRange, words_of};
 ghost use Rattle.nj_saved.specs.Bytes.{head_bytes, generation_bytes, field_bytes, file_bytes};
 
 use crate::Saved;
-use nj_outside::fnv;
+use nj_bytes::fnv;
 use std::alloc::{AllocError, Global};
 
 /// The version that is written.
@@ -21,6 +21,20 @@ fn words(saved: &Saved) -> u32
     (saved.words.len() / saved.step as usize) as u32
 }
 
+// Adds a number of four bytes.
+fn add_u32(bytes: &mut Vec<u8>, number: u32) -> Result<(), AllocError>
+    ensures { IfOk result (λ done. bytes.new.items ≡ bytes.old.items ++ to_le_bytes w32 number) }
+{
+    bytes.extend_from_slice(&number.to_le_bytes())
+}
+
+// Adds a number of eight bytes.
+fn add_u64(bytes: &mut Vec<u8>, number: u64) -> Result<(), AllocError>
+    ensures { IfOk result (λ done. bytes.new.items ≡ bytes.old.items ++ to_le_bytes w64 number) }
+{
+    bytes.extend_from_slice(&number.to_le_bytes())
+}
+
 // A text that begins with the numbers before the words.
 #[tactic(auto, unfolding(crate::specs::Bytes::head_bytes, crate::specs::Fields::file_name))]
 fn head(alloc: Global, saved: &Saved) -> Result<Vec<u8>, AllocError>
@@ -28,14 +42,14 @@ fn head(alloc: Global, saved: &Saved) -> Result<Vec<u8>, AllocError>
     ensures { IfOk result (λ bytes. bytes.items ≡ head_bytes 2 saved.now) }
 {
     let mut bytes = Vec::from_slice(alloc, b"NJSV")?;
-    bytes.extend_from_slice(&VERSION.to_le_bytes())?;
-    bytes.extend_from_slice(&saved.cart.to_le_bytes())?;
-    bytes.extend_from_slice(&saved.script.to_le_bytes())?;
-    bytes.extend_from_slice(&saved.step.to_le_bytes())?;
-    bytes.extend_from_slice(&words(saved).to_le_bytes())?;
-    bytes.extend_from_slice(&saved.level.to_le_bytes())?;
-    bytes.extend_from_slice(&saved.until.to_le_bytes())?;
-    bytes.extend_from_slice(&(saved.generations.len() as u32).to_le_bytes())?;
+    add_u32(&mut bytes, VERSION)?;
+    add_u64(&mut bytes, saved.cart)?;
+    add_u64(&mut bytes, saved.script)?;
+    add_u32(&mut bytes, saved.step)?;
+    add_u32(&mut bytes, words(saved))?;
+    add_u32(&mut bytes, saved.level)?;
+    add_u32(&mut bytes, saved.until)?;
+    add_u32(&mut bytes, saved.generations.len() as u32)?;
     Ok(bytes)
 }
 
@@ -44,7 +58,7 @@ fn add_keys(bytes: &mut Vec<u8>, keys: &[u64]) -> Result<(), AllocError>
     ensures { IfOk result (λ done. bytes.new.items ≡ bytes.old.items ++ flat_map (to_le_bytes w64) keys.now) }
 {
     for key in keys {
-        bytes.extend_from_slice(&key.to_le_bytes())?;
+        add_u64(bytes, *key)?;
     }
     Ok(())
 }
@@ -55,7 +69,7 @@ fn add_generation(bytes: &mut Vec<u8>, keys: &[u64]) -> Result<(), AllocError>
     requires { length keys.now < 2 ^ 32 }
     ensures { IfOk result (λ done. bytes.new.items ≡ bytes.old.items ++ generation_bytes keys.now) }
 {
-    bytes.extend_from_slice(&(keys.len() as u32).to_le_bytes())?;
+    add_u32(bytes, keys.len() as u32)?;
     add_keys(bytes, keys)
 }
 
@@ -71,6 +85,6 @@ pub fn write_saved(alloc: Global, saved: &Saved) -> Result<Vec<u8>, AllocError>
         add_generation(&mut bytes, keys.as_slice())?;
     }
     let hash = fnv(bytes.as_slice());
-    bytes.extend_from_slice(&hash.to_le_bytes())?;
+    add_u64(&mut bytes, hash)?;
     Ok(bytes)
 }

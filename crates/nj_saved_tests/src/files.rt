@@ -1,4 +1,4 @@
-use nj_outside::fnv;
+use nj_bytes::fnv;
 use nj_saved::SavedRefused::{
     Damaged, NotSaved, OtherCartridge, OtherScript, Range, Short, Trailing, Version,
 };

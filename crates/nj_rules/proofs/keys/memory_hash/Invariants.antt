@@ -1,6 +1,6 @@
 use Rattle.std.proofs.Common.{◌≡◌, drop}
 use Rattle.std.specs.List.{flat_map}
-use Rattle.nj_outside.specs.Fnv.{fnv_from, fnv_of}
+use Rattle.nj_bytes.specs.Fnv.{fnv_from, fnv_of}
 use Rattle.nj_rules.specs.Key.{item_bytes}
 use Rattle.nj_rules.proofs.keys.memory_hash.Given as goal
 

@@ -1,6 +1,6 @@
 use Rattle.std.proofs.Common.{◌≡◌, ℕ, ◌++◌, List, refl}
 use Rattle.std.proofs.lemmas.Grind.{fold-append}
-use Rattle.nj_outside.specs.Fnv.{fnv_from, fnv_of, fnv_step}
+use Rattle.nj_bytes.specs.Fnv.{fnv_from, fnv_of, fnv_step}
 use Rattle.nj_rules.specs.Key.{key_bytes}
 use Rattle.nj_rules.proofs.keys.state_hash.Goals as goal
 

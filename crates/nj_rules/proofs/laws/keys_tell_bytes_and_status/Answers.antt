@@ -2,7 +2,7 @@ use Rattle.std.proofs.Common.{◌≡◌, ◌≢◌, ℕ, ◌<◌, ◌*◌, ◌^�
 use Rattle.std.specs.List.{flat_map}
 use Rattle.std.proofs.lemmas.Bool.Decides.{nat_tests}
 use Rattle.std.proofs.Math.Nat.{mod-lt}
-use Rattle.nj_outside.specs.Fnv.{fnv_step, fnv_from, fnv_of}
+use Rattle.nj_bytes.specs.Fnv.{fnv_step, fnv_from, fnv_of}
 use Rattle.nj_rules.specs.declared.record.HashItem.{HashItem}
 use Rattle.nj_rules.specs.Key.{item_bytes, status_bytes, key_bytes, key_for, key_in}
 use Rattle.nj_rules.proofs.laws.keys_tell_bytes_and_status.Goals as goal

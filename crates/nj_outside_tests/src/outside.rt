@@ -1,6 +1,6 @@
-use crate::{
-    FileShelf, MemShelf, MemSink, ReadRefused, Sink, StreamSink, WriteFault, put_all, read_all,
-    write_all,
+use nj_memory::{MemShelf, MemSink};
+use nj_outside::{
+    FileShelf, ReadRefused, Sink, StreamSink, WriteFault, put_all, read_all, write_all,
 };
 use std::alloc::{AllocError, Global};
 use std::io::{ErrorKind, Write};

@@ -2,8 +2,8 @@
 use Rattle.std.proofs.Common.{◌≡◌, true, arith, ◌∙◌}
 use Rattle.std.specs.Char.{is_ascii_digit}
 use Rattle.std.specs.List.{list_all}
-use Rattle.nj_outside.proofs.Numbers.{no_decimal, decimal_exactly, parsed}
-use Rattle.nj_outside.proofs.decimals.read_decimal.Goals as goal
+use Rattle.nj_bytes.proofs.Numbers.{no_decimal, decimal_exactly, parsed}
+use Rattle.nj_bytes.proofs.decimals.read_decimal.Goals as goal
 
 pub returns-then-text-gt-MOST_DIGITS-clause-value : goal.returns-then-text-gt-MOST_DIGITS-clause-value
 returns-then-text-gt-MOST_DIGITS-clause-value c = no_decimal _ (λ one. let few = one.few in omega arith)

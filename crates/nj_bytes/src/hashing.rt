@@ -1,5 +1,5 @@
 ghost use Rattle.std.specs.Prelude.{◌≡◌};
-ghost use Rattle.nj_outside.specs.Fnv.{fnv_from, fnv_of};
+ghost use Rattle.nj_bytes.specs.Fnv.{fnv_from, fnv_of};
 
 const FNV_OFFSET_BASIS: u64 = 14_695_981_039_346_656_037;
 

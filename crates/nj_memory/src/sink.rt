@@ -2,10 +2,9 @@ ghost use Rattle.std.specs.Prelude.{◌≡◌, ◌↔◌, ℕ, ◌+◌, ◌<◌,
 ghost use Rattle.std.specs.Result.{result_ok};
 ghost use Rattle.nj_outside.specs.Rise.{Rose, one_more};
 ghost use Rattle.nj_outside.specs.Told.{appended};
-ghost use Rattle.nj_outside.specs.Memory.{MemorySink, IsMemoryWrite};
+ghost use Rattle.nj_memory.specs.Memory.{MemorySink, IsMemoryWrite};
 
-use crate::shelves::Failed;
-use crate::sinks::Sink;
+use nj_outside::{Failed, Sink};
 use std::alloc::Global;
 use std::marker::Model;
 
@@ -22,7 +21,7 @@ pub struct MemSink {
 
 impl Model for MemSink {
     ghost use Rattle.std.specs.Prelude.{◌≤◌};
-    ghost use Rattle.nj_outside.specs.Memory.{MemorySink};
+    ghost use Rattle.nj_memory.specs.Memory.{MemorySink};
 
     ghost Value = { MemorySink };
 

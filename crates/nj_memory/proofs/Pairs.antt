@@ -6,7 +6,7 @@ use Rattle.std.specs.Prelude.{unwrap_or}
 use Rattle.std.proofs.Math.Seq.{map-set_same}
 use Rattle.std.proofs.lemmas.List.{take_all}
 use Rattle.nj_outside.specs.Told.{with_file, bytes_at}
-use Rattle.nj_outside.specs.Memory.{Pair, file_of, named, files_of, NoneBefore, IsFirst}
+use Rattle.nj_memory.specs.Memory.{Pair, file_of, named, files_of, NoneBefore, IsFirst}
 
 -- where no pair has the name there is no such file
 pub none_found : (pairs : List Pair) (name : List ℕ) → NoneBefore pairs name (length pairs)

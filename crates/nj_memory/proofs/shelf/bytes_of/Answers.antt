@@ -1,7 +1,7 @@
 -- The first pair of the name is the file, and without one there is none.
 use Rattle.std.proofs.Common.{sym, ap, ◌∙◌, Some}
-use Rattle.nj_outside.proofs.Pairs.{none_found, first_found}
-use Rattle.nj_outside.proofs.memory_shelf.bytes_of.Goals as goal
+use Rattle.nj_memory.proofs.Pairs.{none_found, first_found}
+use Rattle.nj_memory.proofs.shelf.bytes_of.Goals as goal
 
 pub returns-in-Some : goal.returns-in-Some
 returns-in-Some c =

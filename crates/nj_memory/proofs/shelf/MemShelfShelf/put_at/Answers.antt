@@ -1,7 +1,7 @@
 -- The condition on the place holds of the files inside.
 use Rattle.std.proofs.Common.{sym, ap, Some}
-use Rattle.nj_outside.specs.Memory.{named, files_of}
-use Rattle.nj_outside.proofs.memory_shelf.MemShelfShelf.put_at.Goals as goal
+use Rattle.nj_memory.specs.Memory.{named, files_of}
+use Rattle.nj_memory.proofs.shelf.MemShelfShelf.put_at.Goals as goal
 
 pub put_piece-requires : goal.put_piece-requires
 put_piece-requires c =

@@ -1,7 +1,7 @@
 ghost use Rattle.std.specs.Prelude.{◌≡◌, ◌↔◌, IsSome};
 ghost use Rattle.std.specs.Char.{is_ascii_digit};
 ghost use Rattle.std.specs.List.{list_all};
-ghost use Rattle.nj_outside.specs.Decimal.{IsDecimal, decimal_of};
+ghost use Rattle.nj_bytes.specs.Decimal.{IsDecimal, decimal_of};
 
 /// The most digits of a number. The greatest `u64` has as many.
 const MOST_DIGITS: usize = 20;

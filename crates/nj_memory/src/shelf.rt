@@ -1,12 +1,11 @@
 ghost use Rattle.std.specs.Prelude.{◌≡◌, ◌↔◌, ℕ, ◌+◌, ◌-◌, ◌<◌, ◌≤◌, ◌⊎◌, List, ◌++◌, Option, Some, None, length, min, take, drop, is_err, if◌then◌else◌, option_map, IfOk, IfSome, IfNone, OnOk, OnErr, IsErr, IsTrue, Contains};
-ghost use Rattle.nj_outside.specs.Fnv.{fnv_of};
-ghost use Rattle.nj_outside.specs.Memory.{MemoryShelf, files_of, named, IsFirst, NoneBefore};
+ghost use Rattle.nj_bytes.specs.Fnv.{fnv_of};
+ghost use Rattle.nj_memory.specs.Memory.{MemoryShelf, files_of, named, IsFirst, NoneBefore};
 ghost use Rattle.nj_outside.specs.Rise.{Rose, one_more};
 ghost use Rattle.nj_outside.specs.Told.{Files, bytes_at, put_file_from, with_file};
 
-use crate::hashing::fnv;
-use crate::memory_sink::fails_next;
-use crate::shelves::{Failed, Shelf};
+use crate::sink::fails_next;
+use nj_outside::{Failed, Shelf, fnv};
 use std::alloc::{AllocError, Global};
 use std::marker::Model;
 
@@ -28,7 +27,7 @@ pub struct MemShelf {
 
 impl Model for MemShelf {
     ghost use Rattle.std.specs.Prelude.{◌≤◌};
-    ghost use Rattle.nj_outside.specs.Memory.{MemoryShelf, named};
+    ghost use Rattle.nj_memory.specs.Memory.{MemoryShelf, named};
 
     ghost Value = { MemoryShelf };
 

@@ -7,7 +7,7 @@ use Rattle.std.specs.Result.{OkIff, result_ok}
 use Rattle.std.specs.Str.Parse.{digits_value, ParsesUnsigned}
 use Rattle.std.proofs.lemmas.Bool.Decides.{nat_tests}
 use Rattle.std.proofs.lemmas.Str.Parse.{IsNumeralModel, numerals_by_value, parse_digits}
-use Rattle.nj_outside.specs.Decimal.{IsDecimal, is_decimal, decimal_of}
+use Rattle.nj_bytes.specs.Decimal.{IsDecimal, is_decimal, decimal_of}
 
 -- the digits that the test passes are the numerals of std
 numerals : IsNumeralModel (λ text. list_all is_ascii_digit text ≡ true) (digits_value 10)

@@ -2,9 +2,9 @@
 use Rattle.std.proofs.Common.{◌≡◌, ap, ◌∙◌, length, take, ◌++◌, refl, inl, inr}
 use Rattle.std.proofs.lemmas.Result.{on_ok_weaker, on_err_weaker}
 use Rattle.nj_outside.specs.Told.{bytes_at}
-use Rattle.nj_outside.specs.Memory.{Pair, named, files_of, IsFirst}
-use Rattle.nj_outside.proofs.Pairs.{bytes_found, piece_put, piece_kept, new_put}
-use Rattle.nj_outside.proofs.memory_shelf.put_piece.Goals as goal
+use Rattle.nj_memory.specs.Memory.{Pair, named, files_of, IsFirst}
+use Rattle.nj_memory.proofs.Pairs.{bytes_found, piece_put, piece_kept, new_put}
+use Rattle.nj_memory.proofs.shelf.put_piece.Goals as goal
 
 pub put_bytes-requires : goal.put_bytes-requires
 put_bytes-requires c =
