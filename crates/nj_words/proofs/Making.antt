@@ -1,13 +1,25 @@
 -- From what a form takes to a command, and from a command to the reading.
-use Rattle.std.proofs.Common.{◌≡◌, ◌∙◌, [], ◌∷◌, List, Some, None, String, ap, arith, codes, false, length, refl, string_bytes, sym}
+use Rattle.std.proofs.Common.{◌≡◌, ◌∙◌, [], ◌∷◌, List, Some, None, String, ap, arith, codes, false, length, refl, string_bytes, subst, sym}
 use Rattle.std.proofs.lemmas.Bool.{false_from_ne_true}
-use Rattle.std.specs.Prelude.{option_and_then}
+use Rattle.std.specs.Prelude.{option_and_then, Result, Err}
+use Rattle.std.specs.Result.{IsErrAnd}
 use Rattle.std.specs.Borrow.{Bor}
 use Rattle.std.specs.Str.{bytes_eq}
 use Rattle.nj_words.specs.Words.{Taken, Word, taken}
 use Rattle.nj_words.specs.Commands.{Row, asm_row, check_row, clean_row, command_of, play_row, reading, replay_row, resume_row, search_row, trace_row, watch_row, workload_row}
 use Rattle.nj_words.specs.Parser.{form_of, words_of}
+use Rattle.nj_words.specs.declared.Command.{Command}
+use Rattle.nj_words.specs.declared.refused.WordsRefused.{WordsRefused}
+use Rattle.nj_words.specs.declared.refused.WordsRefused.TheVariants.{NoMemory, Usage}
 use Rattle.nj_words.proofs.Lookups.{same_word}
+
+no_such : {X : Type 0} → Usage ≡ NoMemory → X
+no_such same = absurd (cc)
+
+-- want of memory is no usage
+pub not_usage : {X : Type 0} (result : Result Command WordsRefused) → IsErrAnd result (λ e. e ≡ NoMemory)
+    → result ≡ Err Usage → X
+not_usage result want usage = no_such (subst (λ r. IsErrAnd r (λ e. e ≡ NoMemory)) usage want)
 
 -- the form takes nothing from the words
 pub none_made : (row : Row) (names options : List (Bor Word)) (words : List Word) → form_of names options ≡ row.form

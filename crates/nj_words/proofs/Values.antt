@@ -3,7 +3,7 @@ use Rattle.std.proofs.Common.{◌≡◌, ◌∙◌, ◌<◌, ℕ, List, Option, 
 use Rattle.std.specs.Prelude.{option_and_then, option_map, slice_get, unwrap_or}
 use Rattle.std.specs.Borrow.{Bor}
 use Rattle.std.proofs.lemmas.Option.{slice_get-get_or, slice_get-map}
-use Rattle.nj_outside.specs.Decimal.{decimal_of}
+use Rattle.nj_bytes.specs.Decimal.{decimal_of}
 use Rattle.nj_words.specs.Words.{Word, is_nonempty}
 use Rattle.nj_words.specs.Options.{in_range, name_or_none, number_in, number_or}
 

@@ -2,7 +2,7 @@
 use Rattle.std.specs.Prelude.{◌≤◌, ℕ, List, [], ◌∷◌, Option, Some, None, codes, find, option_and_then}
 use Rattle.std.specs.Prelude.{Bool, false, nat_lt, option_map, slice_get, unwrap_or}
 use Rattle.std.specs.Str.{bytes_eq}
-use Rattle.nj_outside.specs.Decimal.{decimal_of}
+use Rattle.nj_bytes.specs.Decimal.{decimal_of}
 use Rattle.nj_words.specs.Words.{Form, Taken, Word, taken}
 use Rattle.nj_words.specs.Options.{name_or_none, number_or, value_at}
 use Rattle.nj_words.specs.declared.Command.{Command}

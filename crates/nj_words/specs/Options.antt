@@ -1,7 +1,7 @@
 -- The values of the options that a command was given: numbers in a range, and names.
 use Rattle.std.specs.Prelude.{◌&&◌, ℕ, Option, Some, None, if◌then◌else◌, nat_le, option_and_then}
 use Rattle.std.specs.Prelude.{slice_get, unwrap_or}
-use Rattle.nj_outside.specs.Decimal.{decimal_of}
+use Rattle.nj_bytes.specs.Decimal.{decimal_of}
 use Rattle.nj_words.specs.Words.{Taken, Word, is_nonempty}
 
 -- the value of the option at a place of the form, or none where the option does not stand; our own

@@ -92,7 +92,8 @@ fn parsed<'a>(
 fn is_open_option(word: &str) -> bool
     ensures { result ≡ is_open_option word.now }
 {
-    word.starts_with("--") && !word.as_bytes().contains(&b'=')
+    let bytes = word.as_bytes();
+    bytes.starts_with(b"--") && !bytes.contains(&b'=')
 }
 
 // Whether a lone `-` stands where an option waits for its value, which the parser would take.

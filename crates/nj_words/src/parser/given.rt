@@ -1,7 +1,7 @@
 ghost use Rattle.std.specs.Prelude.{◌≡◌, ◌<◌, ◌≤◌, ◌^◌, ◌++◌, Err, IfOk, IfSome, None, Some};
 ghost use Rattle.std.specs.Prelude.{length, option_map, true};
 ghost use Rattle.clap.specs.Walk.{texts};
-ghost use Rattle.nj_outside.specs.Decimal.{decimal_of};
+ghost use Rattle.nj_bytes.specs.Decimal.{decimal_of};
 ghost use Rattle.nj_words.specs.Words.{is_distinct};
 ghost use Rattle.nj_words.specs.Commands.{name_at};
 ghost use Rattle.nj_words.specs.Options.{in_range, name_or_none, number_in, number_or, value_at};
@@ -10,7 +10,7 @@ ghost use Rattle.nj_words.specs.declared.refused.WordsRefused.TheVariants.{Usage
 
 use super::{has_lone_value, names_read, parsed, values_read};
 use crate::refused::WordsRefused;
-use nj_outside::read_decimal;
+use nj_bytes::read_decimal;
 use nj_seq::Text;
 use std::alloc::{AllocError, Global};
 

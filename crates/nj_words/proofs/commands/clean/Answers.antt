@@ -1,18 +1,41 @@
-use Rattle.std.proofs.Common.{◌∙◌, Some, rules, sym}
+use Rattle.std.proofs.Common.{Some, rules, sym, ◌++◌, ◌∙◌}
+use Rattle.clap.specs.Walk.{texts}
+use Rattle.nj_words.specs.Words.{is_distinct}
 use Rattle.nj_words.specs.Commands.{clean_row}
-use Rattle.nj_words.specs.Parser.{taken_of, words_of}
+use Rattle.nj_words.specs.Parser.{form_of, taken_of, words_of}
 use Rattle.nj_words.specs.declared.Command.TheVariants.{Clean}
-use Rattle.nj_words.proofs.Making.{all_made, none_made}
+use Rattle.nj_words.proofs.Making.{all_made, none_made, not_usage}
 use Rattle.nj_words.proofs.commands.clean.Goals as goal
 
 pub returns-in_err-given-clause-usage : goal.returns-in_err-given-clause-usage
 returns-in_err-given-clause-usage c = λ usage.
-    none_made clean_row c.as_slice.result.now c.as_slice-2.result.now (words_of c.args.words.now) (search rules)
+    none_made clean_row c.as_slice.result.now c.as_slice-2.result.now (words_of c.args.words.now)
+    (λ i. form_of (c.as_slice.ensures i) (c.as_slice-2.ensures i))
     (c.in_err-given.ensures.usage (search rules))
 
 pub returns-clause-read : goal.returns-clause-read
 returns-clause-read c =
     all_made clean_row c.as_slice.result.now c.as_slice-2.result.now (words_of c.args.words.now)
-    (taken_of c.in_ok-given.given) (search rules) c.in_ok-given.ensures.given
+    (taken_of c.in_ok-given.given)
+    (λ i. form_of (c.as_slice.ensures i) (c.as_slice-2.ensures i)) c.in_ok-given.ensures.given
     ∙ (λ i. Some (Clean (sym c.in_ok-name.ensures i) (sym c.in_ok-name-2.ensures i) (sym c.in_ok-name-3.ensures i)
     (sym c.in_ok-name-4.ensures i)))
+
+pub take-requires-clause-distinct : goal.take-requires-clause-distinct
+take-requires-clause-distinct c = λ i. is_distinct (texts (c.as_slice.ensures i) ++ texts (c.as_slice-2.ensures i))
+
+pub returns-in_err-name-clause-usage : goal.returns-in_err-name-clause-usage
+returns-in_err-name-clause-usage c =
+    not_usage c.from_residual-in_err-name.result c.from_residual-in_err-name.ensures.1
+
+pub returns-in_err-name-2-clause-usage : goal.returns-in_err-name-2-clause-usage
+returns-in_err-name-2-clause-usage c =
+    not_usage c.from_residual-in_err-name-2.result c.from_residual-in_err-name-2.ensures.1
+
+pub returns-in_err-name-3-clause-usage : goal.returns-in_err-name-3-clause-usage
+returns-in_err-name-3-clause-usage c =
+    not_usage c.from_residual-in_err-name-3.result c.from_residual-in_err-name-3.ensures.1
+
+pub returns-in_err-name-4-clause-usage : goal.returns-in_err-name-4-clause-usage
+returns-in_err-name-4-clause-usage c =
+    not_usage c.from_residual-in_err-name-4.result c.from_residual-in_err-name-4.ensures.1

@@ -1,20 +1,24 @@
-use Rattle.std.proofs.Common.{◌∙◌, Some, ap, rules, sym}
+use Rattle.std.proofs.Common.{Some, ap, rules, sym, ◌++◌, ◌∙◌}
 use Rattle.std.specs.Prelude.{option_and_then}
+use Rattle.clap.specs.Walk.{texts}
+use Rattle.nj_words.specs.Words.{is_distinct}
 use Rattle.nj_words.specs.Commands.{name_at, search_row}
-use Rattle.nj_words.specs.Parser.{taken_of, words_of}
+use Rattle.nj_words.specs.Parser.{form_of, taken_of, words_of}
 use Rattle.nj_words.specs.declared.Command.TheVariants.{Search}
-use Rattle.nj_words.proofs.Making.{all_made, none_made}
+use Rattle.nj_words.proofs.Making.{all_made, none_made, not_usage}
 use Rattle.nj_words.proofs.commands.search.Goals as goal
 
 pub returns-in_err-given-clause-usage : goal.returns-in_err-given-clause-usage
 returns-in_err-given-clause-usage c = λ usage.
-    none_made search_row c.as_slice.result.now c.as_slice-2.result.now (words_of c.args.words.now) (search rules)
+    none_made search_row c.as_slice.result.now c.as_slice-2.result.now (words_of c.args.words.now)
+    (λ i. form_of (c.as_slice.ensures i) (c.as_slice-2.ensures i))
     (c.in_err-given.ensures.usage (search rules))
 
 pub returns-in_err-options-clause-usage : goal.returns-in_err-options-clause-usage
 returns-in_err-options-clause-usage c = λ usage.
     all_made search_row c.as_slice.result.now c.as_slice-2.result.now (words_of c.args.words.now)
-    (taken_of c.in_ok-given.given) (search rules) c.in_ok-given.ensures.given
+    (taken_of c.in_ok-given.given)
+    (λ i. form_of (c.as_slice.ensures i) (c.as_slice-2.ensures i)) c.in_ok-given.ensures.given
     ∙ ap (option_and_then (λ options. Some (Search (name_at (taken_of c.in_ok-given.given) 0)
     (name_at (taken_of c.in_ok-given.given) 1) (name_at (taken_of c.in_ok-given.given) 2) options)))
     (c.in_err-options.ensures.usage (search rules))
@@ -22,6 +26,22 @@ returns-in_err-options-clause-usage c = λ usage.
 pub returns-clause-read : goal.returns-clause-read
 returns-clause-read c =
     all_made search_row c.as_slice.result.now c.as_slice-2.result.now (words_of c.args.words.now)
-    (taken_of c.in_ok-given.given) (search rules) c.in_ok-given.ensures.given
+    (taken_of c.in_ok-given.given)
+    (λ i. form_of (c.as_slice.ensures i) (c.as_slice-2.ensures i)) c.in_ok-given.ensures.given
     ∙ (λ i. option_and_then (λ options. Some (Search (sym c.in_ok-name.ensures i) (sym c.in_ok-name-2.ensures i)
     (sym c.in_ok-name-3.ensures i) options)) (c.in_ok-options.ensures.read i))
+
+pub take-requires-clause-distinct : goal.take-requires-clause-distinct
+take-requires-clause-distinct c = λ i. is_distinct (texts (c.as_slice.ensures i) ++ texts (c.as_slice-2.ensures i))
+
+pub returns-in_err-name-clause-usage : goal.returns-in_err-name-clause-usage
+returns-in_err-name-clause-usage c =
+    not_usage c.from_residual-in_err-name.result c.from_residual-in_err-name.ensures.1
+
+pub returns-in_err-name-2-clause-usage : goal.returns-in_err-name-2-clause-usage
+returns-in_err-name-2-clause-usage c =
+    not_usage c.from_residual-in_err-name-2.result c.from_residual-in_err-name-2.ensures.1
+
+pub returns-in_err-name-3-clause-usage : goal.returns-in_err-name-3-clause-usage
+returns-in_err-name-3-clause-usage c =
+    not_usage c.from_residual-in_err-name-3.result c.from_residual-in_err-name-3.ensures.1
