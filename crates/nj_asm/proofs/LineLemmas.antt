@@ -5,7 +5,7 @@ use Rattle.nj_asm_lines.specs.declared.syntax.Line.{Line}
 use Rattle.nj_asm.specs.Assembly.{Homes, size_of, is_said, fault_of, refused, refused_or, first_refused, bytes_of, bytes_from}
 
 -- the lines from a place on
-drop_is : (lines : List Line) (i : ℕ) (line : Line) → i < length lines → line ≡ get_or lines i line
+pub drop_is : (lines : List Line) (i : ℕ) (line : Line) → i < length lines → line ≡ get_or lines i line
     → drop i lines ≡ line ∷ drop (i + 1) lines
 drop_is lines i line within is =
     drop-cons lines i line within ∙ ap (λ (l : Line). l ∷ drop (suc i) lines) (sym is)

@@ -40,6 +40,17 @@ operand_text IndY at low high = codes " ($" ++ hex2 low ++ codes "),Y"
 operand_text Indirect at low high = codes " ($" ++ hex4 (low + 256 * high) ++ codes ")"
 operand_text Relative at low high = codes " $" ++ hex4 (branch_target at low)
 
+-- the number in an operand, in hex digits; none where the mode has none
+abbrev pub number_text : Mode → ℕ → ℕ → ℕ → List ℕ
+number_text Implied at low high = []
+number_text Accumulator at low high = []
+number_text Abs at low high = hex4 (low + 256 * high)
+number_text AbsX at low high = hex4 (low + 256 * high)
+number_text AbsY at low high = hex4 (low + 256 * high)
+number_text Indirect at low high = hex4 (low + 256 * high)
+number_text Relative at low high = hex4 (branch_target at low)
+number_text _ at low high = hex2 low
+
 -- a blank and a byte
 abbrev pub spaced : ℕ → List ℕ
 spaced byte = 32 ∷ hex2 byte

@@ -11,7 +11,7 @@ use nj_seq::Seq;
 use std::alloc::Global;
 
 /// The bytes of a source, and the address where they begin.
-#[derive(Debug, Drop)]
+#[derive(Drop)]
 pub struct Assembled {
     pub origin: u16,
     pub bytes: Seq<u8>,

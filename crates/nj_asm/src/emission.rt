@@ -173,21 +173,29 @@ fn branch_byte(at: u32, target: u32) -> u8
     (offset_to(at, target) % 256) as u8
 }
 
+fn push_byte(bytes: &mut Seq<u8>, byte: u8) -> Result<(), AllocError>
+    ensures { OnOk result (bytes.new ≡ bytes.old ++ byte ∷ []) }
+{
+    Ok(bytes.push(byte)?)
+}
+
+// Adds a number mod 65,536, its low byte first.
+fn push_word(bytes: &mut Seq<u8>, word: u32) -> Result<(), AllocError>
+    ensures { OnOk result (bytes.new ≡ bytes.old ++ word % 256 ∷ word / 256 % 256 ∷ []) }
+{
+    bytes.extend_from_slice(&[(word % 256) as u8, (word / 256 % 256) as u8])
+}
+
 fn push_cell(bytes: &mut Seq<u8>, labels: &Labels, at: u32, cell: &Cell) -> Result<(), AllocError>
     requires { at ≤ 65536 }
     ensures { OnOk result (bytes.new ≡ bytes.old ++ cell_bytes (homes labels.now) at cell.now) }
 {
     match cell {
-        Cell::Opcode(code) => bytes.push(*code)?,
-        Cell::Byte(value) => bytes.push((number(labels, value) % 256) as u8)?,
-        Cell::Word(value) => {
-            let word = number(labels, value);
-            bytes.push((word % 256) as u8)?;
-            bytes.push((word / 256 % 256) as u8)?;
-        }
-        Cell::Branch(value) => bytes.push(branch_byte(at, number(labels, value)))?,
+        Cell::Opcode(code) => push_byte(bytes, *code),
+        Cell::Byte(value) => push_byte(bytes, (number(labels, value) % 256) as u8),
+        Cell::Word(value) => push_word(bytes, number(labels, value)),
+        Cell::Branch(value) => push_byte(bytes, branch_byte(at, number(labels, value))),
     }
-    Ok(())
 }
 
 fn push_cells(

@@ -143,8 +143,8 @@ pub fn number_in(labels: &Labels, value: &Value) -> Option<u32>
     match value {
         Value::Literal(number) => Some(*number),
         Value::Label(name) => place_of(labels, name),
-        Value::Low(name) => place_of(labels, name).map(|place| place % 256),
-        Value::High(name) => place_of(labels, name).map(|place| place / 256),
+        Value::Low(name) => Some(place_of(labels, name)? % 256),
+        Value::High(name) => Some(place_of(labels, name)? / 256),
     }
 }
 

@@ -1,8 +1,8 @@
 //! The pieces of a listing's lines, each added at the text's end.
 
-ghost use Rattle.std.specs.Prelude.{◌≡◌, ◌+◌, ◌-◌, ◌*◌, ◌/◌, ◌%◌, ◌<◌, ◌≤◌, ◌++◌, ◌∷◌, [], codes, length, OnOk};
+ghost use Rattle.std.specs.Prelude.{◌≡◌, ◌+◌, ◌-◌, ◌*◌, ◌/◌, ◌%◌, ◌<◌, ◌≤◌, ◌++◌, ◌∷◌, [], ℕ, codes, length, OnOk};
 ghost use Rattle.std.specs.List.{flat_map};
-ghost use Rattle.nj_asm.specs.Listing.{hex_digit, hex2, hex4, branch_target, operand_text, spaced, filling, place_text};
+ghost use Rattle.nj_asm.specs.Listing.{hex_digit, hex2, hex4, branch_target, number_text, operand_text, spaced, filling, place_text};
 
 use nj_isa::Mode;
 use std::alloc::AllocError;
@@ -44,34 +44,40 @@ fn branch_target(at: u32, offset: u8) -> u32
     (at + 2 + u32::from(offset) + sign) % 65_536
 }
 
-fn push_byte_operand(
-    text: &mut Vec<u8>,
-    front: &[u8],
-    byte: u8,
-    back: &[u8],
-) -> Result<(), AllocError>
-    ensures { OnOk result (text.new.items ≡ text.old.items ++ front.now ++ hex2 byte ++ back.now) }
+// The signs before an operand's number, the blank among them, and those behind it.
+#[tactic(auto, unfolding(crate::specs::Listing::operand_text))]
+fn signs(mode: Mode) -> (&'static [u8], &'static [u8])
+    ensures { (at low high : ℕ) → operand_text mode at low high
+        ≡ result.0.now ++ number_text mode at low high ++ result.1.now }
 {
-    text.extend_from_slice(front)?;
-    push_hex2(text, byte)?;
-    text.extend_from_slice(back)
+    match mode {
+        Mode::Implied => (b"", b""),
+        Mode::Accumulator => (b" A", b""),
+        Mode::Immediate => (b" #$", b""),
+        Mode::Zp | Mode::Abs | Mode::Relative => (b" $", b""),
+        Mode::ZpX | Mode::AbsX => (b" $", b",X"),
+        Mode::ZpY | Mode::AbsY => (b" $", b",Y"),
+        Mode::IndX => (b" ($", b",X)"),
+        Mode::IndY => (b" ($", b"),Y"),
+        Mode::Indirect => (b" ($", b")"),
+    }
 }
 
-fn push_word_operand(
-    text: &mut Vec<u8>,
-    front: &[u8],
-    word: u32,
-    back: &[u8],
-) -> Result<(), AllocError>
-    ensures { OnOk result (text.new.items ≡ text.old.items ++ front.now ++ hex4 word ++ back.now) }
+fn push_number(text: &mut Vec<u8>, mode: Mode, at: u32, low: u8, high: u8) -> Result<(), AllocError>
+    requires { at < 65536 }
+    ensures { OnOk result (text.new.items ≡ text.old.items ++ number_text mode at low high) }
 {
-    text.extend_from_slice(front)?;
-    push_hex4(text, word)?;
-    text.extend_from_slice(back)
+    match mode {
+        Mode::Implied | Mode::Accumulator => Ok(()),
+        Mode::Abs | Mode::AbsX | Mode::AbsY | Mode::Indirect => {
+            push_hex4(text, u32::from(low) + 256 * u32::from(high))
+        }
+        Mode::Relative => push_hex4(text, branch_target(at, low)),
+        _ => push_hex2(text, low),
+    }
 }
 
 /// Adds a blank and the operand, if the mode has one.
-#[tactic(auto, unfolding(crate::specs::Listing::operand_text))]
 pub fn push_operand(
     text: &mut Vec<u8>,
     mode: Mode,
@@ -82,22 +88,10 @@ pub fn push_operand(
     requires { at < 65536 }
     ensures { OnOk result (text.new.items ≡ text.old.items ++ operand_text mode at low high) }
 {
-    let word = u32::from(low) + 256 * u32::from(high);
-    match mode {
-        Mode::Implied => Ok(()),
-        Mode::Accumulator => text.extend_from_slice(b" A"),
-        Mode::Immediate => push_byte_operand(text, b" #$", low, b""),
-        Mode::Zp => push_byte_operand(text, b" $", low, b""),
-        Mode::ZpX => push_byte_operand(text, b" $", low, b",X"),
-        Mode::ZpY => push_byte_operand(text, b" $", low, b",Y"),
-        Mode::Abs => push_word_operand(text, b" $", word, b""),
-        Mode::AbsX => push_word_operand(text, b" $", word, b",X"),
-        Mode::AbsY => push_word_operand(text, b" $", word, b",Y"),
-        Mode::IndX => push_byte_operand(text, b" ($", low, b",X)"),
-        Mode::IndY => push_byte_operand(text, b" ($", low, b"),Y"),
-        Mode::Indirect => push_word_operand(text, b" ($", word, b")"),
-        Mode::Relative => push_word_operand(text, b" $", branch_target(at, low), b""),
-    }
+    let (front, back) = signs(mode);
+    text.extend_from_slice(front)?;
+    push_number(text, mode, at, low, high)?;
+    text.extend_from_slice(back)
 }
 
 fn push_spaced(text: &mut Vec<u8>, byte: u8) -> Result<(), AllocError>

@@ -8,7 +8,7 @@ use std::alloc::AllocError;
 
 /// Why a source is refused. Of all refusals the one of the first refused line is told, and of that line's the first in
 /// this order. Lines count from 1.
-#[derive(Clone, Copy, Debug, PartialEq, Eq)]
+#[derive(Clone, Copy)]
 pub enum AsmRefused {
     /// The line has no form of the grammar, is no UTF-8, or has an `.org` that is not the first statement.
     Syntax { line: u64 },

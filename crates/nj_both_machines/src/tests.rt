@@ -322,7 +322,7 @@ nmi:    RTI
 
 // The 16 KiB of a source's program that begins on this page: NMIs go to its fourth byte, resets to its first.
 fn bank(alloc: Global, source: &str, page: u8) -> Result<Vec<u8>, Fail> {
-    let program = assemble(alloc, source.as_bytes())?;
+    let program = assemble(alloc, source.as_bytes()).ok().ok_or("no program")?;
     let mut bytes = Vec::from_slice(alloc, program.bytes.as_slice())?;
     bytes.resize(0x3FFA, 0)?;
     bytes.extend_from_slice(&[0x03, page, 0x00, page, 0x00, page])?;

@@ -1,10 +1,10 @@
 //! The trace of one frame.
 
-ghost use Rattle.std.specs.Prelude.{◌≡◌, ◌≤◌, ◌+◌, ◌-◌, ◌++◌, ◌⊎◌, false, is_some, length, take, get_or, string_bytes, IfOk, MatchResult, Ok, Err};
+ghost use Rattle.std.specs.Prelude.{◌≡◌, ◌≤◌, ◌<◌, ◌+◌, ◌-◌, ◌++◌, ◌⊎◌, ℕ, false, None, is_some, length, take, get_or, string_bytes, IfOk, MatchResult, Ok, Err};
 ghost use Rattle.std.specs.List.{flat_map};
 ghost use Rattle.nj_ines.specs.Cartridge.{IsCartridge};
-ghost use Rattle.nj_machine.specs.State.{is_jammed};
-ghost use Rattle.nj_machine.specs.Frame.{IsReady};
+ghost use Rattle.nj_machine.specs.State.{State, is_jammed};
+ghost use Rattle.nj_machine.specs.Frame.{IsReady, dots_left, play, unit_step};
 ghost use Rattle.nj_machine.specs.Seen.{end_told};
 ghost use Rattle.nj_trace.specs.Units.{frame_units};
 ghost use Rattle.nj_trace.specs.Trace.{unit_line, trace_head, trace_text, movie_units, trace_of};
@@ -18,7 +18,7 @@ use std::alloc::{AllocError, Global};
 use std::sync::ledger::Ledger;
 
 /// Why a frame has no trace.
-#[derive(Clone, Copy, Debug, PartialEq, Eq)]
+#[derive(Clone, Copy)]
 pub enum TraceRefused {
     /// The movie has fewer frames; frames are counted from 1.
     NoFrame { frame: u64, frames: u64 },
@@ -67,6 +67,14 @@ fn is_cartridge(cart: &Cart)
     let _mapper = cart.mapper();
 }
 
+// A unit that does not end its frame leaves fewer dots, and a machine between two units.
+fn units_go_on()
+    ensures nearer { (s t : State) (pad : ℕ) → IsReady s → unit_step pad s ≡ (t, None) → dots_left t < dots_left s }
+    ensures ready { (s t : State) (pad : ℕ) → IsReady s → unit_step pad s ≡ (t, None) → IsReady t }
+{
+    frames_are_units();
+}
+
 // The units of a frame of a machine that is not jammed.
 fn unit_lines<L: Ledger>(
     alloc: Global,
@@ -81,7 +89,7 @@ fn unit_lines<L: Ledger>(
     ensures frames { steps.new ≤ steps.old + 1 }
     ensures never_falls { steps.old ≤ steps.new }
 {
-    frames_are_units();
+    units_go_on();
     let mut seen = UnitSeen::new();
     let mut text = Vec::new(alloc);
     let mut count = 0;
@@ -117,6 +125,42 @@ fn frame_lines<L: Ledger>(
     unit_lines(alloc, machine, pad, steps)
 }
 
+// The machine that a movie leaves is between two units.
+fn is_ready(cart: &Cart, pads: &[Pad])
+    ensures { IsReady (play cart.now pads.now) }
+{
+    frames_keep_the_cartridge();
+    is_cartridge(cart);
+}
+
+// The machine after a movie.
+fn played<L: Ledger>(
+    alloc: Global,
+    cart: &Cart,
+    pads: &[Pad],
+    steps: &mut Steps<L>,
+) -> Result<Machine, AllocError>
+    ensures played { IfOk result (λ machine. machine ≡ play cart.now pads.now) }
+    ensures ready { IfOk result (λ machine. IsReady machine) }
+    ensures frames { steps.new ≤ steps.old + length pads.now }
+    ensures never_falls { steps.old ≤ steps.new }
+{
+    is_ready(cart, pads);
+    let mut machine = Machine::power_on(alloc, cart)?;
+    machine.play(pads, steps);
+    Ok(machine)
+}
+
+// The first line of a frame's trace, and its units' lines.
+fn with_head(alloc: Global, frame: u32, lines: &Lines) -> Result<Vec<u8>, AllocError>
+    ensures { IfOk result (λ text. text.items ≡ trace_head frame lines.now.count ++ lines.now.text.items) }
+{
+    let mut text = Vec::new(alloc);
+    text.extend_from_slice(trace_head(alloc, frame, lines.count)?.as_bytes())?;
+    text.extend_from_slice(lines.text.as_slice())?;
+    Ok(text)
+}
+
 #[tactic(auto, unfolding(crate::specs::Trace::trace_text, crate::specs::Trace::movie_units))]
 fn traced<L: Ledger>(
     alloc: Global,
@@ -131,16 +175,10 @@ fn traced<L: Ledger>(
     ensures frames { steps.new ≤ steps.old + frame }
     ensures never_falls { steps.old ≤ steps.new }
 {
-    frames_keep_the_cartridge();
-    is_cartridge(cart);
     let before = frame as usize - 1;
-    let mut machine = Machine::power_on(alloc, cart)?;
-    machine.play(&pads[..before], steps);
+    let mut machine = played(alloc, cart, &pads[..before], steps)?;
     let lines = frame_lines(alloc, &mut machine, pads[before], steps)?;
-    let mut text = Vec::new(alloc);
-    text.extend_from_slice(trace_head(alloc, frame, lines.count)?.as_bytes())?;
-    text.extend_from_slice(lines.text.as_slice())?;
-    Ok(text)
+    with_head(alloc, frame, &lines)
 }
 
 /// The text of one frame of a movie, unit by unit; the first frame is 1. At most so many frames are run, and none

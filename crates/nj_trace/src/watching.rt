@@ -72,6 +72,24 @@ fn push_line(
     text.extend_from_slice(b"\n")
 }
 
+// The first line, and the values before the movie.
+fn first_lines(
+    alloc: Global,
+    frames: usize,
+    properties: &[Property],
+    ram: &[u8],
+) -> Result<Vec<u8>, AllocError>
+    requires ram { length ram.now ≡ 2048 }
+    requires placed { All IsPlaced properties.now }
+    ensures { IfOk result (λ text. text.items
+        ≡ watch_head frames (length properties.now) ++ watch_line properties.now 0 ram.now) }
+{
+    let mut text = Vec::new(alloc);
+    text.extend_from_slice(watch_head(alloc, frames, properties.len())?.as_bytes())?;
+    push_line(alloc, properties, 0, ram, &mut text)?;
+    Ok(text)
+}
+
 /// The text of a script's properties after each frame of a movie, the first line before it. It runs a frame for each
 /// pad.
 #[tactic(auto, unfolding(crate::specs::Watch::watch_text))]
@@ -89,9 +107,7 @@ pub fn watch<L: Ledger>(
     let properties = script.properties();
     let pads = movie.pads();
     let mut machine = Machine::power_on(alloc, cart)?;
-    let mut text = Vec::new(alloc);
-    text.extend_from_slice(watch_head(alloc, pads.len(), properties.len())?.as_bytes())?;
-    push_line(alloc, properties, 0, machine.ram(), &mut text)?;
+    let mut text = first_lines(alloc, pads.len(), properties, machine.ram())?;
     for (frame, pad) in pads.iter().enumerate() {
         machine.frame(*pad, steps);
         push_line(alloc, properties, frame + 1, machine.ram(), &mut text)?;

@@ -1,7 +1,7 @@
-use Rattle.std.proofs.Common.{◌≡◌, ◌<◌, ◌≤◌, ◌+◌, ◌*◌, length, get_or, take, drop, refl, ap, sym, ◌∙◌, subst, arith}
-use Rattle.std.proofs.lemmas.List.{get_or_default}
-use Rattle.nj_clean.specs.Presses.{buttons_of, presses}
-use Rattle.nj_clean.specs.Sweeps.{swept}
+use Rattle.std.proofs.Common.{◌≡◌, ◌<◌, ◌≤◌, ◌+◌, ◌*◌, List, ℕ, length, fold, get_or, take, drop, refl, ap, sym, ◌∙◌, subst, arith}
+use Rattle.std.proofs.lemmas.List.{get_or_default, drop_all}
+use Rattle.nj_clean.specs.Presses.{buttons_of, presses_from, presses}
+use Rattle.nj_clean.specs.Sweeps.{tried, swept}
 use Rattle.nj_clean.specs.Bench.{plan_in, StandsAt}
 use Rattle.nj_clean.proofs.Words.{buttons_in, presses_count}
 use Rattle.nj_clean.proofs.Standing.{take_fewer}
@@ -54,3 +54,36 @@ loop-step-preserved g c =
           told.frames);
       never_falls = omega (arith, inv.never_falls, told.never_falls);
     }
+
+pub sweep_step-at-requires-clause-order : goal.sweep_step-at-requires-clause-order
+sweep_step-at-requires-clause-order g c = c.loop-step.invariant.order
+
+pub sweep_step-at-requires-clause-step : goal.sweep_step-at-requires-clause-step
+sweep_step-at-requires-clause-step g c =
+    omega (arith, c.loop-step-test.true, c.len-step-end.ensures, c.loop-step.invariant.long)
+
+pub sweep_step-at-requires-clause-stands : goal.sweep_step-at-requires-clause-stands
+sweep_step-at-requires-clause-stands g c = c.loop-step.invariant.stands
+
+pub sweep_step-at-requires-clause-won : goal.sweep_step-at-requires-clause-won
+sweep_step-at-requires-clause-won g c = c.loop-step.invariant.won
+
+pub returns-clause-word : goal.returns-clause-word
+returns-clause-word g c =
+    let word = c.loop-step.won.word.items in
+    let past : length word ≤ c.loop-step.step =
+    omega (arith, c.loop-step-test.false, c.len-step-end.ensures, c.loop-step.invariant.long) in
+    sym (ap (λ (ws : List ℕ). fold (tried (plan_in c.args.setting)) word (presses_from c.loop-step.step ws))
+    (drop_all c.loop-step.step word past)) ∙ c.loop-step.invariant.word
+
+pub returns-clause-won : goal.returns-clause-won
+returns-clause-won g c = c.loop-step.invariant.won
+
+pub returns-clause-stands : goal.returns-clause-stands
+returns-clause-stands g c = c.loop-step.invariant.stands.stands
+
+pub returns-clause-frames : goal.returns-clause-frames
+returns-clause-frames g c = omega (arith, c.loop-step.invariant.frames)
+
+pub returns-clause-never_falls : goal.returns-clause-never_falls
+returns-clause-never_falls g c = c.loop-step.invariant.never_falls

@@ -85,3 +85,23 @@ loop-bench-preserved g c =
           inv.within inv.frames ran;
       never_falls = omega (arith, inv.never_falls, c.sweep.ensures.never_falls);
     }
+
+pub sweep-requires-clause-stands : goal.sweep-requires-clause-stands
+sweep-requires-clause-stands g c = c.loop-bench.invariant.stands
+
+pub sweep-requires-clause-won : goal.sweep-requires-clause-won
+sweep-requires-clause-won g c = c.loop-bench.invariant.won
+
+pub returns-in_err-sweep-clause-won : goal.returns-in_err-sweep-clause-won
+returns-in_err-sweep-clause-won g c = c.sweep.ensures.won
+
+pub returns-in_err-sweep-clause-never_falls : goal.returns-in_err-sweep-clause-never_falls
+returns-in_err-sweep-clause-never_falls g c =
+    omega (arith, c.loop-bench.invariant.never_falls, c.sweep.ensures.never_falls)
+
+pub returns-then-left-before-clause-won : goal.returns-then-left-before-clause-won
+returns-then-left-before-clause-won g c = c.sweep.ensures.won
+
+pub returns-then-left-before-clause-never_falls : goal.returns-then-left-before-clause-never_falls
+returns-then-left-before-clause-never_falls g c =
+    omega (arith, c.loop-bench.invariant.never_falls, c.sweep.ensures.never_falls)

@@ -5,7 +5,7 @@ use Rattle.nj_machine.specs.Frame.{dots_left, unit_step}
 use Rattle.nj_trace.specs.Units.{units_from}
 use Rattle.nj_trace.specs.Trace.{unit_line}
 use Rattle.nj_trace.proofs.Wholes.{few_seen, whole_seen}
-use Rattle.nj_trace.proofs.FrameUnits.{UnitLaws, unjammed, few_left, ended_by, goes_by, counted_not, line_on, line_last, count_on, count_last}
+use Rattle.nj_trace.proofs.FrameUnits.{UnitLaws, unjammed, few_left, ended_by, goes_by, counted_once, counted_not, line_on, line_last, count_on, count_last}
 use Rattle.nj_trace.proofs.tracing.unit_lines.Goals as goal
 
 pub loop-text-init : goal.loop-text-init
@@ -41,7 +41,7 @@ push_unit-requires-clause-whole g c e =
 pub returns-then-ends_frame-clause-text : goal.returns-then-ends_frame-clause-text
 returns-then-ends_frame-clause-text g c =
     let laws : UnitLaws =
-    record { nearer = c.frames_are_units.ensures.nearer; ready = c.frames_are_units.ensures.ready } in
+    record { nearer = c.units_go_on.ensures.nearer; ready = c.units_go_on.ensures.ready } in
     let inv = c.loop-text.invariant in
     let ended = ended_by c.unit_step-step.result (sym c.ends_frame.ensures ∙ c.if-ends_frame.true) in
     line_last laws c.args.pad c.loop-text.machine c.unit_step-step.new.self ended.0 c.loop-text.text.items
@@ -52,7 +52,7 @@ returns-then-ends_frame-clause-text g c =
 pub returns-then-ends_frame-clause-count : goal.returns-then-ends_frame-clause-count
 returns-then-ends_frame-clause-count g c =
     let laws : UnitLaws =
-    record { nearer = c.frames_are_units.ensures.nearer; ready = c.frames_are_units.ensures.ready } in
+    record { nearer = c.units_go_on.ensures.nearer; ready = c.units_go_on.ensures.ready } in
     let inv = c.loop-text.invariant in
     let ended = ended_by c.unit_step-step.result (sym c.ends_frame.ensures ∙ c.if-ends_frame.true) in
     count_last laws c.args.pad c.loop-text.machine c.unit_step-step.new.self ended.0 c.loop-text.count _ inv.ready
@@ -61,7 +61,7 @@ returns-then-ends_frame-clause-count g c =
 pub loop-text-preserved : goal.loop-text-preserved
 loop-text-preserved g c =
     let laws : UnitLaws =
-    record { nearer = c.frames_are_units.ensures.nearer; ready = c.frames_are_units.ensures.ready } in
+    record { nearer = c.units_go_on.ensures.nearer; ready = c.units_go_on.ensures.ready } in
     let inv = c.loop-text.invariant in
     let machine = c.loop-text.machine in
     let next = c.unit_step-step.new.self in
@@ -78,3 +78,39 @@ loop-text-preserved g c =
       few = omega (arith, inv.few, laws.nearer machine next c.args.pad inv.ready after);
       steps = c.unit_step-step.ensures.counted ∙ counted_not c.unit_step-step.result c.loop-text.steps test ∙ inv.steps;
     }
+
+pub returns-then-ends_frame-clause-frames : goal.returns-then-ends_frame-clause-frames
+returns-then-ends_frame-clause-frames g c =
+    omega (
+      arith,
+      c.unit_step-step.ensures.counted,
+      counted_once c.unit_step-step.result c.loop-text.steps,
+      c.loop-text.invariant.steps,
+    )
+
+pub returns-then-ends_frame-clause-never_falls : goal.returns-then-ends_frame-clause-never_falls
+returns-then-ends_frame-clause-never_falls g c =
+    omega (arith, c.unit_step-step.ensures.never_falls, c.loop-text.invariant.steps)
+
+pub returns-in_err-push_unit-clause-frames : goal.returns-in_err-push_unit-clause-frames
+returns-in_err-push_unit-clause-frames g c =
+    omega (
+      arith,
+      c.unit_step-step.ensures.counted,
+      counted_once c.unit_step-step.result c.loop-text.steps,
+      c.loop-text.invariant.steps,
+    )
+
+pub returns-in_err-push_unit-clause-never_falls : goal.returns-in_err-push_unit-clause-never_falls
+returns-in_err-push_unit-clause-never_falls g c =
+    omega (arith, c.unit_step-step.ensures.never_falls, c.loop-text.invariant.steps)
+
+pub overflow_add-count : goal.overflow_add-count
+overflow_add-count g c = omega (arith, c.loop-text.invariant.few)
+
+pub loop-text-smaller : goal.loop-text-smaller
+loop-text-smaller g c =
+    let next = c.unit_step-step.new.self in
+    let test = sym c.ends_frame.ensures ∙ c.if-ends_frame.false in
+    c.units_go_on.ensures.nearer c.loop-text.machine next c.args.pad c.loop-text.invariant.ready
+    (c.unit_step-step.ensures.after ∙ ap (λ end. (next, end)) (goes_by c.unit_step-step.result test))

@@ -9,18 +9,15 @@ loop-frame-init g c =
     let cart = c.args.cart.now in
     let movie = c.args.movie.now in
     let properties = c.args.script.now.properties in
-    let line = watch_line c.properties-properties.result.now 0 c.ram.result.now in
+    let shown = c.properties-properties.result.now in
     record {
       text =
-          first_lines cart properties movie c.as_bytes.result.now line c.push_line.new.text.items
-          (c.as_bytes.ensures.value ∙ c.in_ok-watch_head.ensures
-          ∙ ap₂ watch_head (ap length c.pads-pads.ensures.pads) (ap length c.properties-properties.ensures.value))
-          (line_after_is cart properties c.properties-properties.result.now movie 0 c.in_ok-machine.machine
-          c.ram.result.now c.properties-properties.ensures.value
-          c.ram.ensures.bytes c.in_ok-machine.ensures.begun)
-          (c.in_ok-push_line.ensures
-          ∙ ap (λ t. t ++ line)
-          (c.in_ok-extend_from_slice.ensures.items ∙ ap (λ t. t ++ c.as_bytes.result.now) c.new-text.ensures.items));
+          first_lines cart properties movie (watch_head (length c.pads-pads.result.now) (length shown))
+          (watch_line shown 0 c.ram.result.now) c.in_ok-text.text.items
+          (ap₂ watch_head (ap length c.pads-pads.ensures.pads) (ap length c.properties-properties.ensures.value))
+          (line_after_is cart properties shown movie 0 c.in_ok-machine.machine c.ram.result.now
+          c.properties-properties.ensures.value c.ram.ensures.bytes c.in_ok-machine.ensures.begun)
+          c.in_ok-text.ensures;
       machine = c.in_ok-machine.ensures.begun;
       frames = omega arith;
       never_falls = omega arith;
@@ -40,9 +37,9 @@ loop-frame-preserved g c =
     c.loop-frame-test.true c.index-pads-frame.is inv.machine c.frame.ensures.after in
     record {
       text =
-          lines_on (line_after cart properties movie) c.loop-frame.text.items c.push_line-in-loop-frame.new.text.items _
+          lines_on (line_after cart properties movie) c.loop-frame.text.items c.push_line.new.text.items _
           line i (length movie)
-          (omega (arith, c.loop-frame-test.true, ap length c.pads-pads.ensures.pads)) c.in_ok-push_line-2.ensures
+          (omega (arith, c.loop-frame-test.true, ap length c.pads-pads.ensures.pads)) c.in_ok-push_line.ensures
           (line_after_is cart properties c.properties-properties.result.now movie
           (i + 1) c.frame.new.self c.ram-in-loop-frame.result.now
           c.properties-properties.ensures.value c.ram-in-loop-frame.ensures.bytes next) inv.text;
