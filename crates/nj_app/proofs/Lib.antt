@@ -1,9 +1,6 @@
 pub mod Bytes
 pub mod Counters
 pub mod Lines
-pub mod Readers
 pub mod Searching
-pub mod Serving
-pub mod Statuses
 pub mod Workers
 pub mod Works

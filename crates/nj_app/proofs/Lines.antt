@@ -2,11 +2,11 @@
 use Rattle.std.proofs.Common.{◌≡◌, ℕ, List, Some, None, Err, refl}
 use Rattle.nj_outside.specs.Told.{Files}
 use Rattle.nj_app.specs.Answer.{work_of, work_for}
-use Rattle.nj_app.specs.Stops.{Serves, Ends}
-use Rattle.nj_app.specs.Work.{Work}
+use Rattle.nj_tasks.specs.Stops.{Serves, Ends}
+use Rattle.nj_tasks.specs.Work.{Work}
 use Rattle.nj_words.specs.Commands.{reading}
 use Rattle.nj_words.specs.declared.Command.{Command}
-use Rattle.nj_app.specs.declared.stops.Stop.TheVariants as stops
+use Rattle.nj_tasks.specs.declared.stops.Stop.TheVariants as stops
 
 pub work_of_command : (line : List (List ℕ)) (command : Command) → reading line ≡ Some command →
     work_for line ≡ work_of command

@@ -15,7 +15,7 @@ use Rattle.nj_words.specs.declared.SearchOptions.{SearchOptions}
 use Rattle.nj_outside.specs.Told.{Files}
 use Rattle.nj_app.specs.Answer.{answer, work_of}
 use Rattle.nj_app.specs.Search.{search_finding, search_work}
-use Rattle.nj_app.specs.Work.{given}
+use Rattle.nj_tasks.specs.Work.{given}
 use Rattle.nj_app.specs.Workers.{AreOneBesideWorkers, beside_workers}
 use Rattle.nj_app.proofs.Lines.{work_of_command}
 

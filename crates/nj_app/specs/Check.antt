@@ -6,8 +6,8 @@ use Rattle.nj_script.specs.Script.{Record}
 use Rattle.nj_search.specs.Plans.{cost_of}
 use Rattle.nj_texts.specs.Counts.{check_line}
 use Rattle.nj_texts.specs.declared.counts.Counts.{Counts}
-use Rattle.nj_app.specs.Formats.{cart_format, loaded, script_format}
-use Rattle.nj_app.specs.Work.{Finding, Work, both, found_in, text_alone}
+use Rattle.nj_tasks.specs.Formats.{cart_format, loaded, script_format}
+use Rattle.nj_tasks.specs.Work.{Finding, Work, both, found_in, text_alone}
 
 -- the units of 8 KiB of pattern ROM; RAM has none
 abbrev pub chr_units : Cartridge → ℕ

@@ -11,10 +11,10 @@ use Rattle.nj_search_defs.specs.Outcome.{WonAt}
 use Rattle.nj_search.specs.Ends.{outcome_of, reward_in, told_of}
 use Rattle.nj_search.specs.Plans.{Planned, refusal_of}
 use Rattle.nj_search.specs.declared.searching.Outcome.{Outcome}
-use Rattle.nj_app.specs.Formats.{movie_format, reading_of}
+use Rattle.nj_tasks.specs.Formats.{movie_format, reading_of}
 use Rattle.nj_app.specs.Outcomes.{outcome_head, outcome_text}
-use Rattle.nj_app.specs.Replay.{replay_finding}
-use Rattle.nj_app.specs.Work.{Done, done, found_in}
+use Rattle.nj_commands.specs.Replay.{replay_finding}
+use Rattle.nj_tasks.specs.Work.{Done, done, found_in}
 
 -- what is told of the outcome of a planned search
 abbrev pub told : Planned → Outcome

@@ -1,5 +1,5 @@
--- The text of a refused plan, and the lines on `err` that are no refusal's. Our own.
-use Rattle.std.specs.Prelude.{ℕ, List, [], ◌∷◌, ◌++◌, codes}
+-- The text of a refused plan. Our own.
+use Rattle.std.specs.Prelude.{ℕ, List, ◌++◌, codes}
 use Rattle.std.specs.Fmt.{decimal}
 use Rattle.nj_search.specs.declared.planning.PlanRefused.{PlanRefused}
 use Rattle.nj_search.specs.declared.planning.PlanRefused.TheVariants as plans
@@ -16,19 +16,3 @@ plan_refusal (plans.MovieTooLong frames limit) = codes "4 MovieTooLong frames=" 
     (decimal frames ++ (codes " limit=" ++ decimal limit))
 plan_refusal (plans.FrontTooLong front bound) = codes "5 FrontTooLong front=" ++
     (decimal front ++ (codes " bound=" ++ decimal bound))
-
--- the line of words without a reading
-abbrev pub usage_line : List ℕ
-usage_line = codes "nj: usage" ++ 10 ∷ []
-
--- the line of a failed read
-abbrev pub read_fault_line : List ℕ
-read_fault_line = codes "nj: read fault" ++ 10 ∷ []
-
--- the line of a failed write
-abbrev pub write_fault_line : List ℕ
-write_fault_line = codes "nj: write fault" ++ 10 ∷ []
-
--- the line of want of memory
-abbrev pub no_memory_line : List ℕ
-no_memory_line = codes "nj: no memory" ++ 10 ∷ []

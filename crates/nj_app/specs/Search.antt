@@ -17,15 +17,15 @@ use Rattle.nj_search.specs.declared.searching.Outcome.{Outcome}
 use Rattle.nj_search.specs.declared.searching.Outcome.TheVariants.{Limit}
 use Rattle.nj_texts.specs.declared.kinds.Kind.TheVariants as kinds
 use Rattle.nj_words.specs.declared.SearchOptions.{SearchOptions}
-use Rattle.nj_app.specs.Formats.{cart_format, hashed, loaded, movie_format, names_of, saved_format, script_format}
+use Rattle.nj_tasks.specs.Formats.{cart_format, hashed, loaded, movie_format, names_of, saved_format, script_format}
 use Rattle.nj_app.specs.Outcomes.{outcome_status, outcome_text}
 use Rattle.nj_app.specs.Refusals.{plan_refusal}
-use Rattle.nj_app.specs.Work.{Finding, Work, both, found_in, value_told}
-use Rattle.nj_app.specs.declared.commands.search.Found.{Found}
-use Rattle.nj_app.specs.declared.commands.search.SearchFiles.{SearchFiles}
-use Rattle.nj_app.specs.declared.commands.search.SearchInput.{SearchInput}
+use Rattle.nj_tasks.specs.Work.{Finding, Work, both, found_in, value_told}
+use Rattle.nj_app.specs.declared.search.Found.{Found}
+use Rattle.nj_app.specs.declared.search.SearchFiles.{SearchFiles}
+use Rattle.nj_app.specs.declared.search.SearchInput.{SearchInput}
 use Rattle.nj_app.specs.declared.planning.Setting.{Setting}
-use Rattle.nj_app.specs.declared.stops.Put.{Put}
+use Rattle.nj_tasks.specs.declared.stops.Put.{Put}
 
 -- ---- what is searched
 

@@ -2,22 +2,20 @@
 //! its one line of refusal, and answers the exit status; [`run`] does so with as many workers as the words ask for.
 //! What they answer is a function of the words and the files, `answer` in specs/Answer, in which no worker occurs.
 //!
-//! The main idea: what a command does is a term ([`Work`](specs/Work)), which reads files one after another and ends in
-//! a refusal or in what the command finds in what was read (`Finding`). So one reader serves all kinds of file, one
-//! function all commands, and one the end of the call, and a command more is its finding. Read specs/Work first.
+//! The main idea: a command's work is a term over the files (`Work` of nj_tasks), a table gives each command its work,
+//! and the answer is that of the work over the files that are there. The commands that search stand here (`search`,
+//! `resume`, `workload`, and `check`, which counts what a search needs), the others in nj_commands. Read specs/Answer
+//! first.
 #![tactic(auto)]
 
-mod commands;
-mod files;
-mod formats;
-mod jobs;
+mod check;
 mod laws;
 mod outcomes;
 mod planning;
 mod running;
+mod search;
 mod sharing;
-mod stops;
-mod telling;
+mod workload;
 
 pub use laws::{won_text_replays, workers_change_no_answer};
 pub use nj_outside::{Gate, OpenGate, Shelf, Sink};

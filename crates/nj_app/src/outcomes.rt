@@ -1,13 +1,13 @@
 //! The text of an outcome: its first line, and the lines of its movie.
 
 ghost use Rattle.std.specs.Prelude.{◌≡◌, ◌++◌, IfOk};
-ghost use Rattle.nj_app.specs.Causes.{IsCarriedOut};
+ghost use Rattle.nj_tasks.specs.Causes.{IsCarriedOut};
 ghost use Rattle.nj_app.specs.Outcomes.{outcome_head, outcome_lines, outcome_status, outcome_text};
 
-use crate::stops::bytes_of;
 use nj_movie::write_movie;
 use nj_search::Outcome;
 use nj_seq::{Seq, Text};
+use nj_tasks::bytes_of;
 use nj_texts::{exhausted_line, outcome_line};
 use std::alloc::{AllocError, Global};
 

@@ -1,28 +1,22 @@
+//! The top call by one thread.
+
 ghost use Rattle.std.specs.Prelude.{◌≡◌, ◌≢◌, ◌⊎◌, ◌≤◌, ◌+◌, List, ℕ, Some, None, Err, map, string_bytes, Contains, IfOk, IsErrOf};
 ghost use Rattle.nj_outside.specs.Fnv.{fnv_of};
 ghost use Rattle.nj_outside.specs.Rise.{Rose};
 ghost use Rattle.nj_outside.specs.Told.{Files, appended};
-ghost use Rattle.nj_app.specs.Answer.{answer, frames_of, file_names, save_name, work_of, work_for};
-ghost use Rattle.nj_app.specs.Causes.{statuses, IsAnswered, IsPlain, Settles, IsCutShort, IsUnsaved, IsCarriedOut, IsOfCommand};
-ghost use Rattle.nj_app.specs.Causes.{IsOfSaving, IsSavedAs, fixed_line, line_for, put_by, saves_as};
-ghost use Rattle.nj_app.specs.Stops.{Serves};
-ghost use Rattle.nj_app.specs.Work.{given, Reaches};
+ghost use Rattle.nj_tasks.specs.Causes.{statuses, IsAnswered, IsPlain, Settles, IsCutShort, IsUnsaved, IsCarriedOut};
+ghost use Rattle.nj_tasks.specs.Causes.{IsSavedAs, fixed_line, line_for, put_by};
+ghost use Rattle.nj_tasks.specs.Stops.{Serves};
+ghost use Rattle.nj_tasks.specs.Work.{frames_of, given, Reaches};
 ghost use Rattle.nj_words.specs.Commands.{reading, IsInRange};
+ghost use Rattle.nj_app.specs.Answer.{answer, file_names, save_name, saves_as, work_of, work_for, IsOfCommand, IsOfSaving};
 
-use crate::commands::asm::assembled;
-use crate::commands::check::checked;
-use crate::commands::clean::cleaned;
-use crate::commands::play::played;
-use crate::commands::replay::replayed;
-use crate::commands::search::{resumed, searched};
-use crate::commands::trace::traced;
-use crate::commands::watch::watched;
-use crate::commands::workload::workload;
-use crate::jobs::serve;
-use crate::stops::{Reply, Stop};
-use crate::telling::tell;
+use crate::check::checked;
+use crate::search::{resumed, searched};
+use crate::workload::workload;
 use nj_outside::{Shelf, Sink};
 use nj_steps::Steps;
+use nj_tasks::{Reply, Stop, serve, tell};
 use nj_words::{Command, WordsRefused, read_words};
 use std::alloc::Global;
 use std::sync::ledger::Ledger;
@@ -139,7 +133,7 @@ fn reply_to<S: Shelf, L: Ledger>(
 }
 
 /// The reply to a command.
-#[tactic(auto, unfolding(crate::specs::Answer::work_of, crate::specs::Asm::asm_work, crate::specs::Check::check_work, crate::specs::Clean::clean_work, crate::specs::Play::play_work, crate::specs::Replay::replay_work, crate::specs::Search::search_work, crate::specs::Trace::trace_work, crate::specs::Watch::watch_work, nj_words::specs::Commands::IsInRange))]
+#[tactic(auto, unfolding(crate::specs::Answer::work_of, crate::specs::Check::check_work, crate::specs::Search::search_work, nj_words::specs::Commands::IsInRange))]
 pub fn carry_out<S: Shelf, L: Ledger>(
     alloc: Global,
     command: &Command,
@@ -163,13 +157,6 @@ pub fn carry_out<S: Shelf, L: Ledger>(
     ensures put_faults { S.put_faults shelf.new ≡ S.put_faults shelf.old }
 {
     match command {
-        Command::Play { cart, movie } => serve(alloc, &played(cart, movie), shelf, steps),
-        Command::Replay {
-            cart,
-            script,
-            start,
-            movie,
-        } => serve(alloc, &replayed(cart, script, start, movie), shelf, steps),
         Command::Search {
             cart,
             script,
@@ -188,20 +175,6 @@ pub fn carry_out<S: Shelf, L: Ledger>(
         }
         Command::Check { cart, script } => serve(alloc, &checked(cart, script), shelf, steps),
         Command::Workload { number } => workload(alloc, *number, shelf, steps),
-        Command::Asm { source } => serve(alloc, &assembled(source), shelf, steps),
-        Command::Clean {
-            cart,
-            script,
-            start,
-            movie,
-        } => serve(alloc, &cleaned(cart, script, start, movie), shelf, steps),
-        Command::Trace { cart, movie, frame } => {
-            serve(alloc, &traced(cart, movie, *frame), shelf, steps)
-        }
-        Command::Watch {
-            cart,
-            script,
-            movie,
-        } => serve(alloc, &watched(cart, script, movie), shelf, steps),
+        _ => nj_commands::carry_out(alloc, command, shelf, steps),
     }
 }

@@ -16,16 +16,16 @@ use Rattle.nj_search.specs.Ends.{outcome_of, reward_in, told_of as told_end}
 use Rattle.nj_search.specs.Plans.{Planned}
 use Rattle.nj_search.specs.declared.searching.Outcome.{Outcome}
 use Rattle.nj_search.specs.declared.searching.Outcome.TheVariants.{Won}
-use Rattle.nj_app.specs.Formats.{movie_format, reading_of}
+use Rattle.nj_tasks.specs.Formats.{movie_format, reading_of}
 use Rattle.nj_texts.specs.Laws.{WonTextIsShort}
 use Rattle.nj_texts.specs.Lines.{outcome_line}
 use Rattle.nj_texts.specs.Refusals.{movie_refusal, replay_refusal}
 use Rattle.nj_texts.specs.declared.kinds.Kind.TheVariants as kinds
 use Rattle.nj_app.specs.Laws.{told}
 use Rattle.nj_app.specs.Outcomes.{outcome_head, outcome_text}
-use Rattle.nj_app.specs.Replay.{replay_finding}
-use Rattle.nj_app.specs.declared.formats.TheConstants.{MOVIE}
-use Rattle.nj_app.specs.Work.{Done, accepted, done, answered_by, found_in, refusal_told}
+use Rattle.nj_commands.specs.Replay.{replay_finding}
+use Rattle.nj_tasks.specs.declared.formats.TheConstants.{MOVIE}
+use Rattle.nj_tasks.specs.Work.{Done, accepted, done, answered_by, found_in, refusal_told}
 use Rattle.nj_app.proofs.Bytes.{AreBytes, won_movie_bytes}
 use Rattle.nj_app.proofs.laws.won_text_replays.Goals as goal
 

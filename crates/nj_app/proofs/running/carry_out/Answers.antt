@@ -1,36 +1,12 @@
 -- Each command's work is what it reads and does.
-use Rattle.std.proofs.Common.{◌+◌, ◌≤◌, subst}
-use Rattle.nj_app.specs.Answer.{frames_of}
-use Rattle.nj_app.specs.Stops.{Serves}
-use Rattle.nj_app.specs.Work.{given}
-use Rattle.nj_app.proofs.Works.{asm_is, check_is, clean_is, play_is, replay_is, resume_is, search_is, trace_is, watch_is}
+use Rattle.std.proofs.Common.{◌+◌, ◌≤◌, Contains, map, subst, sym}
+use Rattle.std.specs.Prelude.{IfOk}
+use Rattle.nj_outside.specs.Fnv.{fnv_of}
+use Rattle.nj_tasks.specs.Causes.{IsSavedAs}
+use Rattle.nj_tasks.specs.Stops.{Serves}
+use Rattle.nj_tasks.specs.Work.{frames_of, given}
+use Rattle.nj_app.proofs.Works.{check_is, resume_is, search_is, without_search}
 use Rattle.nj_app.proofs.running.carry_out.Goals as goal
-
-pub returns-in-Play-clause-serves : goal.returns-in-Play-clause-serves
-returns-in-Play-clause-serves g c = λ files told.
-    subst (λ work. Serves files work (g.S.Shelf.failed_read c.serve.new.shelf) c.serve.result)
-    (play_is c.args.command.now _ _ _ _ c.in-Play.is c.played.ensures.cart c.played.ensures.movie)
-    (c.serve.ensures.serves files told)
-
-pub returns-in-Play-clause-frames : goal.returns-in-Play-clause-frames
-returns-in-Play-clause-frames g c = λ files told.
-    subst (λ work. c.serve.new.steps ≤ c.args.steps.now + frames_of (given files work))
-    (play_is c.args.command.now _ _ _ _ c.in-Play.is c.played.ensures.cart c.played.ensures.movie)
-    (c.serve.ensures.frames files told)
-
-pub returns-in-Replay-clause-serves : goal.returns-in-Replay-clause-serves
-returns-in-Replay-clause-serves g c = λ files told.
-    subst (λ work. Serves files work (g.S.Shelf.failed_read c.serve-in-Replay.new.shelf) c.serve-in-Replay.result)
-    (replay_is c.args.command.now _ _ _ _ _ _ _ _ c.in-Replay.is c.replayed.ensures.cart c.replayed.ensures.script
-    c.replayed.ensures.start c.replayed.ensures.movie)
-    (c.serve-in-Replay.ensures.serves files told)
-
-pub returns-in-Replay-clause-frames : goal.returns-in-Replay-clause-frames
-returns-in-Replay-clause-frames g c = λ files told.
-    subst (λ work. c.serve-in-Replay.new.steps ≤ c.args.steps.now + frames_of (given files work))
-    (replay_is c.args.command.now _ _ _ _ _ _ _ _ c.in-Replay.is c.replayed.ensures.cart c.replayed.ensures.script
-    c.replayed.ensures.start c.replayed.ensures.movie)
-    (c.serve-in-Replay.ensures.frames files told)
 
 pub returns-in-Search-clause-serves : goal.returns-in-Search-clause-serves
 returns-in-Search-clause-serves g c = λ files told.
@@ -70,56 +46,35 @@ returns-in-Check-clause-frames g c = λ files told.
     (check_is c.args.command.now _ _ _ _ c.in-Check.is c.checked.ensures.cart c.checked.ensures.script)
     (c.serve-in-Check.ensures.frames files told)
 
-pub returns-in-Asm-clause-serves : goal.returns-in-Asm-clause-serves
-returns-in-Asm-clause-serves g c = λ files told.
-    subst (λ work. Serves files work (g.S.Shelf.failed_read c.serve-in-Asm.new.shelf) c.serve-in-Asm.result)
-    (asm_is c.args.command.now _ _ c.in-Asm.is c.assembled.ensures.source)
-    (c.serve-in-Asm.ensures.serves files told)
+pub returns-in_default-clause-serves : goal.returns-in_default-clause-serves
+returns-in_default-clause-serves g c = λ files told.
+    subst (λ work. Serves files work (g.S.Shelf.failed_read c.carry_out.new.shelf) c.carry_out.result)
+    (without_search c.args.command.now c.in_default.not-Search c.in_default.not-Resume c.in_default.not-Check
+    c.in_default.not-Workload).work
+    (c.carry_out.ensures.serves files told)
 
-pub returns-in-Asm-clause-frames : goal.returns-in-Asm-clause-frames
-returns-in-Asm-clause-frames g c = λ files told.
-    subst (λ work. c.serve-in-Asm.new.steps ≤ c.args.steps.now + frames_of (given files work))
-    (asm_is c.args.command.now _ _ c.in-Asm.is c.assembled.ensures.source)
-    (c.serve-in-Asm.ensures.frames files told)
+pub returns-in_default-clause-saved : goal.returns-in_default-clause-saved
+returns-in_default-clause-saved g c =
+    subst (λ name. IfOk c.carry_out.result (IsSavedAs name))
+    (sym (without_search c.args.command.now c.in_default.not-Search c.in_default.not-Resume c.in_default.not-Check
+    c.in_default.not-Workload).saves)
+    c.carry_out.ensures.saved
 
-pub returns-in-Clean-clause-serves : goal.returns-in-Clean-clause-serves
-returns-in-Clean-clause-serves g c = λ files told.
-    subst (λ work. Serves files work (g.S.Shelf.failed_read c.serve-in-Clean.new.shelf) c.serve-in-Clean.result)
-    (clean_is c.args.command.now _ _ _ _ _ _ _ _ c.in-Clean.is c.cleaned.ensures.cart c.cleaned.ensures.script
-    c.cleaned.ensures.start c.cleaned.ensures.movie)
-    (c.serve-in-Clean.ensures.serves files told)
+pub returns-in_default-clause-not_words : goal.returns-in_default-clause-not_words
+returns-in_default-clause-not_words g c = λ e.
+    (without_search c.args.command.now c.in_default.not-Search c.in_default.not-Resume c.in_default.not-Check
+    c.in_default.not-Workload).needs (c.carry_out.ensures.not_words e)
 
-pub returns-in-Clean-clause-frames : goal.returns-in-Clean-clause-frames
-returns-in-Clean-clause-frames g c = λ files told.
-    subst (λ work. c.serve-in-Clean.new.steps ≤ c.args.steps.now + frames_of (given files work))
-    (clean_is c.args.command.now _ _ _ _ _ _ _ _ c.in-Clean.is c.cleaned.ensures.cart c.cleaned.ensures.script
-    c.cleaned.ensures.start c.cleaned.ensures.movie)
-    (c.serve-in-Clean.ensures.frames files told)
+pub returns-in_default-clause-fault_name : goal.returns-in_default-clause-fault_name
+returns-in_default-clause-fault_name g c = λ e.
+    subst (λ names. Contains (map fnv_of names) (g.S.Shelf.failed_read c.carry_out.new.shelf))
+    (without_search c.args.command.now c.in_default.not-Search c.in_default.not-Resume c.in_default.not-Check
+    c.in_default.not-Workload).names
+    (c.carry_out.ensures.fault_name e)
 
-pub returns-in-Trace-clause-serves : goal.returns-in-Trace-clause-serves
-returns-in-Trace-clause-serves g c = λ files told.
-    subst (λ work. Serves files work (g.S.Shelf.failed_read c.serve-in-Trace.new.shelf) c.serve-in-Trace.result)
-    (trace_is c.args.command.now _ _ _ _ _ _ c.in-Trace.is c.traced.ensures.cart c.traced.ensures.movie
-    c.traced.ensures.frame)
-    (c.serve-in-Trace.ensures.serves files told)
-
-pub returns-in-Trace-clause-frames : goal.returns-in-Trace-clause-frames
-returns-in-Trace-clause-frames g c = λ files told.
-    subst (λ work. c.serve-in-Trace.new.steps ≤ c.args.steps.now + frames_of (given files work))
-    (trace_is c.args.command.now _ _ _ _ _ _ c.in-Trace.is c.traced.ensures.cart c.traced.ensures.movie
-    c.traced.ensures.frame)
-    (c.serve-in-Trace.ensures.frames files told)
-
-pub returns-in-Watch-clause-serves : goal.returns-in-Watch-clause-serves
-returns-in-Watch-clause-serves g c = λ files told.
-    subst (λ work. Serves files work (g.S.Shelf.failed_read c.serve-in-Watch.new.shelf) c.serve-in-Watch.result)
-    (watch_is c.args.command.now _ _ _ _ _ _ c.in-Watch.is c.watched.ensures.cart c.watched.ensures.script
-    c.watched.ensures.movie)
-    (c.serve-in-Watch.ensures.serves files told)
-
-pub returns-in-Watch-clause-frames : goal.returns-in-Watch-clause-frames
-returns-in-Watch-clause-frames g c = λ files told.
-    subst (λ work. c.serve-in-Watch.new.steps ≤ c.args.steps.now + frames_of (given files work))
-    (watch_is c.args.command.now _ _ _ _ _ _ c.in-Watch.is c.watched.ensures.cart c.watched.ensures.script
-    c.watched.ensures.movie)
-    (c.serve-in-Watch.ensures.frames files told)
+pub returns-in_default-clause-frames : goal.returns-in_default-clause-frames
+returns-in_default-clause-frames g c = λ files told.
+    subst (λ work. c.carry_out.new.steps ≤ c.args.steps.now + frames_of (given files work))
+    (without_search c.args.command.now c.in_default.not-Search c.in_default.not-Resume c.in_default.not-Check
+    c.in_default.not-Workload).work
+    (c.carry_out.ensures.frames files told)

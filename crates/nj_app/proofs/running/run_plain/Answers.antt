@@ -2,7 +2,7 @@
 use Rattle.std.proofs.Common.{map, string_bytes, subst, sym}
 use Rattle.nj_outside.specs.Rise.{Rose}
 use Rattle.nj_app.specs.Answer.{work_for}
-use Rattle.nj_app.specs.Work.{Reaches}
+use Rattle.nj_tasks.specs.Work.{Reaches}
 use Rattle.nj_app.proofs.running.run_plain.Goals as goal
 
 pub returns-clause-settled : goal.returns-clause-settled

@@ -2,9 +2,8 @@
 use Rattle.std.proofs.Common.{arith, refl, subst}
 use Rattle.nj_words.specs.Commands.{IsInRange}
 use Rattle.nj_workers.specs.Counted.{AreCounted}
-use Rattle.nj_app.specs.Answer.{frames_of}
-use Rattle.nj_app.specs.Stops.{Serves}
-use Rattle.nj_app.specs.Work.{given}
+use Rattle.nj_tasks.specs.Stops.{Serves}
+use Rattle.nj_tasks.specs.Work.{frames_of, given}
 use Rattle.nj_app.specs.declared.sharing.TheConstants.{COUNTERS}
 use Rattle.nj_app.proofs.Works.{resume_is, search_is}
 use Rattle.nj_app.proofs.Counters.{by_more, first_counted}
