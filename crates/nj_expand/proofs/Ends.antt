@@ -15,7 +15,7 @@ use Rattle.nj_expand.specs.declared.Stepped.TheVariants.{Won, Exhausted, Go}
 use Rattle.nj_expand.specs.Rows.{row_of}
 use Rattle.nj_expand.specs.Held.{Held, live_rows, kept_in, next_in}
 use Rattle.nj_expand.specs.Step.{IsStepBy, IsStep}
-use Rattle.nj_expand.specs.Ending.{AreFew, fresh_rows_in, IsKeptOf}
+use Rattle.nj_expand.specs.Ending.{AreFew, fresh_rows_in}
 use Rattle.nj_search_defs.specs.Quota.{limited}
 use Rattle.nj_search_defs.proofs.Limited.{limited_few}
 use Rattle.nj_expand.proofs.Buckets.{even_buckets}
@@ -170,12 +170,3 @@ none_found rows n is e = none rows (sym is ∙ eqb-true n 0 e) where
 pub some_found : (rows : List Row) (n : ℕ) → n ≡ length rows → (n == 0) ≡ false → 0 < length rows
 some_found [] n is e = absurd (both_ways (n == 0) e (eq-eqb n 0 is))
 some_found (row ∷ rows) n is e = omega arith
-
--- the frames that were run again, as a bound of the search
-pub frames_held : (h now : Held) (kept rows : List Row) (steps old : ℕ) → h ≡ now → AreFew now → Prefers
-    → IsKeptOf now kept → rows ≡ kept
-    → steps ≤ old + h.plan.script.hold * length rows → steps ≤ old + now.plan.script.hold * length (kept_in now)
-frames_held h now kept rows steps old same few law is are ran =
-    let count : length rows ≡ length (kept_in now) = kept_count now rows (are ∙ is.kept ∙ kept_rows_in now few law) in
-    subst (λ n. steps ≤ old + now.plan.script.hold * n) count
-    (subst (λ (x : Held). steps ≤ old + x.plan.script.hold * length rows) same ran)

@@ -7,6 +7,7 @@ pub mod Lifts
 pub mod Agains
 pub mod Ends
 pub mod Nexts
+pub mod Parts
 pub mod Counts
 pub mod Fronts
 pub mod Runs

@@ -21,21 +21,12 @@ use Rattle.nj_pool.specs.Front.{Front, next_front}
 use Rattle.nj_expand.specs.Rows.{row_of, judged_at}
 use Rattle.nj_expand.specs.Held.{Held, kept_in}
 use Rattle.nj_expand.specs.Front.{rom_in, size_in, image_at, IsFront}
-use Rattle.nj_expand.specs.Again.{Before, statuses_of, parent_of, birth_of, state_again, image_again, judged_again, pool_again}
+use Rattle.nj_expand.specs.Again.{Before, before_of, statuses_of, parent_of, birth_of, state_again, image_again, judged_again, pool_again, AreRunFrom}
 use Rattle.nj_expand.specs.Ending.{top_of_rows}
 use Rattle.nj_expand.proofs.Rising.{IsPlaced, stands}
 use Rattle.nj_expand.proofs.Lifts.{map-map, top-map}
 
--- the front's words, states and judgements, as the run of the kept reads them
-abbrev pub before_of : Plan → List Word → Before
-before_of plan words =
-    record {
-      rom = rom_in plan;
-      script = plan.script;
-      images = map (image_at plan) words;
-      statuses = map (status_of plan) words;
-    }
-
+-- the front before, as the run of the kept reads it
 pub before_is : (plan : Plan) (machine : State) (most : ℕ) (pool : Front) (judged shown : List Judged)
     → machine ≡ power_on plan.cartridge → IsFront plan most pool judged → shown ≡ judged
     → (let b : Before = record {
@@ -150,18 +141,43 @@ abbrev pool_next : Plan → List ℕ → ℕ → ℕ → List Word → Front
 pool_next plan base limit depth words =
     record { base = base; limit = limit; images = map (image_at plan) words; words = words; depth = depth; born = [] }
 
+module _ (plan : Plan) (words : List Word) (most : ℕ) (ks : List Candidate) (rows : List Row)
+    (kept : AreKept plan most words ks rows) where
+  placed_within : (c : Candidate) → IsPlaced words c → parent_of (row_of (game_of plan) c) < length words
+  unfolding row_of
+  placed_within c placed = (stands words (c.number / 256) c.parent placed).within
+
+  -- the parents of the kept stand in the front
+  pub rows_within : All (λ row. parent_of row < length words) rows
+  rows_within =
+      subst (All (λ row. parent_of row < length words)) (sym kept.rows_are)
+      (All-map (λ row. parent_of row < length words) (row_of (game_of plan)) ks
+      (All-weaker (IsPlaced words) (λ c. parent_of (row_of (game_of plan) c) < length words)
+      placed_within ks kept.placed))
+
+  born_within : (before : Before) (base : List ℕ) (limit : ℕ)
+      → HaveParents words (let p : Front = pool_again before base limit rows in p.born)
+  unfolding pool_again
+  born_within before base limit = All-map (λ birth. birth.parent < length words) birth_of rows rows_within
+
+  pub have_parents : (before : Before) (base : List ℕ) (limit : ℕ) (other : Front)
+      → other ≡ pool_again before base limit rows → HaveParents words other.born
+  have_parents before base limit other is =
+      subst (λ (p : Front). HaveParents words p.born) (sym is) (born_within before base limit)
+
 module _ (plan : Plan) (laws : AreLawful plan) (most : ℕ) (pool : Front) (judged : List Judged)
     (ks : List Candidate) (rows : List Row)
     (front : IsFront plan most pool judged) (kept : AreKept plan most pool.words ks rows) where
-  pub new_pool : (before : Before) (limit : ℕ) (other new : Front) → before ≡ before_of plan pool.words
-      → other ≡ pool_again before pool.base limit rows → new ≡ next_front pool other
-      → new ≡ pool_next plan pool.base limit (pool.depth + 1) (map word_of ks)
+  pub new_pool : (limit : ℕ) (other new : Front)
+      → other ≡ pool_again (before_of plan pool.words) (image_at plan []) limit rows → new ≡ next_front pool other
+      → new ≡ pool_next plan (image_at plan []) limit (pool.depth + 1) (map word_of ks)
   unfolding pool_again
-  new_pool before limit other new was is next =
+  new_pool limit other new is next =
       next
-      ∙ ap (next_front pool) (is ∙ ap₂ (λ b rs. pool_again b pool.base limit rs) was kept.rows_are)
+      ∙ ap (next_front pool)
+      (is ∙ ap (pool_again (before_of plan pool.words) (image_at plan []) limit) kept.rows_are)
       ∙ (λ i. record {
-        base = pool.base;
+        base = image_at plan [];
         limit = limit;
         images = images_next plan laws pool.words ks kept.placed i;
         words = words_next plan laws pool.words ks kept.placed i;
@@ -169,63 +185,34 @@ module _ (plan : Plan) (laws : AreLawful plan) (most : ℕ) (pool : Front) (judg
         born = [];
       })
 
-  pub new_words : (before : Before) (limit : ℕ) (other new : Front) → before ≡ before_of plan pool.words
-      → other ≡ pool_again before pool.base limit rows → new ≡ next_front pool other
+  pub new_words : (limit : ℕ) (other new : Front)
+      → other ≡ pool_again (before_of plan pool.words) (image_at plan []) limit rows → new ≡ next_front pool other
       → new.words ≡ map word_of ks
-  new_words before limit other new was is next = ap (λ p. p.words) (new_pool before limit other new was is next)
+  new_words limit other new is next = ap (λ p. p.words) (new_pool limit other new is next)
 
-  pub new_front : (before : Before) (len : ℕ) (other new : Front) (told : List Judged)
-      → before ≡ before_of plan pool.words → len ≡ size_in plan → 0 < length ks
-      → other ≡ pool_again before pool.base (most * (len + 16)) rows → new ≡ next_front pool other
-      → told ≡ map (judged_again before) rows → IsFront plan most new told
-  new_front before len other new told was long some is next are =
-      subst (λ p. IsFront plan most p told) (sym (new_pool before (most * (len + 16)) other new was is next))
+  pub new_front : (other new : Front) (told : List Judged) → 0 < length ks
+      → AreRunFrom (before_of plan pool.words) (image_at plan []) (most * (size_in plan + 16)) rows other told
+      → new ≡ next_front pool other → IsFront plan most new told
+  new_front other new told some again next =
+      subst (λ p. IsFront plan most p told)
+      (sym (new_pool (most * (size_in plan + 16)) other new again.pool_is next))
       (record {
         nrom = front.nrom;
         images = refl;
         judged_are =
-            are ∙ ap₂ (λ b rs. map (judged_again b) rs) was kept.rows_are
+            again.judged_are ∙ ap (map (judged_again (before_of plan pool.words))) kept.rows_are
             ∙ judged_next plan laws pool.words ks kept.placed;
         some = omega (arith, length-map ks word_of, some);
         few = omega (arith, length-map ks word_of, kept.few);
-        base = front.base;
-        size = front.size;
-        limit = ap (λ n. most * (n + 16)) long;
+        base = refl;
+        size = sym (ap length front.base) ∙ front.size;
+        limit = refl;
       })
 
-  image_count : length pool.images ≡ length pool.words
-  image_count = ap length front.images ∙ length-map pool.words (image_at plan)
-
-  placed_within : (c : Candidate) → IsPlaced pool.words c → parent_of (row_of (game_of plan) c) < length pool.words
-  unfolding row_of
-  placed_within c placed = (stands pool.words (c.number / 256) c.parent placed).within
-
-  pub rows_within : All (λ row. parent_of row < length pool.words) rows
-  rows_within =
-      subst (All (λ row. parent_of row < length pool.words)) (sym kept.rows_are)
-      (All-map (λ row. parent_of row < length pool.words) (row_of (game_of plan)) ks
-      (All-weaker (IsPlaced pool.words) (λ c. parent_of (row_of (game_of plan) c) < length pool.words)
-      placed_within ks kept.placed))
-
-  pub parents_within : All (λ row. parent_of row < length pool.images) rows
-  parents_within = subst (λ n. All (λ row. parent_of row < n) rows) (sym image_count) rows_within
-
-  born_within : (before : Before) (limit : ℕ)
-      → HaveParents pool.words (let p : Front = pool_again before pool.base limit rows in p.born)
-  unfolding pool_again
-  born_within before limit = All-map (λ birth. birth.parent < length pool.words) birth_of rows rows_within
-
-  pub have_parents : (before : Before) (limit : ℕ) (other : Front) → other ≡ pool_again before pool.base limit rows
-      → HaveParents pool.words other.born
-  have_parents before limit other is =
-      subst (λ (p : Front). HaveParents pool.words p.born) (sym is) (born_within before limit)
-
-  pub room_for : (len : ℕ) → len ≡ size_in plan → length rows * (length pool.base + 16) ≤ most * (len + 16)
-  room_for len long =
-      let count : length rows ≡ length ks = ap length kept.rows_are ∙ length-map ks (row_of (game_of plan)) in
-      let same : length pool.base ≡ len = front.size ∙ sym long in
-      subst (λ n. length rows * (n + 16) ≤ most * (len + 16)) (sym same)
-      (mul-le-mul_right (len + 16) (omega (arith, count, kept.few)))
+-- there are as many images as words
+pub image_count : (plan : Plan) (most : ℕ) (pool : Front) (judged : List Judged) → IsFront plan most pool judged
+    → length pool.images ≡ length pool.words
+image_count plan most pool judged front = ap length front.images ∙ length-map pool.words (image_at plan)
 
 -- ---- the machine
 

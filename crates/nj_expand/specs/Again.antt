@@ -1,13 +1,16 @@
 -- The states of rows, run again from the images and statuses of the front before. All of it is this project's own.
-use Rattle.std.specs.Prelude.{ℕ, ◌/◌, List, [], map, get_or}
+use Rattle.std.specs.Prelude.{◌≡◌, ℕ, ◌+◌, ◌*◌, ◌/◌, ◌≤◌, List, [], length, map, get_or}
+use Rattle.nj_search_defs.specs.Game.{Word}
 use Rattle.nj_machine.specs.State.{State, Rom}
 use Rattle.nj_machine.specs.Image.{image_of, of_image}
 use Rattle.nj_rules.specs.declared.record.Judged.{Judged}
 use Rattle.nj_script.specs.Script.{Record}
-use Rattle.nj_game.specs.Words.{held}
+use Rattle.nj_game.specs.Plan.{Plan}
+use Rattle.nj_game.specs.Words.{held, status_of}
 use Rattle.nj_rows.specs.declared.Row.{Row}
 use Rattle.nj_pool.specs.declared.birth.Birth.{Birth}
-use Rattle.nj_pool.specs.Front.{Front}
+use Rattle.nj_pool.specs.Front.{Front, bytes_held}
+use Rattle.nj_expand.specs.Front.{rom_in, image_at}
 use Rattle.nj_expand.specs.Rows.{judged_at}
 
 -- the front before: what the cartridge fixes, the script, and the images and statuses of the front's states
@@ -16,6 +19,15 @@ pub record Before : Type 0 where
   pub script : Record
   pub images : List (List ℕ)
   pub statuses : List ℕ
+
+-- the front of these words of a plan
+abbrev pub before_of : Plan → List Word → Before
+before_of plan words = record {
+  rom = rom_in plan;
+  script = plan.script;
+  images = map (image_at plan) words;
+  statuses = map (status_of plan) words;
+}
 
 -- the statuses of judgements
 abbrev pub statuses_of : List Judged → List ℕ
@@ -51,3 +63,10 @@ pool_again before base limit rows = record {
   depth = 0;
   born = map birth_of rows;
 }
+
+-- the states of rows are in a pool, each in at most the bytes of an image and 16, and judged
+pub record AreRunFrom (before : Before) (base : List ℕ) (limit : ℕ) (rows : List Row) (pool : Front)
+    (judged : List Judged) : Type 0 where
+  pub pool_is : pool ≡ pool_again before base limit rows
+  pub bytes : bytes_held pool ≤ length rows * (length base + 16)
+  pub judged_are : judged ≡ map (judged_again before) rows

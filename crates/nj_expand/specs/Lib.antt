@@ -6,6 +6,7 @@ pub mod Step
 pub mod Front
 pub mod Table
 pub mod Again
+pub mod Kept
 pub mod Ending
 pub mod Saving
 pub mod Opening

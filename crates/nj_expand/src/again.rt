@@ -1,13 +1,17 @@
 //! The states of the rows that are kept, run again into a new pool.
 
-ghost use Rattle.std.specs.Prelude.{◌≡◌, ◌≤◌, ◌<◌, ◌+◌, ◌*◌, ◌/◌, ◌^◌, [], ◌∷◌, ◌++◌, All, length, map, get_or, IfOk, OnOk};
+ghost use Rattle.std.specs.Prelude.{◌≡◌, ◌≤◌, ◌<◌, ◌+◌, ◌*◌, ◌/◌, ◌^◌, [], ◌∷◌, ◌++◌, All, length, get_or, IfOk, OnOk};
 ghost use Rattle.nj_machine.specs.State.{rom_of};
 ghost use Rattle.nj_machine.specs.Image.{image_len, IsImage};
-ghost use Rattle.nj_pool.specs.Front.{with_birth, bytes_held};
-ghost use Rattle.nj_expand.specs.Again.{Before, statuses_of, parent_of, birth_of, image_again, judged_again, pool_again};
+ghost use Rattle.nj_pool.specs.Front.{with_birth, with_births, bytes_held};
+ghost use Rattle.nj_expand.specs.Again.{Before, statuses_of, parent_of, birth_of, image_again, judged_again, AreRunFrom};
+
+ghost use Rattle.nj_expand.specs.Kept.{IsAgain};
 
 use crate::candidate::run_step;
+use crate::laws::an_image_stands_for_its_word;
 use crate::opening::{image_room, save_into, want_of_memory};
+use crate::search::Search;
 use nj_machine::Machine;
 use nj_pad::Pad;
 use nj_pool::{FrontPool, a_need_is_bounded};
@@ -20,7 +24,7 @@ use std::sync::ledger::Ledger;
 
 /// The states of rows in a pool, and how the rules judge them.
 #[derive(Drop)]
-pub(crate) struct Again {
+pub struct Again {
     pub(crate) pool: FrontPool,
     pub(crate) judged: Vec<Judged>,
 }
@@ -112,51 +116,92 @@ impl Again {
         self.judged.push(judged)?;
         Ok(())
     }
+
+    /// Adds states over the same base, for which there is room, behind these.
+    pub(crate) fn append(&mut self, other: Again) -> Result<(), AllocError>
+        requires base { other.pool.base ≡ self.old.pool.base }
+        requires births { other.pool.words ≡ [] }
+        requires room { bytes_held self.old.pool + bytes_held other.pool ≤ self.old.pool.limit }
+        ensures pool { OnOk result (self.new.pool ≡ with_births self.old.pool other.pool) }
+        ensures judged { OnOk result (self.new.judged.items ≡ self.old.judged.items ++ other.judged.items) }
+    {
+        let Again { pool, judged } = other;
+        match self.pool.append(pool) {
+            Ok(()) => {}
+            Err(refused) => return Err(want_of_memory(refused)),
+        }
+        self.judged.extend_from_slice(judged.as_slice())?;
+        Ok(())
+    }
 }
 
-/// Runs the states of rows again into a pool with this limit, one after another.
-pub(crate) fn run_again<L: Ledger>(
+// Runs the states of rows again into a pool with this limit, one after another.
+fn run_rows<L: Ledger>(
     alloc: Global,
     machine: &mut Machine,
     front: &FrontPool,
     judged: &[Judged],
-    kept: &[Row],
+    rows: &[Row],
     script: &Script,
     limit: u64,
     steps: &mut Steps<L>,
 ) -> Result<Again, AllocError>
-    requires parents { All (λ row. parent_of row < length front.now.images) kept.now }
+    requires parents { All (λ row. parent_of row < length front.now.images) rows.now }
     requires few { length front.now.images ≤ 2 ^ 20 }
     requires judged { length judged.now ≡ length front.now.images }
     requires images { All (IsImage (rom_of machine.old)) front.now.images }
     requires size { length front.now.base ≡ image_len (rom_of machine.old) }
-    requires room { length kept.now * (length front.now.base + 16) ≤ limit }
-    ensures pool { let before : Before = record {
+    requires room { length rows.now * (length front.now.base + 16) ≤ limit }
+    ensures again { let before : Before = record {
       rom = rom_of machine.old;
       script = script.now;
       images = front.now.images;
       statuses = statuses_of judged.now;
     } in
-        IfOk result (λ again. again.pool ≡ pool_again before front.now.base limit kept.now) }
-    ensures judged { let before : Before = record {
-      rom = rom_of machine.old;
-      script = script.now;
-      images = front.now.images;
-      statuses = statuses_of judged.now;
-    } in
-        IfOk result (λ again. again.judged.items ≡ map (judged_again before) kept.now) }
-    ensures frames { steps.new ≤ steps.old + script.now.hold * length kept.now }
+        IfOk result (λ again. AreRunFrom before front.now.base limit rows.now again.pool again.judged.items) }
+    ensures frames { steps.new ≤ steps.old + script.now.hold * length rows.now }
     ensures never_falls { steps.old ≤ steps.new }
 {
     let mut image = image_room(alloc, machine)?;
     let pool = FrontPool::new(alloc, front.base(), limit)?;
     let mut again = Again {
         pool,
-        judged: Vec::new(alloc),
+        judged: Vec::with_capacity(alloc, rows.len())?,
     };
-    for row in kept {
+    for row in rows {
         let told = child_again(machine, front, judged, row, script, &mut image, steps);
         again.push(image.as_slice(), row, told)?;
     }
     Ok(again)
+}
+
+impl Search {
+    /// Runs the states of rows again from the front, one after another, each for the frames of a step. Several threads
+    /// may run others at once.
+    pub fn run_again<L: Ledger>(
+        &self,
+        alloc: Global,
+        rows: &[Row],
+        steps: &mut Steps<L>,
+    ) -> Result<Again, AllocError>
+        requires parents { All (λ row. parent_of row < length self.now.state.front) rows.now }
+        requires few { length rows.now ≤ self.now.bounds.most }
+        ensures again { IfOk result (IsAgain self.now rows.now) }
+        ensures frames { steps.new ≤ steps.old + self.now.plan.script.hold * length rows.now }
+        ensures never_falls { steps.old ≤ steps.new }
+    {
+        an_image_stands_for_its_word();
+        let mut machine = Machine::power_on(alloc, &self.cart)?;
+        let limit = self.bounds.front * (machine.image_len() as u64 + 16);
+        run_rows(
+            alloc,
+            &mut machine,
+            &self.pool,
+            self.judged.as_slice(),
+            rows,
+            &self.script,
+            limit,
+            steps,
+        )
+    }
 }

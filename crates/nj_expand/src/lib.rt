@@ -11,6 +11,7 @@ mod again;
 mod candidate;
 mod children;
 mod ending;
+mod kept;
 mod laws;
 mod movies;
 mod opening;
@@ -19,7 +20,9 @@ mod saving;
 mod search;
 mod tables;
 
+pub use again::Again;
 pub use candidate::expand;
+pub use kept::{Chosen, Kept};
 pub use laws::{
     a_candidate_is_told_by_its_parent, a_front_follows_the_one_before, a_step_is_bounded,
     an_image_stands_for_its_word, live_rows_are_live, live_rows_can_claim, live_rows_come_by_words,

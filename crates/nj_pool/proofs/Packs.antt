@@ -4,7 +4,7 @@ use Rattle.std.specs.Prelude.{sum_by}
 use Rattle.std.specs.List.{All}
 use Rattle.std.proofs.lemmas.List.{map-append}
 use Rattle.std.proofs.lemmas.List.Sums.{sum_by-append}
-use Rattle.std.proofs.lemmas.List.Elements.{All-push}
+use Rattle.std.proofs.lemmas.List.Elements.{All-push, All-append}
 use Rattle.nj_image.specs.Pages.{IsImageSize}
 use Rattle.nj_image.specs.Packing.{packing, unpacked, AreBytes, IsPacking}
 use Rattle.nj_pool.specs.Front.{need, images_in, IsPacked}
@@ -39,6 +39,30 @@ packed_more base room after image packed limit bytes more packings later told pa
         pool.counted,
         ap (sum_by (need base)) images,
         sum_by-append (need base) (images_in base packings) (image ∷ []),
+      );
+      within = within;
+    }
+
+-- the packings of two pools over one base
+pub packed_joined : (base room other_room : List ℕ) (limit other_limit bytes other_bytes more : ℕ)
+    (packings other later : List (List ℕ))
+    → IsPacked base room limit bytes packings → IsPacked base other_room other_limit other_bytes other
+    → later ≡ packings ++ other → more ≡ bytes + other_bytes → more ≤ limit → IsPacked base room limit more later
+packed_joined base room other_room limit other_limit bytes other_bytes more packings other later pool others added
+    counted within =
+    let images : images_in base later ≡ images_in base packings ++ images_in base other =
+    ap (images_in base) added ∙ map-append (unpacked base) packings other in
+    record {
+      size = pool.size;
+      wide = pool.wide;
+      are = subst (All (IsPacking base)) (sym added) (All-append (IsPacking base) packings other pool.are others.are);
+      counted = omega (
+        arith,
+        counted,
+        pool.counted,
+        others.counted,
+        ap (sum_by (need base)) images,
+        sum_by-append (need base) (images_in base packings) (images_in base other),
       );
       within = within;
     }

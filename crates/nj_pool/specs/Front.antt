@@ -36,6 +36,10 @@ with_word image word pool = record pool { images = pool.images ++ image ∷ []; 
 abbrev pub with_birth : List ℕ → Birth → Front → Front
 with_birth image birth pool = record pool { images = pool.images ++ image ∷ []; born = pool.born ++ birth ∷ [] }
 
+-- a pool with the states of another behind its own, which are births
+abbrev pub with_births : Front → Front → Front
+with_births pool other = record pool { images = pool.images ++ other.images; born = pool.born ++ other.born }
+
 -- the states of another pool, born of this front, as the front: each word is its parent's word and its pad
 abbrev pub next_front : Front → Front → Front
 next_front pool other = record other { words = child_words pool.words other.born; depth = pool.depth + 1; born = [] }

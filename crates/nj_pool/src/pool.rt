@@ -2,7 +2,7 @@ ghost use Rattle.std.specs.Prelude.{◌≡◌, ◌+◌, ◌<◌, ◌≤◌, [], 
 ghost use Rattle.nj_image.specs.Pages.{IsImageSize};
 ghost use Rattle.nj_image.specs.Packing.{packing};
 ghost use Rattle.nj_pool.specs.Words.{HaveParents};
-ghost use Rattle.nj_pool.specs.Front.{need, bytes_held, empty_front, with_word, with_birth, next_front, HasRoom};
+ghost use Rattle.nj_pool.specs.Front.{need, bytes_held, empty_front, with_word, with_birth, with_births, next_front, HasRoom};
 ghost use Rattle.nj_pool.specs.Refused.{Refuses, RefusesBy};
 
 use crate::birth::Birth;
@@ -117,6 +117,43 @@ impl FrontPool {
             return Err(PushRefused::NoMemory);
         }
         self.bytes += size as u64 + PLACE_BYTES;
+        Ok(())
+    }
+
+    /// Adds the states of another pool over the same base, whose words are their births, behind its own. Each byte of
+    /// their packings is copied once.
+    pub fn append(&mut self, other: FrontPool) -> Result<(), PushRefused>
+        requires base { other.base ≡ self.old.base }
+        requires births { other.words ≡ [] }
+        ensures ok { IfOk result (λ _. self.new ≡ with_births self.old other) }
+        ensures room { IfOk result (λ _. bytes_held self.old + bytes_held other ≤ self.old.limit) }
+        ensures refused { IfErr result (RefusesBy (bytes_held self.old) (bytes_held other) self.old.limit) }
+        ensures unchanged { OnErr result (self.new ≡ self.old) }
+    {
+        let FrontPool {
+            base: _base,
+            limit: _limit,
+            bytes,
+            packings,
+            room: _room,
+            trail: _trail,
+            born,
+        } = other;
+        if self.limit - self.bytes < bytes {
+            return Err(PushRefused::PoolFull {
+                bytes: self.bytes,
+                limit: self.limit,
+            });
+        }
+        let count = self.born.len();
+        if self.born.extend_from_slice(born.as_slice()).is_err() {
+            return Err(PushRefused::NoMemory);
+        }
+        if self.packings.append(packings).is_err() {
+            self.born.truncate(count);
+            return Err(PushRefused::NoMemory);
+        }
+        self.bytes += bytes;
         Ok(())
     }
 

@@ -1,6 +1,6 @@
 //! Strings of bytes, one behind the other in one buffer.
 
-ghost use Rattle.std.specs.Prelude.{◌≡◌, ◌<◌, ◌≤◌, [], ◌∷◌, ◌++◌, length, get_or, slice_range, is_ok, if◌then◌else◌};
+ghost use Rattle.std.specs.Prelude.{◌≡◌, ◌+◌, ◌^◌, ◌<◌, ◌≤◌, [], ◌∷◌, ◌++◌, All, length, map, get_or, slice_range, vec_len, vec_capacity, is_ok, if◌then◌else◌};
 ghost use Rattle.nj_pool.specs.Strings.{strings_in, start_in, AreEnds};
 
 use std::alloc::{AllocError, Global};
@@ -55,6 +55,29 @@ impl Strings {
         self.bytes.extend_from_slice(string)?;
         self.ends.push_reserved(self.bytes.len());
         Ok(())
+    }
+
+    // Adds all strings of another list. Without memory the list is as before.
+    pub(crate) fn append(&mut self, other: Strings) -> Result<(), AllocError>
+        ensures { self.new ≡ (if is_ok result then self.old ++ other else self.old) }
+    {
+        let Strings { bytes, ends } = other;
+        let start = self.bytes.len();
+        self.ends.reserve(ends.len())?;
+        self.bytes.extend_from_slice(bytes.as_slice())?;
+        push_ends(&mut self.ends, ends.as_slice(), start);
+        Ok(())
+    }
+}
+
+// Adds the ends of strings that begin at a place.
+fn push_ends(ends: &mut Vec<usize>, more: &[usize], start: usize)
+    requires small { All (λ end. start + end < 2 ^ 64) more.now }
+    requires room { vec_len ends.old + length more.now ≤ vec_capacity ends.old }
+    ensures { ends.new.items ≡ ends.old.items ++ map (λ end. start + end) more.now }
+{
+    for end in more {
+        ends.push_reserved(start + *end);
     }
 }
 

@@ -1,12 +1,9 @@
 -- The counters of all workers, before and after.
-use Rattle.std.proofs.Common.{◌≡◌, ℕ, zero, suc, ◌+◌, ◌≤◌, List, [], ◌∷◌, length, drop, get_or, set, refl, sym, ◌∙◌, subst, arith}
+use Rattle.std.proofs.Common.{◌≡◌, ℕ, ◌+◌, ◌-◌, ◌≤◌, List, [], ◌∷◌, length, drop, refl, sym, ap, ◌∙◌, subst, arith}
 use Rattle.std.specs.Prelude.{sum}
 use Rattle.std.specs.List.{AllZip}
-use Rattle.std.proofs.lemmas.List.Sums.{sum_by-cons}
-use Rattle.nj_claims.specs.Passes.{TableView}
-use Rattle.nj_pieces.specs.declared.parts.Pieces.{Pieces}
-use Rattle.nj_workers.specs.declared.hand.WorkEnd.{WorkEnd}
-use Rattle.nj_workers.specs.Desks.{AllServed}
+use Rattle.std.proofs.lemmas.List.{drop-drop}
+use Rattle.nj_workers.specs.Desks.{AllHave}
 use Rattle.nj_workers.specs.Counted.{AreCounted}
 
 -- nothing was counted
@@ -18,30 +15,30 @@ pub counted_none : (workers most : ℕ) (counts : List ℕ) → AreCounted worke
 counted_none workers most counts =
     record { many = refl; none_falls = same_counts counts; others = refl; together = omega arith }
 
--- no worker's counter falls
-none_falls : (table : TableView) (pieces : Pieces) (olds news : List WorkEnd) (counts afters : List ℕ)
-    → AllServed table pieces olds news counts afters
+-- of those who sat at desks no counter falls
+none_falls : {X : Type 0} (Has : X → X → ℕ → ℕ → Type 0) → ((old new : X) (from to : ℕ) → Has old new from to → from ≤ to)
+    → (olds news : List X) (counts afters : List ℕ) → AllHave Has olds news counts afters
     → AllZip (λ before after. before ≤ after) counts afters
-none_falls table pieces [] [] counts afters served =
-    subst (λ xs. AllZip (λ before after. before ≤ after) counts xs) (sym served) (same_counts counts)
-none_falls table pieces [] (new ∷ news) counts afters served = absurd served
-none_falls table pieces (old ∷ olds) [] counts afters served = absurd served
-none_falls table pieces (old ∷ olds) (new ∷ news) [] afters served = absurd served
-none_falls table pieces (old ∷ olds) (new ∷ news) (count ∷ counts) [] served = absurd served
-none_falls table pieces (old ∷ olds) (new ∷ news) (count ∷ counts) (after ∷ afters) served =
-    (served.0.rises, none_falls table pieces olds news counts afters served.1)
+none_falls Has rises [] [] counts afters have =
+    subst (λ xs. AllZip (λ before after. before ≤ after) counts xs) (sym have) (same_counts counts)
+none_falls Has rises [] (new ∷ news) counts afters have = absurd have
+none_falls Has rises (old ∷ olds) [] counts afters have = absurd have
+none_falls Has rises (old ∷ olds) (new ∷ news) [] afters have = absurd have
+none_falls Has rises (old ∷ olds) (new ∷ news) (count ∷ counts) [] have = absurd have
+none_falls Has rises (old ∷ olds) (new ∷ news) (count ∷ counts) (after ∷ afters) have =
+    (rises old new count after have.0, none_falls Has rises olds news counts afters have.1)
 
--- the counters past the workers are as they were
-others_stay : (table : TableView) (pieces : Pieces) (olds news : List WorkEnd) (counts afters : List ℕ)
-    → AllServed table pieces olds news counts afters
+-- the counters past them are as they were
+others_stay : {X : Type 0} (Has : X → X → ℕ → ℕ → Type 0) (olds news : List X) (counts afters : List ℕ)
+    → AllHave Has olds news counts afters
     → drop (length olds) afters ≡ drop (length olds) counts
-others_stay table pieces [] [] counts afters served = served
-others_stay table pieces [] (new ∷ news) counts afters served = absurd served
-others_stay table pieces (old ∷ olds) [] counts afters served = absurd served
-others_stay table pieces (old ∷ olds) (new ∷ news) [] afters served = absurd served
-others_stay table pieces (old ∷ olds) (new ∷ news) (count ∷ counts) [] served = absurd served
-others_stay table pieces (old ∷ olds) (new ∷ news) (count ∷ counts) (after ∷ afters) served =
-    others_stay table pieces olds news counts afters served.1
+others_stay Has [] [] counts afters have = have
+others_stay Has [] (new ∷ news) counts afters have = absurd have
+others_stay Has (old ∷ olds) [] counts afters have = absurd have
+others_stay Has (old ∷ olds) (new ∷ news) [] afters have = absurd have
+others_stay Has (old ∷ olds) (new ∷ news) (count ∷ counts) [] have = absurd have
+others_stay Has (old ∷ olds) (new ∷ news) (count ∷ counts) (after ∷ afters) have =
+    others_stay Has olds news counts afters have.1
 
 as_many : (counts afters : List ℕ) → AllZip (λ before after. before ≤ after) counts afters
     → length afters ≡ length counts
@@ -50,48 +47,48 @@ as_many [] (after ∷ afters) zip = absurd zip
 as_many (count ∷ counts) [] zip = absurd zip
 as_many (count ∷ counts) (after ∷ afters) zip = let rest = as_many counts afters zip.1 in omega arith
 
-pub counted : (table : TableView) (pieces : Pieces) (workers most : ℕ) (olds news : List WorkEnd)
+pub counted : {X : Type 0} (Has : X → X → ℕ → ℕ → Type 0)
+    → ((old new : X) (from to : ℕ) → Has old new from to → from ≤ to) → (workers most : ℕ) (olds news : List X)
     (counts afters : List ℕ) → length olds ≡ workers
-    → AllServed table pieces olds news counts afters → sum afters ≤ sum counts + most
+    → AllHave Has olds news counts afters → sum afters ≤ sum counts + most
     → AreCounted workers counts afters most
-counted table pieces workers most olds news counts afters many served together =
-    let zip = none_falls table pieces olds news counts afters served in record {
+counted Has rises workers most olds news counts afters many have together =
+    let zip = none_falls Has rises olds news counts afters have in record {
       many = as_many counts afters zip;
       none_falls = zip;
-      others = subst (λ (n : ℕ). drop n afters ≡ drop n counts) many
-          (others_stay table pieces olds news counts afters served);
+      others = subst (λ (n : ℕ). drop n afters ≡ drop n counts) many (others_stay Has olds news counts afters have);
       together = together;
     }
 
--- then the first counter rises too
-zip_first : (counts afters : List ℕ) (last : ℕ) → AllZip (λ before after. before ≤ after) counts afters
-    → get_or afters 0 0 ≤ last
-    → AllZip (λ before after. before ≤ after) counts (set afters 0 last)
-zip_first [] [] last zip rises = zip
-zip_first [] (after ∷ afters) last zip rises = absurd zip
-zip_first (count ∷ counts) [] last zip rises = absurd zip
-zip_first (count ∷ counts) (after ∷ afters) last zip rises = ((let was = zip.0 in omega arith), zip.1)
+-- where none falls twice none falls in all
+rise_on : (xs ys zs : List ℕ) → AllZip (λ before after. before ≤ after) xs ys
+    → AllZip (λ before after. before ≤ after) ys zs → AllZip (λ before after. before ≤ after) xs zs
+rise_on [] [] zs a b = b
+rise_on [] (y ∷ ys) zs a b = absurd a
+rise_on (x ∷ xs) [] zs a b = absurd a
+rise_on (x ∷ xs) (y ∷ ys) [] a b = absurd b
+rise_on (x ∷ xs) (y ∷ ys) (z ∷ zs) a b = (omega (arith, a.0, b.0), rise_on xs ys zs a.1 b.1)
 
-first_other : (workers : ℕ) (afters : List ℕ) (last : ℕ) → 1 ≤ workers
-    → drop workers (set afters 0 last) ≡ drop workers afters
-first_other zero afters last some = absurd (omega arith)
-first_other (suc workers) [] last some = refl
-first_other (suc workers) (after ∷ afters) last some = refl
+-- what is counted first and then
+pub counted_then : (workers : ℕ) (old mid new : List ℕ) (a b : ℕ) → AreCounted workers old mid a
+    → AreCounted workers mid new b → AreCounted workers old new (a + b)
+counted_then workers old mid new a b first second = record {
+  many = second.many ∙ first.many;
+  none_falls = rise_on old mid new first.none_falls second.none_falls;
+  others = second.others ∙ first.others;
+  together = omega (arith, first.together, second.together);
+}
 
-first_sum : (afters : List ℕ) (last most : ℕ) → last ≤ get_or afters 0 0 + most
-    → sum (set afters 0 last) ≤ sum afters + most
-first_sum [] last most rises = omega arith
-first_sum (after ∷ afters) last most rises =
-    omega (arith, sum_by-cons (λ (n : ℕ). n) last afters, sum_by-cons (λ (n : ℕ). n) after afters)
-
-pub counted_more : (workers most more : ℕ) (counts afters : List ℕ) (last : ℕ) → 1 ≤ workers
-    → AreCounted workers counts afters most
-    → get_or afters 0 0 ≤ last → last ≤ get_or afters 0 0 + more
-    → AreCounted workers counts (set afters 0 last) (most + more)
-counted_more workers most more counts afters last some counted low high =
-    let zip = zip_first counts afters last counted.none_falls low in record {
-      many = as_many counts (set afters 0 last) zip;
-      none_falls = zip;
-      others = first_other workers afters last some ∙ counted.others;
-      together = (let was = counted.together in let is = first_sum afters last more high in omega arith);
+-- what some workers count more of them may
+pub by_more : (workers more : ℕ) (old new : List ℕ) (most : ℕ) → workers ≤ more → AreCounted workers old new most
+    → AreCounted more old new most
+by_more workers more old new most le counted =
+    let is : more ≡ workers + (more - workers) = omega arith in record {
+      many = counted.many;
+      none_falls = counted.none_falls;
+      others =
+          ap (λ n. drop n new) is ∙ sym (drop-drop (more - workers) workers new)
+          ∙ ap (drop (more - workers)) counted.others
+          ∙ drop-drop (more - workers) workers old ∙ ap (λ n. drop n old) (sym is);
+      together = counted.together;
     }

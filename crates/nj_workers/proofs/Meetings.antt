@@ -16,7 +16,7 @@ use Rattle.nj_workers.specs.declared.hand.WorkEnd.{WorkEnd}
 use Rattle.nj_workers.specs.Claimed.{AreClaimed}
 use Rattle.nj_workers.specs.Shares.{pieces_in, piece_rows, piece_runs, rows_of, runs_of}
 use Rattle.nj_workers.specs.Counted.{AreCounted}
-use Rattle.nj_workers.specs.Desks.{IsSeated, AllServed, joined_all, rows_all, taken_all}
+use Rattle.nj_workers.specs.Desks.{IsSeated, Served, AllServed, joined_all, rows_all, taken_all}
 use Rattle.nj_workers.proofs.Backs.{all_back, frames_back, joined_table, joined_root, joined_out}
 use Rattle.nj_workers.proofs.Counters.{counted}
 use Rattle.nj_workers.proofs.Fronts.{rows_moved, all_rows, all_runs, fewer_frames}
@@ -65,7 +65,8 @@ counted_after table pieces held workers olds news counts afters takers back left
     let together : sum afters ≤ sum counts + held.plan.script.hold * runs_of held (range_with_len 0 (count_of pieces)) =
     fewer_frames held.plan.script.hold (sum counts) (sum afters) (piece_runs held) (taken_all news)
     (range_with_len 0 (count_of pieces)) fewer frames in
-    counted table pieces workers (held.plan.script.hold * length (candidates_in held)) olds news counts afters
+    counted (Served table pieces) (λ old new from to served. served.rises) workers
+    (held.plan.script.hold * length (candidates_in held)) olds news counts afters
     (many_olds table pieces held workers olds news counts afters takers meeting) meeting.served
     (subst (λ (n : ℕ). sum afters ≤ sum counts + held.plan.script.hold * n) all together)
 

@@ -1,5 +1,5 @@
 -- A table with room for a step, and the counters of a whole step.
-use Rattle.std.proofs.Common.{◌≡◌, ℕ, ◌+◌, ◌*◌, ◌^◌, ◌≤◌, List, [], length, get_or, set, sym, ap, ◌∙◌, subst, arith}
+use Rattle.std.proofs.Common.{◌≡◌, ℕ, ◌+◌, ◌*◌, ◌^◌, ◌≤◌, List, [], length, sym, ap, ◌∙◌, subst, arith}
 use Rattle.std.proofs.Math.Nat.{mul-add, mul-le-mul_right}
 use Rattle.nj_search_defs.specs.Game.{Bounds}
 use Rattle.nj_claims.specs.Tables.{IsTable, entries_in, slot_count}
@@ -9,7 +9,7 @@ use Rattle.nj_expand.specs.declared.Bounds.{Bounds as Given}
 use Rattle.nj_expand.specs.Held.{Held, bounds_of}
 use Rattle.nj_workers.specs.Counted.{AreCounted}
 use Rattle.nj_workers.specs.Room.{IsOpenFor}
-use Rattle.nj_workers.proofs.Counters.{counted_more}
+use Rattle.nj_workers.proofs.Counters.{counted_then}
 
 -- so many words and pads fit in a table of the search's size
 pub room_fits : (given : Given) (script : Record) (bounds : Bounds) (front : ℕ) → bounds_of given script ≡ bounds
@@ -36,14 +36,13 @@ opened_for held given words front exponent is many table slots empty seen fits =
       room = omega (arith, rooms, none, slots, fits);
     }
 
--- the candidates are counted, and those that are kept by the first counter
-pub counted_whole : (workers hold runs kept : ℕ) (counts afters : List ℕ) (last : ℕ) → 1 ≤ workers
-    → AreCounted workers counts afters (hold * runs)
-    → get_or afters 0 0 ≤ last → last ≤ get_or afters 0 0 + hold * kept
-    → AreCounted workers counts (set afters 0 last) (hold * (runs + kept))
-counted_whole workers hold runs kept counts afters last some counted low high =
-    subst (λ (n : ℕ). AreCounted workers counts (set afters 0 last) n) (sym (mul-add hold runs kept))
-    (counted_more workers (hold * runs) (hold * kept) counts afters last some counted low high)
+-- the candidates are counted, and then those that are kept
+pub counted_whole : (workers hold runs kept : ℕ) (counts mid afters : List ℕ)
+    → AreCounted workers counts mid (hold * runs) → AreCounted workers mid afters (hold * kept)
+    → AreCounted workers counts afters (hold * (runs + kept))
+counted_whole workers hold runs kept counts mid afters first then =
+    subst (λ (n : ℕ). AreCounted workers counts afters n) (sym (mul-add hold runs kept))
+    (counted_then workers counts mid afters (hold * runs) (hold * kept) first then)
 
 -- a bound that is further off
 pub counted_within : (workers hold runs kept : ℕ) (counts afters : List ℕ)

@@ -5,10 +5,7 @@ use Rattle.std.specs.List.{All, AllZip}
 use Rattle.std.proofs.lemmas.List.Elements.{All-nil, All-cons, All-head, All-tail}
 use Rattle.std.proofs.lemmas.List.{map-append, reverse-append, reverse-reverse}
 use Rattle.std.proofs.Math.Seq.{take-append_seam}
-use Rattle.nj_claims.specs.Passes.{TableView}
-use Rattle.nj_pieces.specs.declared.parts.Pieces.{Pieces}
-use Rattle.nj_workers.specs.declared.hand.WorkEnd.{WorkEnd}
-use Rattle.nj_workers.specs.Desks.{EachPair, Served, AllServed}
+use Rattle.nj_workers.specs.Desks.{EachPair, AllHave}
 
 -- one element goes over from the end of a list that stands turned round
 pub gone_over : {D X : Type 0} (f : D → X) (there : List D) (d : D) (rest : List X)
@@ -45,16 +42,15 @@ zip_from_each R (x ∷ xs) [] many each = absurd (omega arith)
 zip_from_each R (x ∷ xs) (y ∷ ys) many each =
     (each 0 x (omega arith), zip_from_each R xs ys (omega arith) (λ k d within. each (suc k) d (omega arith)))
 
--- all who worked at desks have brought back what they did
-pub all_served : {D : Type 0} (end : D → WorkEnd) (count : D
-    → ℕ) (table : TableView) (pieces : Pieces) (olds news : List D) (rest : List ℕ)
-    → AllZip (λ old new. Served table pieces (end old) (end new) (count old) (count new)) olds news
-    → AllServed table pieces (map end olds) (map end news) (map count olds ++ rest) (map count news ++ rest)
-all_served end count table pieces [] [] rest zip = refl
-all_served end count table pieces [] (new ∷ news) rest zip = absurd zip
-all_served end count table pieces (old ∷ olds) [] rest zip = absurd zip
-all_served end count table pieces (old ∷ olds) (new ∷ news) rest zip =
-    (zip.0, all_served end count table pieces olds news rest zip.1)
+-- what all have done at their desks, behind whose counters others stand
+pub all_have : {D X : Type 0} (Has : X → X → ℕ → ℕ → Type 0) (end : D → X) (count : D → ℕ) (olds news : List D)
+    (rest : List ℕ)
+    → AllZip (λ old new. Has (end old) (end new) (count old) (count new)) olds news
+    → AllHave Has (map end olds) (map end news) (map count olds ++ rest) (map count news ++ rest)
+all_have Has end count [] [] rest zip = refl
+all_have Has end count [] (new ∷ news) rest zip = absurd zip
+all_have Has end count (old ∷ olds) [] rest zip = absurd zip
+all_have Has end count (old ∷ olds) (new ∷ news) rest zip = (zip.0, all_have Has end count olds news rest zip.1)
 
 -- when nothing is left to go over, all are there
 pub over_all : {D X : Type 0} (f : D → X) (there : List D) (rest all : List X) → length rest ≡ 0
@@ -87,27 +83,25 @@ all_at {D} {X} P f there slice all same is each =
           All-cons (λ d. P (f d)) d ds (All-head P (f d) (map f ds) each)
           (from_map ds (All-tail P (f d) (map f ds) each))
 
--- all who worked have stood up again, with their counters behind which the others stand
-pub all_stood_up : {D : Type 0} (end : D → WorkEnd) (count : D → ℕ) (table : TableView) (pieces : Pieces)
-    (olds slice news back : List D) (before after : List WorkEnd) (counts afters mid : List ℕ)
+-- all have stood up again, with their counters behind which the others stand
+pub all_stood_up : {D X : Type 0} (Has : X → X → ℕ → ℕ → Type 0) (end : D → X) (count : D → ℕ)
+    (olds slice news back : List D) (before after : List X) (counts afters mid : List ℕ)
     → slice ≡ olds → back ≡ news
-    → AllZip (λ old new. Served table pieces (end old) (end new) (count old) (count new)) slice news
+    → AllZip (λ old new. Has (end old) (end new) (count old) (count new)) slice news
     → map end olds ≡ before → map count olds ++ reverse mid ≡ counts → after ≡ map end back
     → afters ≡ map count back ++ reverse mid
-    → AllServed table pieces before after counts afters
-all_stood_up {D} end count table pieces olds slice news back before after counts afters mid slice_is back_is zip
-    before_is counts_are after_is afters_are =
-    let zipped : AllZip (λ old new. Served table pieces (end old) (end new) (count old) (count new)) olds back =
-    subst (λ (os : List D). AllZip (λ old new. Served table pieces (end old) (end new) (count old) (count new)) os back)
-    slice_is
-    (subst (λ (ns : List D). AllZip (λ old new. Served table pieces (end old) (end new) (count old) (count new)) slice
-    ns) (sym back_is) zip) in
-    subst (λ b. AllServed table pieces b after counts afters) before_is
-    (subst (λ a. AllServed table pieces (map end olds) a counts afters) (sym after_is)
-    (subst (λ cs. AllServed table pieces (map end olds) (map end back) cs afters) counts_are
-    (subst (λ ts. AllServed table pieces (map end olds) (map end back) (map count olds ++ reverse mid) ts)
-    (sym afters_are)
-    (all_served end count table pieces olds back (reverse mid) zipped))))
+    → AllHave Has before after counts afters
+all_stood_up {D} Has end count olds slice news back before after counts afters mid slice_is back_is zip before_is
+    counts_are after_is afters_are =
+    let zipped : AllZip (λ old new. Has (end old) (end new) (count old) (count new)) olds back =
+    subst (λ (os : List D). AllZip (λ old new. Has (end old) (end new) (count old) (count new)) os back) slice_is
+    (subst (λ (ns : List D). AllZip (λ old new. Has (end old) (end new) (count old) (count new)) slice ns)
+    (sym back_is) zip) in
+    subst (λ b. AllHave Has b after counts afters) before_is
+    (subst (λ a. AllHave Has (map end olds) a counts afters) (sym after_is)
+    (subst (λ cs. AllHave Has (map end olds) (map end back) cs afters) counts_are
+    (subst (λ ts. AllHave Has (map end olds) (map end back) (map count olds ++ reverse mid) ts) (sym afters_are)
+    (all_have Has end count olds back (reverse mid) zipped))))
 
 -- what a list has become of which a slice was lent
 pub left_by_slice : {D : Type 0} (n : ℕ) (olds slice news rest : List D) → slice ≡ olds → n ≡ length olds
@@ -115,17 +109,17 @@ pub left_by_slice : {D : Type 0} (n : ℕ) (olds slice news rest : List D) → s
 left_by_slice n olds slice news rest is many as_many =
     ap (λ (k : ℕ). take k (news ++ rest)) (many ∙ sym (ap length is) ∙ sym as_many) ∙ take-append_seam news rest
 
--- the same of all who worked, where the desks were lent as a slice
-pub all_stood_within : {D : Type 0} (end : D → WorkEnd) (count : D → ℕ) (table : TableView) (pieces : Pieces) (n : ℕ)
-    (olds slice news rest : List D) (before after : List WorkEnd) (counts afters mid : List ℕ)
+-- the same where the desks were lent as a slice
+pub all_stood_within : {D X : Type 0} (Has : X → X → ℕ → ℕ → Type 0) (end : D → X) (count : D → ℕ) (n : ℕ)
+    (olds slice news rest : List D) (before after : List X) (counts afters mid : List ℕ)
     → slice ≡ olds → n ≡ length olds → length news ≡ length slice
-    → EachPair (λ old new. Served table pieces (end old) (end new) (count old) (count new)) slice news
+    → EachPair (λ old new. Has (end old) (end new) (count old) (count new)) slice news
     → map end olds ≡ before → map count olds ++ reverse mid ≡ counts → after ≡ map end (take n (news ++ rest))
     → afters ≡ map count (take n (news ++ rest)) ++ reverse mid
-    → AllServed table pieces before after counts afters
-all_stood_within {D} end count table pieces n olds slice news rest before after counts afters mid slice_is many as_many
-    each before_is counts_are after_is afters_are =
-    all_stood_up end count table pieces olds slice news (take n (news ++ rest)) before after counts afters mid slice_is
+    → AllHave Has before after counts afters
+all_stood_within {D} Has end count n olds slice news rest before after counts afters mid slice_is many as_many each
+    before_is counts_are after_is afters_are =
+    all_stood_up Has end count olds slice news (take n (news ++ rest)) before after counts afters mid slice_is
     (left_by_slice n olds slice news rest slice_is many as_many)
-    (zip_from_each (λ (old new : D). Served table pieces (end old) (end new) (count old) (count new)) slice news as_many
-    each) before_is counts_are after_is afters_are
+    (zip_from_each (λ (old new : D). Has (end old) (end new) (count old) (count new)) slice news as_many each)
+    before_is counts_are after_is afters_are

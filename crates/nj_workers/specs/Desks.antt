@@ -29,13 +29,17 @@ EachPair {X} R xs ys = (k : ℕ) (d : X) → k < length xs → R (slice_index_or
 abbrev pub Served : TableView → Pieces → WorkEnd → WorkEnd → ℕ → ℕ → Type 0
 Served table pieces old new from to = HasWorked table pieces old.hand new.hand old.rows.items new.rows.items from to
 
--- what all workers bring back, each with the counter at its place, the counters past the last worker's being as they
--- were
+-- what all have done who sat at desks, each with the counter at its place, the counters past the last one's being as
+-- they were
+abbrev pub AllHave : {X : Type 0} → (X → X → ℕ → ℕ → Type 0) → List X → List X → List ℕ → List ℕ → Type 0
+AllHave {X} Has [] [] from to = to ≡ from
+AllHave {X} Has (old ∷ olds) (new ∷ news) (count ∷ counts) (after ∷ afters) =
+    Has old new count after × AllHave Has olds news counts afters
+AllHave {X} _ _ _ _ _ = ⊥
+
+-- what all workers bring back
 abbrev pub AllServed : TableView → Pieces → List WorkEnd → List WorkEnd → List ℕ → List ℕ → Type 0
-AllServed table pieces [] [] from to = to ≡ from
-AllServed table pieces (old ∷ olds) (new ∷ news) (count ∷ counts) (after ∷ afters) =
-    Served table pieces old new count after × AllServed table pieces olds news counts afters
-AllServed _ _ _ _ _ _ = ⊥
+AllServed table pieces = AllHave (Served table pieces)
 
 -- the first pass when the passes of these workers have come back to it, the last worker's first
 abbrev pub joined_all : PassView → List WorkEnd → PassView

@@ -16,11 +16,16 @@ use std::sync::ledger::Ledger;
 use std::thread;
 use std::thread::Threads;
 
-// A worker's place: what it works on, and its counter.
+// The words between what two workers write: a pair of cache lines.
+const APART: usize = 16;
+
+/// A worker's place: what it works on, and its counter. What is behind the counter keeps it off the cache line on which
+/// the next worker's things begin.
 #[derive(Drop)]
-struct Desk<'a, L: Ledger> {
-    end: WorkEnd<'a>,
-    steps: Steps<L>,
+pub(crate) struct Desk<E: Drop, L: Ledger> {
+    pub(crate) end: E,
+    pub(crate) steps: Steps<L>,
+    apart: [u64; APART],
 }
 
 // All workers work, each in a thread and with the counter at its place. Without memory nobody has worked.
@@ -64,7 +69,7 @@ fn serve_all<'a, R: Threads + Wait + Sync, G: Gate, L: Ledger + Send>(
     table: &ClaimTable,
     pieces: &Pieces,
     gate: &G,
-    desks: &mut [Desk<'a, L>],
+    desks: &mut [Desk<WorkEnd<'a>, L>],
     threads: usize,
 )
     requires threads { 0 < threads }
@@ -77,7 +82,7 @@ fn serve_all<'a, R: Threads + Wait + Sync, G: Gate, L: Ledger + Send>(
         rt,
         desks,
         threads,
-        &|_at: usize, desk: &mut Desk<L>|
+        &|_at: usize, desk: &mut Desk<WorkEnd, L>|
             requires { MayWork table.now pieces.now desk.old.end.hand }
             ensures { Served table.entry.now pieces.entry.now desk.old.end desk.new.end desk.old.steps desk.new.steps }
         {
@@ -94,11 +99,11 @@ fn serve_all<'a, R: Threads + Wait + Sync, G: Gate, L: Ledger + Send>(
     );
 }
 
-// Gives each worker a desk, with the counter at its place. The counters that are left stand turned round.
-fn sit_down<'a, L: Ledger>(
-    ends: &mut Vec<WorkEnd<'a>>,
+/// Gives each worker a desk, with the counter at its place. The counters that are left stand turned round.
+pub(crate) fn sit_down<E: Drop, L: Ledger>(
+    ends: &mut Vec<E>,
     steps: &mut Vec<Steps<L>>,
-    desks: &mut Vec<Desk<'a, L>>,
+    desks: &mut Vec<Desk<E, L>>,
 )
     requires empty { desks.old.items ≡ [] }
     requires room { vec_len ends.old ≤ vec_capacity desks.old }
@@ -118,14 +123,15 @@ fn sit_down<'a, L: Ledger>(
         desks.push_reserved(Desk {
             end,
             steps: counter,
+            apart: [0; APART],
         });
     }
 }
 
-// Takes the workers and the counters from their desks, back into the lists where they stood.
-fn stand_up<'a, L: Ledger>(
-    desks: Vec<Desk<'a, L>>,
-    ends: &mut Vec<WorkEnd<'a>>,
+/// Takes the workers and the counters from their desks, back into the lists where they stood.
+pub(crate) fn stand_up<E: Drop, L: Ledger>(
+    desks: Vec<Desk<E, L>>,
+    ends: &mut Vec<E>,
     steps: &mut Vec<Steps<L>>,
 )
     requires empty { ends.old.items ≡ [] }
@@ -140,6 +146,7 @@ fn stand_up<'a, L: Ledger>(
         let Desk {
             end,
             steps: counter,
+            apart: _,
         } = desk;
         ends.push_reserved(end);
         steps.push_reserved(counter);

@@ -7,9 +7,10 @@ ghost use Rattle.nj_expand.specs.Closed.{AreRowsOf, IsClosedFor};
 ghost use Rattle.nj_workers.specs.Room.{IsOpenFor};
 ghost use Rattle.nj_workers.specs.Counted.{AreCounted};
 
+use crate::runs::run_kept;
 use crate::step::shared;
 use nj_claims::empty_table;
-use nj_expand::{Row, Search, Stepped};
+use nj_expand::{Chosen, Row, Search, Stepped};
 use nj_outside::Gate;
 use nj_seen::no_key_is_seen;
 use nj_steps::Steps;
@@ -19,9 +20,9 @@ use std::sync::ledger::Ledger;
 use std::thread::Threads;
 
 /// Makes the next step by so many workers, from 1 to 64: they run the candidates of the front's pieces, each in a
-/// thread where one can be made, and claim their keys in one table; the step ends as one thread would end it. Each
-/// worker counts frames by the counter at its place, and the first one those of the end as well. After want of memory
-/// the search is spent.
+/// thread where one can be made, and claim their keys in one table, and so they run again what is kept; the step ends as
+/// one thread would end it. Each worker counts frames by the counter at its place. After want of memory the search is
+/// spent.
 pub fn next_shared<R: Threads + Wait + Sync, G: Gate, L: Ledger + Send>(
     rt: &R,
     search: &mut Search,
@@ -41,11 +42,40 @@ pub fn next_shared<R: Threads + Wait + Sync, G: Gate, L: Ledger + Send>(
     ensures frames { AreCounted workers steps.old.items steps.new.items
         (search.old.plan.script.hold * (length (candidates_in search.old) + length (kept_in search.old))) }
 {
-    match made(rt, search, alloc, workers, gate, steps) {
-        Ok((rows, claims)) => search.finish(alloc, rows, claims, &mut steps[0]),
-        Err(error) => {
-            search.spend();
-            Err(error)
+    let ended = by_workers(rt, search, alloc, workers, gate, steps);
+    if ended.is_err() {
+        search.spend();
+    }
+    ended
+}
+
+// The next step. After want of memory plan and bounds are as before.
+fn by_workers<R: Threads + Wait + Sync, G: Gate, L: Ledger + Send>(
+    rt: &R,
+    search: &mut Search,
+    alloc: Global,
+    workers: u32,
+    gate: &G,
+    steps: &mut Vec<Steps<L>>,
+) -> Result<Stepped, AllocError>
+    requires spent { search.old.spent ≡ false }
+    requires step { search.old.state.step < 16777215 }
+    requires some { 1 ≤ workers }
+    requires few { workers ≤ 64 }
+    requires counters { workers ≤ length steps.old.items }
+    ensures next { IfOk result (λ stepped. IsStep search.old stepped search.new) }
+    ensures plan { search.new.plan ≡ search.old.plan }
+    ensures bounds { search.new.bounds ≡ search.old.bounds }
+    ensures frames { AreCounted workers steps.old.items steps.new.items
+        (search.old.plan.script.hold * (length (candidates_in search.old) + length (kept_in search.old))) }
+{
+    let (rows, claims) = made(rt, search, alloc, workers, gate, steps)?;
+    match search.choose(alloc, rows, claims)? {
+        Chosen::Ended(stepped) => Ok(stepped),
+        Chosen::Keeps(kept) => {
+            let parts = run_kept(rt, alloc, search, kept.rows.as_slice(), workers, steps)?;
+            search.go_on(alloc, kept, parts)?;
+            Ok(Stepped::Go)
         }
     }
 }

@@ -149,8 +149,9 @@ fn holds_right_at_last(alloc: Global, search: &Search, place: usize) -> Result<b
     )
 }
 
-// Sixteen steps by two workers, and the seventeenth, whose front is of two pieces, with a meeting: how often one met
-// the other, the words of the front, whether they are those of one thread, and the frames that were run.
+// Sixteen steps by three workers, each of whom runs a part of the kept words again, and the seventeenth by two, whose
+// front is of two pieces, with a meeting: how often one met the other, the words of the front, whether they are those
+// of one thread, and the frames that were run.
 fn met<R: Threads + Wait + Sync, L: Ledger + Send>(
     rt: &R,
     alloc: Global,
@@ -161,7 +162,7 @@ fn met<R: Threads + Wait + Sync, L: Ledger + Send>(
     let mut steps = Steps::<L>::open_many(alloc, blank, 64)?;
     let mut search = begun(alloc, COUNTS, &mut steps[0])?;
     for _step in 0..16 {
-        step(rt, alloc, &mut search, 2, &OpenGate, &mut steps)?;
+        step(rt, alloc, &mut search, 3, &OpenGate, &mut steps)?;
     }
     let gate = Meeting {
         begun: [AtomicU64::new(0), AtomicU64::new(0)],

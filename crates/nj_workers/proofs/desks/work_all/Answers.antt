@@ -1,6 +1,7 @@
 -- All sit down, work and stand up.
 use Rattle.nj_workers.specs.declared.desks.Desk.{Desk}
 use Rattle.nj_workers.specs.declared.hand.WorkEnd.{WorkEnd}
+use Rattle.nj_workers.specs.Desks.{Served}
 use Rattle.nj_workers.specs.Hands.{MayWork}
 use Rattle.nj_workers.proofs.Sitting.{all_at, all_stood_within}
 use Rattle.nj_workers.proofs.desks.work_all.Goals as goal
@@ -8,14 +9,14 @@ use Rattle.nj_workers.proofs.desks.work_all.Goals as goal
 pub serve_all-requires-clause-may : goal.serve_all-requires-clause-may
 serve_all-requires-clause-may g c =
     λ κs lives. all_at (λ (end : WorkEnd). MayWork c.args.table.now c.args.pieces.now end.hand)
-    (λ (desk : Desk g.row.L.Denot). desk.end)
+    (λ (desk : Desk WorkEnd g.row.L.Denot). desk.end)
     c.sit_down.new.desks.items c.as_mut_slice.result.now c.args.ends.now.items c.as_mut_slice.ensures.value
     c.sit_down.ensures.ends c.requires.may
 
 pub returns-clause-served : goal.returns-clause-served
 returns-clause-served g c =
-    all_stood_within (λ (desk : Desk g.row.L.Denot). desk.end) (λ (desk : Desk g.row.L.Denot).
-    desk.steps) c.args.table.now c.args.pieces.now _
+    all_stood_within (Served c.args.table.now c.args.pieces.now) (λ (desk : Desk WorkEnd g.row.L.Denot). desk.end)
+    (λ (desk : Desk WorkEnd g.row.L.Denot). desk.steps) _
     c.sit_down.new.desks.items c.as_mut_slice.result.now c.serve_all.new.desks _ c.args.ends.now.items
     c.stand_up.new.ends.items c.args.steps.now.items c.stand_up.new.steps.items c.sit_down.new.steps.items
     c.as_mut_slice.ensures.value c.sit_down.new.desks.ok.0 c.serve_all.ensures.many c.serve_all.ensures.served

@@ -2,7 +2,7 @@ use Rattle.std.proofs.Common.{◌≡◌, ◌+◌, ◌*◌, ◌≤◌, length, ma
 use Rattle.nj_machine.specs.State.{rom_of}
 use Rattle.nj_pool.specs.Front.{bytes_held}
 use Rattle.nj_expand.specs.Again.{Before, statuses_of, judged_again, pool_again}
-use Rattle.nj_expand.proofs.again.run_again.Given as goal
+use Rattle.nj_expand.proofs.again.run_rows.Given as goal
 
 -- the rows so far were run again, each by the frames of a step
 abbrev pub invariant-loop-row : goal.invariant-loop-row
@@ -17,8 +17,8 @@ invariant-loop-row g l =
     record {
       cartridge : rom_of l.machine ≡ rom_of l.fn.machine;
       long : length l.image.items ≡ length l.front.base;
-      pool : l.again.pool ≡ pool_again before l.front.base l.limit (take l.row-index l.kept);
-      judged : l.again.judged.items ≡ map (judged_again before) (take l.row-index l.kept);
+      pool : l.again.pool ≡ pool_again before l.front.base l.limit (take l.row-index l.rows);
+      judged : l.again.judged.items ≡ map (judged_again before) (take l.row-index l.rows);
       bytes : bytes_held l.again.pool ≤ l.row-index * (length l.front.base + 16);
       frames : l.steps ≤ l.fn.steps + l.script.hold * l.row-index;
       never_falls : l.fn.steps ≤ l.steps;

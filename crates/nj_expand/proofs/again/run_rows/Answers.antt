@@ -7,7 +7,7 @@ use Rattle.nj_rows.specs.declared.Verdict3.TheVariants.{Go}
 use Rattle.nj_pool.specs.Front.{bytes_held}
 use Rattle.nj_expand.specs.Again.{Before, statuses_of, image_again, judged_again}
 use Rattle.nj_expand.proofs.Agains.{pool_none, pool_base, pool_limit, pool_more, judged_more, bytes_more, room_left, frames_more}
-use Rattle.nj_expand.proofs.again.run_again.Goals as goal
+use Rattle.nj_expand.proofs.again.run_rows.Goals as goal
 
 pub loop-row-init : goal.loop-row-init
 loop-row-init g c =
@@ -26,7 +26,7 @@ loop-row-init g c =
       pool =
           pool_none before c.args.front.now.base c.base.result.now c.args.limit c.in_ok-pool.pool
           c.base.ensures.base c.in_ok-pool.ensures;
-      judged = c.new-2.ensures.items;
+      judged = c.in_ok-with_capacity.ensures.items;
       bytes = omega (arith, ap bytes_held c.in_ok-pool.ensures);
       frames = le-add_right c.args.steps.now (c.args.script.now.hold * 0);
       never_falls = omega arith;
@@ -61,10 +61,10 @@ push-requires-clause-room g c =
     } in
     let long : length c.as_slice.result.now ≡ length c.args.front.now.base =
     ap length c.as_slice.ensures.value ∙ c.child_again-told.ensures.long in
-    let within : c.loop-row.row-index < length c.args.kept.now = omega arith in
+    let within : c.loop-row.row-index < length c.args.rows.now = omega arith in
     subst (λ m. bytes_held c.loop-row.again.pool + (length c.as_slice.result.now + 16) ≤ m)
     (sym (pool_limit before c.args.front.now.base c.args.limit _ c.loop-row.again.pool c.loop-row.invariant.pool))
-    (room_left c.loop-row.row-index (length c.args.kept.now) (length c.args.front.now.base) c.args.limit
+    (room_left c.loop-row.row-index (length c.args.rows.now) (length c.args.front.now.base) c.args.limit
     (length c.as_slice.result.now) (bytes_held c.loop-row.again.pool)
     c.loop-row.invariant.bytes within c.requires.room long)
 
@@ -78,7 +78,7 @@ loop-row-preserved g c =
       statuses = statuses_of c.args.judged.now;
     } in
     let d : Row = record { number = 0; key = 0; reward = pos 0; level = 0; verdict = Go; pad = 0; bucket = [] } in
-    let row = get_or c.args.kept.now c.loop-row.row-index d in
+    let row = get_or c.args.rows.now c.loop-row.row-index d in
     let at = λ (rom : Rom). (let b : Before = record {
       rom = rom;
       script = c.args.script.now;
@@ -96,11 +96,11 @@ loop-row-preserved g c =
       cartridge = c.child_again-told.ensures.cartridge ∙ cartridge;
       long = c.child_again-told.ensures.long;
       pool =
-          pool_more before c.args.front.now.base c.args.limit c.args.kept.now c.loop-row.row-index d
+          pool_more before c.args.front.now.base c.args.limit c.args.rows.now c.loop-row.row-index d
           c.as_slice.result.now c.loop-row.again.pool c.push.new.self.pool
           c.loop-row-test.true shown c.loop-row.invariant.pool c.in_ok-push.ensures.pool;
       judged =
-          judged_more before c.args.kept.now c.loop-row.row-index d c.child_again-told.result
+          judged_more before c.args.rows.now c.loop-row.row-index d c.child_again-told.result
           c.loop-row.again.judged.items c.push.new.self.judged.items
           c.loop-row-test.true told c.loop-row.invariant.judged c.in_ok-push.ensures.judged;
       bytes =
