@@ -1,7 +1,7 @@
 -- Each command's work is what it reads and does.
 use Rattle.std.proofs.Common.{◌+◌, ◌≤◌, Contains, map, subst, sym}
 use Rattle.std.specs.Prelude.{IfOk}
-use Rattle.nj_outside.specs.Fnv.{fnv_of}
+use Rattle.nj_bytes.specs.Fnv.{fnv_of}
 use Rattle.nj_tasks.specs.Causes.{IsSavedAs}
 use Rattle.nj_tasks.specs.Stops.{Serves}
 use Rattle.nj_tasks.specs.Work.{frames_of, given}
