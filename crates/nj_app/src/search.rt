@@ -35,7 +35,10 @@ use nj_script::Script;
 use nj_search::{Ended, Limits, Outcome};
 use nj_seq::{Seq, Text};
 use nj_steps::Steps;
-use nj_tasks::{CartFormat, Hashed, Job, MovieFormat, Put, Reply, SavedFormat, ScriptFormat, Source, Stop, Task, named, reply_of};
+use nj_tasks::{
+    CartFormat, Hashed, Job, MovieFormat, Put, Reply, SavedFormat, ScriptFormat, Source, Stop,
+    Task, named, reply_of,
+};
 use nj_words::SearchOptions;
 use std::alloc::{AllocError, Global};
 use std::sync::Wait;
