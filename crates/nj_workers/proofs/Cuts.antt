@@ -216,8 +216,8 @@ pub more_taken : (held : Held) (rows : List Row) (runs left : List Run) (run : R
 more_taken held rows runs left run part turned next taken popped told pushed =
     let ran : All (WasRun held) (left ++ run ∷ []) = subst (All (WasRun held)) popped taken.ran in
     let first : All (WasRun held) left =
-    subst (All (WasRun held)) (take-append_seam left (run ∷ [])) (All-take (WasRun held) (length left) (left ++ run ∷ [])
-    ran) in
+    subst (All (WasRun held)) (take-append_seam left (run ∷ []))
+    (All-take (WasRun held) (length left) (left ++ run ∷ []) ran) in
     let last : WasRun held run =
     All-head (WasRun held) run []
     (subst (All (WasRun held)) (drop-append_seam left (run ∷ []))
