@@ -1,5 +1,5 @@
 -- One worker more sits down.
-use Rattle.std.proofs.Common.{length, refl, ap, ◌∙◌, arith}
+use Rattle.std.proofs.Common.{length, refl, ap, arith}
 use Rattle.nj_workers.specs.declared.desks.Desk.{Desk}
 use Rattle.nj_workers.proofs.Sitting.{still_all, begun_over, over_all}
 use Rattle.nj_workers.proofs.desks.sit_down.Goals as goal
