@@ -1,10 +1,10 @@
 -- Runs of neighbours: how they are cut, what the workers do with them, and their states in order.
-use Rattle.std.proofs.Common.{◌≡◌, ◌==◌, false, ℕ, zero, suc, ◌+◌, ◌-◌, ◌*◌, ◌<◌, ◌≤◌, List, [], ◌∷◌, ◌++◌, length, take, drop, refl, sym, ap, ap₂, subst, ◌∙◌, arith, append_assoc, append-nil, length-append, length-drop, le-add_right, mul-le-mul_right, mul-le-mul_left, mul-add, suc-mul}
+use Rattle.std.proofs.Common.{◌≡◌, ◌==◌, false, ℕ, zero, suc, ◌+◌, ◌-◌, ◌*◌, ◌<◌, ◌≤◌, List, [], ◌∷◌, ◌++◌, length, take, drop, refl, sym, ap, ap₂, subst, ◌∙◌, arith, append_assoc, append-nil, length-append, length-drop, le-add_right, mul-le-mul_left, mul-add, suc-mul}
 use Rattle.std.specs.Prelude.{Ok, IfOk, Result, max, min, reverse, sum}
 use Rattle.std.specs.List.{All}
 use Rattle.std.specs.declared.alloc.AllocError.{AllocError}
 use Rattle.std.proofs.lemmas.List.{reverse-append, take-append-drop}
-use Rattle.std.proofs.lemmas.List.Elements.{All-nil, All-cons, All-head, All-tail, All-take, All-drop}
+use Rattle.std.proofs.lemmas.List.Elements.{All-nil, All-cons, All-head, All-take, All-drop}
 use Rattle.std.proofs.lemmas.List.Sums.{sum_by-cons}
 use Rattle.std.proofs.Math.Seq.{take-append_seam, drop-append_seam}
 use Rattle.nj_rows.specs.declared.Row.{Row}
@@ -216,8 +216,8 @@ pub more_taken : (held : Held) (rows : List Row) (runs left : List Run) (run : R
 more_taken held rows runs left run part turned next taken popped told pushed =
     let ran : All (WasRun held) (left ++ run ∷ []) = subst (All (WasRun held)) popped taken.ran in
     let first : All (WasRun held) left =
-    subst (All (WasRun held)) (take-append_seam left (run ∷ [])) (All-take (WasRun held) (length left) (left ++ run ∷ [])
-    ran) in
+    subst (All (WasRun held)) (take-append_seam left (run ∷ []))
+    (All-take (WasRun held) (length left) (left ++ run ∷ []) ran) in
     let last : WasRun held run =
     All-head (WasRun held) run []
     (subst (All (WasRun held)) (drop-append_seam left (run ∷ []))

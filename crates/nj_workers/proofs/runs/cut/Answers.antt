@@ -1,6 +1,6 @@
 -- One run more is cut.
 use Rattle.std.proofs.Common.{◌≤◌, sym, subst}
-use Rattle.nj_workers.proofs.Cuts.{some_rows, more_cut, none_cut, all_cut}
+use Rattle.nj_workers.proofs.Cuts.{some_rows, more_cut}
 use Rattle.nj_workers.proofs.runs.cut.Goals as goal
 
 pub loop-left-preserved : goal.loop-left-preserved
