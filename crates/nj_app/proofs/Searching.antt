@@ -1,5 +1,5 @@
 -- A plan that is not refused is searched, and its frames are the search's.
-use Rattle.std.proofs.Common.{◌≡◌, Bool, List, Some, None, Ok, Err, refl, sym, ap, ◌∙◌}
+use Rattle.std.proofs.Common.{◌≡◌, Bool, Some, None, Ok, Err, refl, sym, ap, ◌∙◌}
 use Rattle.nj_search.specs.Ends.{ended_of, frames_most}
 use Rattle.nj_search.specs.Plans.{Planned, refusal_of}
 use Rattle.nj_search.specs.declared.planning.PlanRefused.{PlanRefused}

@@ -1,5 +1,5 @@
 -- The work of each command, by the names that its files have.
-use Rattle.std.proofs.Common.{◌≡◌, List, ℕ, Option, Some, None, refl, sym, ap, ap₂, ◌∙◌}
+use Rattle.std.proofs.Common.{◌≡◌, List, ℕ, Some, None, refl, sym, ap, ap₂, ◌∙◌}
 use Rattle.nj_words.specs.declared.Command.{Command}
 use Rattle.nj_words.specs.declared.Command.TheVariants.{Check, Resume, Search, Workload}
 use Rattle.nj_words.specs.declared.SearchOptions.{SearchOptions}

@@ -1,7 +1,7 @@
 -- What the program answers, as a function of its words and of the files. Our own.
 use Rattle.std.specs.Prelude.{◌≡◌, ℕ, List, [], ◌++◌, map, Contains, Option, Some, None, option_and_then, IsSomeAnd}
 use Rattle.std.specs.Option.{option_map_or}
-use Rattle.nj_outside.specs.Fnv.{fnv_of}
+use Rattle.nj_bytes.specs.Fnv.{fnv_of}
 use Rattle.nj_outside.specs.Told.{Files}
 use Rattle.nj_tasks.specs.Formats.{cart_format, names_of, script_format}
 use Rattle.nj_tasks.specs.Lines.{usage_line}

@@ -1,5 +1,5 @@
 -- The laws of the texts that the program writes. Our own.
-use Rattle.std.specs.Prelude.{◌≡◌, ◌≤◌, ◌<◌, ◌++◌, ℕ, ℤ, List, length, All, None, Ok, codes}
+use Rattle.std.specs.Prelude.{◌≡◌, ℕ, List, length, None, Ok}
 use Rattle.nj_game.specs.Plan.{movie_of as movie_of_word}
 use Rattle.nj_movie.specs.Text.{movie_of}
 use Rattle.nj_replay.specs.Reading.{word_of}

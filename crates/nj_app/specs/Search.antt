@@ -5,7 +5,7 @@ use Rattle.std.specs.Borrow.{Bor}
 use Rattle.std.specs.Option.{is_some, option_map_or}
 use Rattle.nj_game.specs.Plan.{plan_of}
 use Rattle.nj_ines.specs.Cartridge.{Cartridge}
-use Rattle.nj_outside.specs.Fnv.{fnv_from}
+use Rattle.nj_bytes.specs.Fnv.{fnv_from}
 use Rattle.nj_saved.specs.Bytes.{file_bytes}
 use Rattle.nj_saved.specs.declared.saved.Saved.{Saved}
 use Rattle.nj_script.specs.Script.{Record}

@@ -3,7 +3,7 @@
 
 ghost use Rattle.std.specs.Prelude.{◌≡◌, ◌≢◌, ◌≤◌, ℕ, List, length, map, option_map, Contains, IfOk, IfSome, IsErrOf, Result, Some, None, Err};
 ghost use Rattle.std.specs.List.{AllZip};
-ghost use Rattle.nj_outside.specs.Fnv.{fnv_from, fnv_of};
+ghost use Rattle.nj_bytes.specs.Fnv.{fnv_from, fnv_of};
 ghost use Rattle.nj_outside.specs.Rise.{Rose};
 ghost use Rattle.nj_outside.specs.Told.{Files};
 ghost use Rattle.nj_saved.specs.Ranges.{Fits, IsInRange};
@@ -26,16 +26,20 @@ ghost use Rattle.nj_app.specs.declared.sharing.TheConstants.{COUNTERS};
 use crate::outcomes::{outcome_status, outcome_text};
 use crate::planning::{self, Setting, searched_by_workers};
 use crate::sharing::COUNTERS;
+use nj_bytes::fnv_on;
 use nj_ines::Cart;
 use nj_movie::Movie;
-use nj_outside::{Gate, Shelf, fnv_on};
+use nj_outside::{Gate, Shelf};
 use nj_pad::Pad;
 use nj_saved::{Saved, write_saved};
 use nj_script::Script;
 use nj_search::{Ended, Limits, Outcome};
 use nj_seq::{Seq, Text};
 use nj_steps::Steps;
-use nj_tasks::{CartFormat, Hashed, Job, MovieFormat, Put, Reply, SavedFormat, ScriptFormat, Source, Stop, Task, named, reply_of};
+use nj_tasks::{
+    CartFormat, Hashed, Job, MovieFormat, Put, Reply, SavedFormat, ScriptFormat, Source, Stop,
+    Task, named, reply_of,
+};
 use nj_words::SearchOptions;
 use std::alloc::{AllocError, Global};
 use std::sync::Wait;
@@ -129,7 +133,7 @@ fn input_of(said: (((Cart, u64), (Script, u64)), Movie)) -> SearchInput
 }
 
 /// FNV-1a, going on from a hash by a byte for each pad.
-#[tactic(auto, unfolding(nj_outside::specs::Fnv::fnv_from))]
+#[tactic(auto, unfolding(nj_bytes::specs::Fnv::fnv_from))]
 fn hash_pads(hash: u64, pads: &[Pad]) -> u64
     ensures { result ≡ fnv_from hash pads.now }
 {

@@ -2,7 +2,7 @@
 
 ghost use Rattle.std.specs.Prelude.{◌≡◌, ◌≢◌, ◌⊎◌, ◌≤◌, List, ℕ, Some, None, Err, length, map, string_bytes, Contains, IfOk, IsErrOf};
 ghost use Rattle.std.specs.List.{AllZip};
-ghost use Rattle.nj_outside.specs.Fnv.{fnv_of};
+ghost use Rattle.nj_bytes.specs.Fnv.{fnv_of};
 ghost use Rattle.nj_outside.specs.Rise.{Rose};
 ghost use Rattle.nj_outside.specs.Told.{Files, appended};
 ghost use Rattle.nj_tasks.specs.Causes.{statuses, IsAnswered, IsPlain, Settles, IsCutShort, IsUnsaved, IsCarriedOut};

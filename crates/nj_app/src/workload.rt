@@ -19,7 +19,9 @@ use nj_script::Script;
 use nj_search::{Ended, Limits, Outcome};
 use nj_seq::Text;
 use nj_steps::Steps;
-use nj_tasks::{CartFormat, Job, Made, MovieFormat, Reply, ScriptFormat, Stop, Task, bytes_of, serve};
+use nj_tasks::{
+    CartFormat, Job, Made, MovieFormat, Reply, ScriptFormat, Stop, Task, bytes_of, serve,
+};
 use nj_texts::workload_line;
 use nj_workload::make_workload;
 use std::alloc::{AllocError, Global};

@@ -1,6 +1,6 @@
 //! The files that the command lines name.
 
-use nj_outside::MemShelf;
+use nj_memory::MemShelf;
 use nj_workload::make_workload;
 use std::alloc::{AllocError, Global};
 

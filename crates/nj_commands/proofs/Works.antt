@@ -27,7 +27,8 @@ module _ (command : Command) where
       (found_in replay_finding) ≡ work_without_search command
   unfolding work_without_search replay_work
   replay_is cart script start movie a b d e is p q r t =
-      ap₂ (λ x y. replay_work x y d e) p q ∙ ap₂ (λ x y. replay_work cart script x y) r t ∙ ap work_without_search (sym is)
+      ap₂ (λ x y. replay_work x y d e) p q ∙ ap₂ (λ x y. replay_work cart script x y) r t
+      ∙ ap work_without_search (sym is)
 
   -- `asm`
   pub asm_is : (source a : List ℕ) → command ≡ Asm source → a ≡ source →
@@ -42,7 +43,8 @@ module _ (command : Command) where
       (found_in clean_finding) ≡ work_without_search command
   unfolding work_without_search clean_work
   clean_is cart script start movie a b d e is p q r t =
-      ap₂ (λ x y. clean_work x y d e) p q ∙ ap₂ (λ x y. clean_work cart script x y) r t ∙ ap work_without_search (sym is)
+      ap₂ (λ x y. clean_work x y d e) p q ∙ ap₂ (λ x y. clean_work cart script x y) r t
+      ∙ ap work_without_search (sym is)
 
   -- `trace`
   pub trace_is : (cart movie a b : List ℕ) (frame n : ℕ) → command ≡ Trace cart movie frame → a ≡ cart → b ≡ movie →

@@ -13,7 +13,9 @@ use nj_replay::{ReplayRefused, Replayed};
 use nj_script::Script;
 use nj_seq::{Seq, Text};
 use nj_steps::Steps;
-use nj_tasks::{CartFormat, File, Job, MovieFormat, Reply, ScriptFormat, Stop, Task, bytes_of, named, refused};
+use nj_tasks::{
+    CartFormat, File, Job, MovieFormat, Reply, ScriptFormat, Stop, Task, bytes_of, named, refused,
+};
 use nj_texts::{Kind, clean_line, replay_line};
 use std::alloc::{AllocError, Global};
 use std::sync::ledger::Ledger;

@@ -72,8 +72,8 @@ fn played_text<L: Ledger>(
     memory_text(alloc, movie.pads().len(), machine.jammed(), machine.ram())
 }
 
-// A call of its own: where LLVM sees the machine as a local variable, it reads four bytes of registers of which two were
-// just stored, and a processor waits for each such read.
+// A call of its own: where LLVM sees the machine as a local variable, it reads four bytes of registers of which two
+// were just stored, and a processor waits for each such read.
 #[inline(never)]
 fn run_frames<L: Ledger>(machine: &mut Machine, pads: &[Pad], steps: &mut Steps<L>)
     ensures state { machine.new ≡ fold (λ s pad. (frame s pad).0) machine.old pads.now }

@@ -9,7 +9,9 @@ use nj_replay::{ReplayRefused, Replayed, replay};
 use nj_script::Script;
 use nj_seq::Text;
 use nj_steps::Steps;
-use nj_tasks::{CartFormat, File, Job, MovieFormat, Reply, ScriptFormat, Stop, Task, bytes_of, named, refused};
+use nj_tasks::{
+    CartFormat, File, Job, MovieFormat, Reply, ScriptFormat, Stop, Task, bytes_of, named, refused,
+};
 use nj_texts::{Kind, is_win, replay_line};
 use std::alloc::{AllocError, Global};
 use std::sync::ledger::Ledger;

@@ -1,8 +1,7 @@
 -- The states of a step's kept rows, in parts that are joined in their order.
-use Rattle.std.proofs.Common.{◌≡◌, ℕ, ◌+◌, ◌*◌, ◌<◌, ◌≤◌, List, [], ◌∷◌, ◌++◌, length, map, refl, ap, ap₂, sym, subst, ◌∙◌, arith, length-append, append_assoc, append-nil, mul-le-mul_right}
+use Rattle.std.proofs.Common.{◌≡◌, ℕ, ◌+◌, ◌*◌, ◌≤◌, List, [], ◌∷◌, ◌++◌, length, ap, ap₂, sym, subst, ◌∙◌, arith, length-append, append_assoc, append-nil, mul-le-mul_right}
 use Rattle.std.specs.Prelude.{Result, IfOk, reverse, sum_by, None}
 use Rattle.std.specs.declared.alloc.AllocError.{AllocError}
-use Rattle.std.specs.List.{All}
 use Rattle.std.proofs.Math.Nat.{add-mul}
 use Rattle.std.proofs.lemmas.List.{map-append, reverse-append, reverse-reverse}
 use Rattle.std.proofs.lemmas.List.Sums.{sum_by-append}
@@ -56,8 +55,8 @@ pub run_from : (h now : Held) (rows : List Row) (before : Before) (base : List �
 unfolding IsAgain
 run_from h now rows before base limit result same was base_is limit_is ran =
     subst (λ (h : Held). IfOk result (IsAgain h rows)) same
-    (subst (λ l. IfOk result (λ again. AreRunFrom (before_of h.plan h.state.front) (image_at h.plan []) l rows again.pool
-    again.judged.items)) limit_is
+    (subst (λ l. IfOk result (λ again. AreRunFrom (before_of h.plan h.state.front) (image_at h.plan []) l rows
+    again.pool again.judged.items)) limit_is
     (subst (λ b. IfOk result (λ again. AreRunFrom (before_of h.plan h.state.front) b limit rows again.pool
     again.judged.items)) base_is
     (subst (λ b. IfOk result (λ again. AreRunFrom b base limit rows again.pool again.judged.items)) was ran)))

@@ -5,7 +5,6 @@ ghost use Rattle.nj_machine.specs.State.{rom_of};
 ghost use Rattle.nj_machine.specs.Image.{image_len, IsImage};
 ghost use Rattle.nj_pool.specs.Front.{with_birth, with_births, bytes_held};
 ghost use Rattle.nj_expand.specs.Again.{Before, statuses_of, parent_of, birth_of, image_again, judged_again, AreRunFrom};
-
 ghost use Rattle.nj_expand.specs.Kept.{IsAgain};
 
 use crate::candidate::run_step;

@@ -119,12 +119,7 @@ impl Search {
     }
 
     // What is chosen of the rows of a step that is prepared.
-    fn chosen(
-        &self,
-        alloc: Global,
-        rows: &[Row],
-        prepared: Prepared,
-    ) -> Result<Chosen, AllocError>
+    fn chosen(&self, alloc: Global, rows: &[Row], prepared: Prepared) -> Result<Chosen, AllocError>
         requires prepared { IsPrepared self.now rows.now prepared }
         ensures { IfOk result (IsChosen self.now) }
     {

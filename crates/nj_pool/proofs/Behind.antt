@@ -104,7 +104,8 @@ part_further bytes more from end =
     (sym (drop-drop from (length bytes) (bytes ++ more)) ∙ ap (drop from) (drop-append_seam bytes more))
 
 strings_further : (bytes more : List ℕ) (from : ℕ) (ends : List ℕ)
-    → strings_in (length bytes + from) (map (λ end. length bytes + end) ends) (bytes ++ more) ≡ strings_in from ends more
+    → strings_in (length bytes + from) (map (λ end. length bytes + end) ends) (bytes ++ more)
+    ≡ strings_in from ends more
 strings_further bytes more from [] = refl
 strings_further bytes more from (end ∷ ends) =
     ap₂ (λ string strings. string ∷ strings) (part_further bytes more from end)

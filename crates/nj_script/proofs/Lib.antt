@@ -5,4 +5,5 @@ pub mod Accepted
 pub mod Members
 pub mod InRange
 pub mod Json
+pub mod Each
 pub mod PadBytes

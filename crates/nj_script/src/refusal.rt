@@ -6,7 +6,7 @@ use std::alloc::{AllocError, AllocFailed};
 
 /// Why a text is no script: the first refusal counts. A key is the member's own name, and a name is
 /// as the text has it.
-#[derive(Debug, Drop)]
+#[derive(Drop)]
 pub enum ScriptRefused {
     /// The text is no JSON.
     NotJson,

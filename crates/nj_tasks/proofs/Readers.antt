@@ -1,7 +1,7 @@
 -- What the reader of a file says of the work that reads it.
 use Rattle.std.proofs.Common.{◌≡◌, ◌<◌, ◌≤◌, ℕ, List, length, false, true, nat_lt, map, Contains, option_and_then, IsSomeAnd, Some, None, Result, Ok, Err, refl, sym, ap, subst, inl, inr, arith}
 use Rattle.std.proofs.lemmas.Bool.Decides.{nat_tests}
-use Rattle.nj_outside.specs.Fnv.{fnv_of}
+use Rattle.nj_bytes.specs.Fnv.{fnv_of}
 use Rattle.nj_outside.specs.Told.{Files}
 use Rattle.nj_tasks.specs.Formats.{FileFormat, loaded, made, names_of, reading_of}
 use Rattle.nj_texts.specs.Refusals.{too_long}

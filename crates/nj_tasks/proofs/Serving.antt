@@ -2,7 +2,7 @@
 use Rattle.std.proofs.Common.{◌≡◌, ◌+◌, ◌≤◌, ◌++◌, ℕ, List, map, Contains, Option, Some, Result, Ok, Err, ◌⊎◌, inl, inr, refl, sym, ap, ◌∙◌, subst, arith}
 use Rattle.std.proofs.lemmas.List.{map-append}
 use Rattle.std.proofs.lemmas.List.Elements.{Contains-append_left, Contains-append_right}
-use Rattle.nj_outside.specs.Fnv.{fnv_of}
+use Rattle.nj_bytes.specs.Fnv.{fnv_of}
 use Rattle.nj_outside.specs.Told.{Files}
 use Rattle.nj_texts.specs.Refusals.{refusal_line}
 use Rattle.nj_texts.specs.declared.kinds.Kind.{Kind}

@@ -1,6 +1,6 @@
 -- What a reply and a stop say of the answer, of `out` and of `err`.
 use Rattle.std.proofs.Common.{◌≡◌, ◌≢◌, ℕ, List, Option, Some, Result, Ok, Err, IfOk, OnOk, OnErr, IsErrOf, IsSomeAnd, ◌⊎◌, Contains, inl, inr, None, lit<, refl, sym, ap, ◌∙◌, subst}
-use Rattle.nj_outside.specs.Fnv.{fnv_of}
+use Rattle.nj_bytes.specs.Fnv.{fnv_of}
 use Rattle.nj_outside.specs.Told.{Files, appended, appended-nothing}
 use Rattle.nj_tasks.specs.Causes.{statuses, IsCarriedOut, IsPlain, IsAnswered, IsCutShort, IsPutCut, IsSavedAs, IsTextCut, IsUnsaved, line_for, put_by, with_put}
 use Rattle.nj_tasks.specs.Lines.{usage_line}

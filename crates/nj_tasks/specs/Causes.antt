@@ -1,6 +1,6 @@
 -- Which statuses come, when, and what stands on `out` and `err` then. Our own.
 use Rattle.std.specs.Prelude.{◌≡◌, ◌≢◌, ◌⊎◌, ℕ, ◌≤◌, ◌==◌, List, [], ◌∷◌, length, take, Option, Some, None, if◌then◌else◌}
-use Rattle.nj_outside.specs.Fnv.{fnv_of}
+use Rattle.nj_bytes.specs.Fnv.{fnv_of}
 use Rattle.std.specs.Option.{option_map_or}
 use Rattle.nj_outside.specs.Told.{Files, appended, put_file}
 use Rattle.nj_tasks.specs.Lines.{usage_line, read_fault_line, write_fault_line, no_memory_line}

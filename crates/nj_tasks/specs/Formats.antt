@@ -6,7 +6,7 @@ use Rattle.nj_asm.specs.declared.assembling.Assembled.{Assembled}
 use Rattle.nj_ines.specs.Cartridge.{Cartridge}
 use Rattle.nj_ines.specs.Reading.{cartridge_of}
 use Rattle.nj_movie.specs.Text.{movie_of}
-use Rattle.nj_outside.specs.Fnv.{fnv_of}
+use Rattle.nj_bytes.specs.Fnv.{fnv_of}
 use Rattle.nj_script.specs.Script.{Record, script_of}
 use Rattle.nj_saved.specs.Reading.{saved_of}
 use Rattle.nj_saved.specs.declared.saved.Saved.{Saved}

@@ -1,7 +1,7 @@
 -- What a command does, as a term over the files that it comes to. Our own.
 use Rattle.std.specs.Prelude.{◌≡◌, ◌⊎◌, ℕ, List, [], Option, Some, None, option_and_then, IsSomeAnd, Result, Ok, Err}
 use Rattle.std.specs.Option.{option_map_or}
-use Rattle.nj_outside.specs.Fnv.{fnv_of}
+use Rattle.nj_bytes.specs.Fnv.{fnv_of}
 use Rattle.nj_outside.specs.Told.{Files}
 use Rattle.nj_texts.specs.Kinds.{kind_status}
 use Rattle.nj_texts.specs.Refusals.{refusal_line}

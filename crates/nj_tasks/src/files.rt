@@ -2,7 +2,7 @@
 //! reader.
 
 ghost use Rattle.std.specs.Prelude.{◌≡◌, ◌≢◌, ◌++◌, List, [], ℕ, IfOk, Some, Err, Option, map, Contains, IsErrOf};
-ghost use Rattle.nj_outside.specs.Fnv.{fnv_of};
+ghost use Rattle.nj_bytes.specs.Fnv.{fnv_of};
 ghost use Rattle.nj_outside.specs.Rise.{Rose};
 ghost use Rattle.nj_outside.specs.Told.{Files};
 ghost use Rattle.nj_tasks.specs.Formats.{FileFormat, loaded, made, names_of, reading_of};

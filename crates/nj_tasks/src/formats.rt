@@ -7,9 +7,9 @@ ghost use Rattle.nj_tasks.specs.Formats.{cart_format, hashed, movie_format, save
 use crate::files::{Bounds, Format};
 use crate::stops::{Stop, refused};
 use nj_asm::{AsmRefused, Assembled, assemble};
+use nj_bytes::fnv;
 use nj_ines::{Cart, CartRefused};
 use nj_movie::{Movie, MovieRefused, a_text_says_its_pads, read_movie};
-use nj_outside::fnv;
 use nj_saved::{Saved, SavedRefused, read_saved};
 use nj_script::{Script, ScriptRefused};
 use nj_texts::Kind;

@@ -1,7 +1,7 @@
 //! What a command does once its files were read, and the one way in which each is carried out.
 
 ghost use Rattle.std.specs.Prelude.{◌≡◌, ◌≢◌, ◌+◌, ◌≤◌, List, ℕ, IfOk, Option, Some, None, Err, map, Contains, IsErrOf};
-ghost use Rattle.nj_outside.specs.Fnv.{fnv_of};
+ghost use Rattle.nj_bytes.specs.Fnv.{fnv_of};
 ghost use Rattle.nj_outside.specs.Rise.{Rose};
 ghost use Rattle.nj_outside.specs.Told.{Files};
 ghost use Rattle.nj_tasks.specs.Causes.{IsCarriedOut, IsSavedAs};

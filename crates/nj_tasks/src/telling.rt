@@ -1,7 +1,7 @@
 //! How a reply or a stop is told: by its text on `out`, the file that it puts, its line on `err`, and the exit status.
 
 ghost use Rattle.std.specs.Prelude.{◌≡◌, ◌≢◌, ◌⊎◌, ◌≤◌, List, ℕ, Some, Err, Contains, IfOk, IsErrOf, IsSomeAnd, OnOk, OnErr, Option};
-ghost use Rattle.nj_outside.specs.Fnv.{fnv_of};
+ghost use Rattle.nj_bytes.specs.Fnv.{fnv_of};
 ghost use Rattle.nj_outside.specs.Rise.{Rose};
 ghost use Rattle.nj_outside.specs.Told.{Files, appended};
 ghost use Rattle.nj_tasks.specs.Causes.{statuses, IsAnswered, IsPlain, Settles, IsCutShort, IsUnsaved, IsCarriedOut};

@@ -4,7 +4,7 @@ ghost use Rattle.nj_words.specs.declared.refused.WordsRefused.TheVariants.{NoMem
 use std::alloc::{AllocError, AllocFailed};
 
 /// Why no command was read.
-#[derive(Clone, Copy, Debug, PartialEq, Eq)]
+#[derive(Clone, Copy)]
 pub enum WordsRefused {
     /// The words have no reading.
     Usage,

@@ -16,7 +16,8 @@ counted_none workers most counts =
     record { many = refl; none_falls = same_counts counts; others = refl; together = omega arith }
 
 -- of those who sat at desks no counter falls
-none_falls : {X : Type 0} (Has : X → X → ℕ → ℕ → Type 0) → ((old new : X) (from to : ℕ) → Has old new from to → from ≤ to)
+none_falls : {X : Type 0} (Has : X → X → ℕ → ℕ → Type 0)
+    → ((old new : X) (from to : ℕ) → Has old new from to → from ≤ to)
     → (olds news : List X) (counts afters : List ℕ) → AllHave Has olds news counts afters
     → AllZip (λ before after. before ≤ after) counts afters
 none_falls Has rises [] [] counts afters have =

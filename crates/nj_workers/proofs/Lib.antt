@@ -10,4 +10,4 @@ pub mod Counters
 pub mod Seating
 pub mod Meetings
 pub mod Rooms
-pub mod Runs
+pub mod Cuts

@@ -6,7 +6,12 @@ use Rattle.nj_claims.specs.Tables.{IsTable, entries_in, slot_count}
 use Rattle.nj_script.specs.Script.{Record}
 use Rattle.nj_seen.specs.Held.{HoldsSeen}
 use Rattle.nj_expand.specs.declared.Bounds.{Bounds as Given}
-use Rattle.nj_expand.specs.Held.{Held, bounds_of}
+use Rattle.nj_expand.specs.declared.kept.Kept.{Kept}
+use Rattle.nj_expand.specs.declared.kept.Chosen.{Chosen}
+use Rattle.nj_expand.specs.declared.kept.Chosen.TheVariants.{Keeps}
+use Rattle.nj_expand.specs.Held.{Held, bounds_of, candidates_in, kept_in}
+use Rattle.nj_expand.specs.Kept.{IsKept, IsChosen}
+use Rattle.nj_rows.specs.declared.Row.{Row}
 use Rattle.nj_workers.specs.Counted.{AreCounted}
 use Rattle.nj_workers.specs.Room.{IsOpenFor}
 use Rattle.nj_workers.proofs.Counters.{counted_then}
@@ -36,21 +41,19 @@ opened_for held given words front exponent is many table slots empty seen fits =
       room = omega (arith, rooms, none, slots, fits);
     }
 
--- the candidates are counted, and then those that are kept
-pub counted_whole : (workers hold runs kept : ℕ) (counts mid afters : List ℕ)
-    → AreCounted workers counts mid (hold * runs) → AreCounted workers mid afters (hold * kept)
-    → AreCounted workers counts afters (hold * (runs + kept))
-counted_whole workers hold runs kept counts mid afters first then =
-    subst (λ (n : ℕ). AreCounted workers counts afters n) (sym (mul-add hold runs kept))
-    (counted_then workers counts mid afters (hold * runs) (hold * kept) first then)
-
--- a bound that is further off
-pub counted_within : (workers hold runs kept : ℕ) (counts afters : List ℕ)
-    → AreCounted workers counts afters (hold * runs) → AreCounted workers counts afters (hold * (runs + kept))
-counted_within workers hold runs kept counts afters counted = record {
-  many = counted.many;
-  none_falls = counted.none_falls;
-  others = counted.others;
-  together = (let was = counted.together in
-      let more : hold * (runs + kept) ≡ hold * runs + hold * kept = mul-add hold runs kept in omega arith);
-}
+-- the candidates are counted, and then the rows that are kept
+pub counted_whole : (workers : ℕ) (held : Held) (chosen : Chosen) (kept : Kept) (rows : List Row)
+    (counts mid afters : List ℕ)
+    → IsChosen held chosen → chosen ≡ Keeps kept → rows ≡ kept.rows.items
+    → AreCounted workers counts mid (held.plan.script.hold * length (candidates_in held))
+    → AreCounted workers mid afters (held.plan.script.hold * length rows)
+    → AreCounted workers counts afters
+    (held.plan.script.hold * (length (candidates_in held) + length (kept_in held)))
+counted_whole workers held chosen kept rows counts mid afters is keeps same first later =
+    let hold = held.plan.script.hold in
+    let runs = length (candidates_in held) in
+    let is_kept : IsKept held kept = subst (IsChosen held) keeps is in
+    let count : length rows ≡ length (kept_in held) = ap length same ∙ is_kept.count in
+    subst (λ (n : ℕ). AreCounted workers counts afters n) (sym (mul-add hold runs (length (kept_in held))))
+    (counted_then workers counts mid afters (hold * runs) (hold * length (kept_in held)) first
+    (subst (λ (n : ℕ). AreCounted workers mid afters (hold * n)) count later))

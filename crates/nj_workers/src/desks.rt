@@ -137,8 +137,8 @@ pub(crate) fn stand_up<E: Drop, L: Ledger>(
     requires empty { ends.old.items ≡ [] }
     requires room { vec_len desks ≤ vec_capacity ends.old }
     requires counters { vec_len desks + vec_len steps.old ≤ vec_capacity steps.old }
-    ensures ends { ends.new.items ≡ map (λ desk. desk.end) desks.entry.items }
-    ensures counters { steps.new.items ≡ map (λ desk. desk.steps) desks.entry.items ++ reverse steps.old.items }
+    ensures ends { ends.new.items ≡ map (λ desk. desk.end) desks.items }
+    ensures counters { steps.new.items ≡ map (λ desk. desk.steps) desks.items ++ reverse steps.old.items }
     ensures capacity { vec_capacity ends.new ≡ vec_capacity ends.old }
 {
     let mut desks = desks;

@@ -1,10 +1,10 @@
 //! The kept rows of a step, run again by all workers.
 
-ghost use Rattle.std.specs.Prelude.{◌≡◌, ◌≤◌, ◌<◌, ◌*◌, All, length, IfOk, OnOk};
+ghost use Rattle.std.specs.Prelude.{◌≡◌, ◌≤◌, ◌<◌, ◌*◌, All, length, IfOk, OnOk, OnErr};
 ghost use Rattle.nj_expand.specs.Kept.{ArePartsOf};
 ghost use Rattle.nj_workers.specs.Counted.{AreCounted};
-ghost use Rattle.nj_workers.specs.Desks.{EachPair};
-ghost use Rattle.nj_workers.specs.Runs.{rows_in, MayRunAgain, WasRun, HasRun};
+ghost use Rattle.nj_workers.specs.Desks.{EachPair, AllHave};
+ghost use Rattle.nj_workers.specs.Runs.{rows_in, MayRunAgain, HasRun};
 
 use crate::desks::{Desk, sit_down, stand_up};
 use nj_expand::{Again, Row, Search};
@@ -93,11 +93,9 @@ fn run_all<'a, R: Threads + Wait + Sync, L: Ledger + Send>(
     requires some { 0 < length runs.old.items }
     requires counters { length runs.old.items ≤ length steps.old.items }
     requires rows { MayRunAgain search.now (rows_in runs.old.items) }
-    ensures rows { OnOk result (rows_in runs.new.items ≡ rows_in runs.old.items) }
-    ensures many { OnOk result (length runs.new.items ≡ length runs.old.items) }
-    ensures ran { OnOk result (All (WasRun search.now) runs.new.items) }
-    ensures frames { AreCounted (length runs.old.items) steps.old.items steps.new.items
-        (search.now.plan.script.hold * length (rows_in runs.old.items)) }
+    ensures ran { OnOk result
+        (AllHave (HasRun search.now) runs.old.items runs.new.items steps.old.items steps.new.items) }
+    ensures counters { OnErr result (steps.new.items ≡ steps.old.items) }
 {
     let threads = runs.len();
     let mut desks = Vec::with_capacity(alloc, threads)?;
@@ -132,12 +130,7 @@ fn run_desks<'a, R: Threads + Wait + Sync, L: Ledger + Send>(
 }
 
 // Runs the states of a run's rows again.
-fn run_one<'a, L: Ledger>(
-    alloc: Global,
-    search: &Search,
-    run: &mut Run<'a>,
-    steps: &mut Steps<L>,
-)
+fn run_one<'a, L: Ledger>(alloc: Global, search: &Search, run: &mut Run<'a>, steps: &mut Steps<L>)
     requires { MayRunAgain search.now run.old.rows.now }
     ensures { HasRun search.now run.old run.new steps.old steps.new }
 {

@@ -1,5 +1,5 @@
 -- The text is a movie within its limit, and its replay is told by the line that the text begins with.
-use Rattle.std.proofs.Common.{◌≡◌, ◌<◌, ◌≤◌, ◌*◌, ◌++◌, ℕ, ℤ, List, [], ◌∷◌, length, false, nat_lt, None, IfSome, Result, Ok, codes, refl, ap, sym, ◌∙◌, arith, subst}
+use Rattle.std.proofs.Common.{◌≡◌, ◌<◌, ◌≤◌, ◌++◌, ℕ, ℤ, List, length, false, nat_lt, None, IfSome, Result, Ok, codes, refl, ap, sym, ◌∙◌, arith, subst}
 use Rattle.std.proofs.lemmas.Bool.Decides.{nat_tests}
 use Rattle.std.proofs.lemmas.List.Elements.{All-cons, All-nil}
 use Rattle.nj_game.specs.Plan.{Plan, movie_of as movie_of_word}

@@ -8,8 +8,8 @@ use Rattle.nj_app.proofs.planning.searched.Goals as goal
 
 pub returns-in_err-search_plain-in-Ok-clause-frames : goal.returns-in_err-search_plain-in-Ok-clause-frames
 returns-in_err-search_plain-in-Ok-clause-frames g c =
-    rw (found_frames (planned c.args.setting c.args.limits) c.args.keep c.in-Ok.plan c.in-Ok.ensures.0 c.in-Ok.ensures.1)
-    c.search_plain.ensures.frames
+    rw (found_frames (planned c.args.setting c.args.limits) c.args.keep c.in-Ok.plan c.in-Ok.ensures.0
+    c.in-Ok.ensures.1) c.search_plain.ensures.frames
 
 pub returns-in_ok-search_plain-in-Ok-clause-reads : goal.returns-in_ok-search_plain-in-Ok-clause-reads
 returns-in_ok-search_plain-in-Ok-clause-reads g c =
@@ -18,8 +18,8 @@ returns-in_ok-search_plain-in-Ok-clause-reads g c =
 
 pub returns-in_ok-search_plain-in-Ok-clause-frames : goal.returns-in_ok-search_plain-in-Ok-clause-frames
 returns-in_ok-search_plain-in-Ok-clause-frames g c =
-    rw (found_frames (planned c.args.setting c.args.limits) c.args.keep c.in-Ok.plan c.in-Ok.ensures.0 c.in-Ok.ensures.1)
-    c.search_plain.ensures.frames
+    rw (found_frames (planned c.args.setting c.args.limits) c.args.keep c.in-Ok.plan c.in-Ok.ensures.0
+    c.in-Ok.ensures.1) c.search_plain.ensures.frames
 
 pub returns-in-Err-clause-reads : goal.returns-in-Err-clause-reads
 returns-in-Err-clause-reads g c =

@@ -10,7 +10,8 @@ use Rattle.nj_app.proofs.planning.searched_by_workers.Goals as goal
 
 pub returns-in_err-search_shared-in-Ok-clause-frames : goal.returns-in_err-search_shared-in-Ok-clause-frames
 returns-in_err-search_shared-in-Ok-clause-frames g c =
-    rw (found_frames (planned c.args.setting c.args.limits) c.args.keep c.in-Ok.plan c.in-Ok.ensures.0 c.in-Ok.ensures.1)
+    rw (found_frames (planned c.args.setting c.args.limits) c.args.keep c.in-Ok.plan c.in-Ok.ensures.0
+    c.in-Ok.ensures.1)
     (by_more c.args.workers COUNTERS _ _ _ c.requires.workers.1 c.search_shared.ensures.frames)
 
 pub returns-in_ok-search_shared-in-Ok-clause-reads : goal.returns-in_ok-search_shared-in-Ok-clause-reads
@@ -20,7 +21,8 @@ returns-in_ok-search_shared-in-Ok-clause-reads g c =
 
 pub returns-in_ok-search_shared-in-Ok-clause-frames : goal.returns-in_ok-search_shared-in-Ok-clause-frames
 returns-in_ok-search_shared-in-Ok-clause-frames g c =
-    rw (found_frames (planned c.args.setting c.args.limits) c.args.keep c.in-Ok.plan c.in-Ok.ensures.0 c.in-Ok.ensures.1)
+    rw (found_frames (planned c.args.setting c.args.limits) c.args.keep c.in-Ok.plan c.in-Ok.ensures.0
+    c.in-Ok.ensures.1)
     (by_more c.args.workers COUNTERS _ _ _ c.requires.workers.1 c.search_shared.ensures.frames)
 
 pub returns-in-Err-clause-reads : goal.returns-in-Err-clause-reads

@@ -1,7 +1,7 @@
 -- Each command's work is what it reads and does.
 use Rattle.std.proofs.Common.{◌+◌, ◌≤◌, Contains, map, subst, sym}
 use Rattle.std.specs.Prelude.{IfOk}
-use Rattle.nj_outside.specs.Fnv.{fnv_of}
+use Rattle.nj_bytes.specs.Fnv.{fnv_of}
 use Rattle.nj_tasks.specs.Causes.{IsSavedAs}
 use Rattle.nj_tasks.specs.Stops.{Serves}
 use Rattle.nj_tasks.specs.Work.{frames_of, given}
@@ -10,15 +10,15 @@ use Rattle.nj_app.proofs.running.carry_out.Goals as goal
 
 pub returns-in-Search-clause-serves : goal.returns-in-Search-clause-serves
 returns-in-Search-clause-serves g c = λ files told.
-    subst (λ work. Serves files work (g.S.Shelf.failed_read c.serve-in-Search.new.shelf) c.serve-in-Search.result)
+    subst (λ work. Serves files work (g.S.Shelf.failed_read c.serve.new.shelf) c.serve.result)
     (search_is c.args.command.now _ _ _ _ _ _ c.in-Search.is c.searched.ensures.work c.searched.ensures.options)
-    (c.serve-in-Search.ensures.serves files told)
+    (c.serve.ensures.serves files told)
 
 pub returns-in-Search-clause-frames : goal.returns-in-Search-clause-frames
 returns-in-Search-clause-frames g c = λ files told.
-    subst (λ work. c.serve-in-Search.new.steps ≤ c.args.steps.now + frames_of (given files work))
+    subst (λ work. c.serve.new.steps ≤ c.args.steps.now + frames_of (given files work))
     (search_is c.args.command.now _ _ _ _ _ _ c.in-Search.is c.searched.ensures.work c.searched.ensures.options)
-    (c.serve-in-Search.ensures.frames files told)
+    (c.serve.ensures.frames files told)
 
 pub returns-in-Resume-clause-serves : goal.returns-in-Resume-clause-serves
 returns-in-Resume-clause-serves g c = λ files told.

@@ -1,10 +1,10 @@
 -- The names are those that were given.
 use Rattle.std.proofs.Common.{◌≡◌, List, ℕ, Contains, map, ap, ap₂, ◌∙◌, subst}
-use Rattle.nj_outside.specs.Fnv.{fnv_of}
-use Rattle.nj_tasks.specs.Formats.{cart_format, hashed, loaded, movie_format, names_of, script_format}
+use Rattle.nj_bytes.specs.Fnv.{fnv_of}
+use Rattle.nj_tasks.specs.Formats.{cart_format, hashed, loaded, movie_format, script_format}
 use Rattle.nj_app.specs.Search.{Game, game_files, game_names}
 use Rattle.nj_tasks.specs.Stops.{Loads}
-use Rattle.nj_tasks.specs.Work.{Work, both}
+use Rattle.nj_tasks.specs.Work.{both}
 use Rattle.nj_app.proofs.search.load_game.Goals as goal
 
 game_is : (cart script start a b d : List ℕ) → a ≡ cart → b ≡ script → d ≡ start →

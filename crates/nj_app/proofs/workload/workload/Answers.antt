@@ -35,11 +35,13 @@ returns-clause-serves g c = λ files told.
     subst (λ work. Serves files work (g.S.Shelf.failed_read c.serve.new.shelf) c.serve.result)
     (work_is c.args.number _ _ _ _ (c.as_slice.ensures.value ∙ c.in_ok-made.ensures.cart) (c.as_bytes.ensures.value
     ∙ c.in_ok-made.ensures.script)
-    (c.as_bytes-2.ensures.value ∙ c.in_ok-made.ensures.start) ?) (c.serve.ensures.serves files told)
+    (c.as_bytes-2.ensures.value ∙ c.in_ok-made.ensures.start)
+    (c.len-size.ensures ∙ ap length c.in_ok-made.ensures.cart)) (c.serve.ensures.serves files told)
 
 pub returns-clause-frames : goal.returns-clause-frames
 returns-clause-frames g c = λ files told.
     subst (λ work. c.serve.new.steps ≤ c.args.steps.now + frames_of (given files work))
     (work_is c.args.number _ _ _ _ (c.as_slice.ensures.value ∙ c.in_ok-made.ensures.cart) (c.as_bytes.ensures.value
     ∙ c.in_ok-made.ensures.script)
-    (c.as_bytes-2.ensures.value ∙ c.in_ok-made.ensures.start) ?) (c.serve.ensures.frames files told)
+    (c.as_bytes-2.ensures.value ∙ c.in_ok-made.ensures.start)
+    (c.len-size.ensures ∙ ap length c.in_ok-made.ensures.cart)) (c.serve.ensures.frames files told)

@@ -1,5 +1,5 @@
 -- The string at a place stands within the bytes.
-use Rattle.std.proofs.Common.{◌≤◌, ℕ, [], length, get_or, sym, ap, subst, ◌∙◌}
+use Rattle.std.proofs.Common.{◌≤◌, ℕ, length, get_or, sym, ap, subst, ◌∙◌}
 use Rattle.std.specs.Prelude.{slice_range}
 use Rattle.nj_pool.proofs.Behind.{string_at, string_within}
 use Rattle.nj_pool.proofs.strings.string_at.Goals as goal

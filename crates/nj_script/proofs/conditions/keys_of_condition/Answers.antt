@@ -1,4 +1,4 @@
-use Rattle.std.proofs.Common.{ap, refl, sym}
+use Rattle.std.proofs.Common.{ap, sym}
 use Rattle.nj_script.specs.Kinds.{condition_keys}
 use Rattle.nj_script.proofs.conditions.keys_of_condition.Goals as goal
 

@@ -1,6 +1,6 @@
 -- The file is put as all files are.
 use Rattle.std.proofs.Common.{◌≡◌, ◌≤◌, ◌⊎◌, ◌∙◌, ℕ, List, length, take, Option, Some, sym, ap, subst}
-use Rattle.nj_outside.specs.Fnv.{fnv_of}
+use Rattle.nj_bytes.specs.Fnv.{fnv_of}
 use Rattle.nj_outside.specs.Told.{Files, put_file}
 use Rattle.nj_tasks.specs.Causes.{IsPutCut, with_put}
 use Rattle.nj_tasks.specs.declared.stops.Put.{Put}

@@ -1,7 +1,7 @@
 -- The runs so far and the rows that are left are all.
 use Rattle.std.proofs.Common.{◌≤◌, length}
 use Rattle.std.specs.Prelude.{vec_capacity}
-use Rattle.nj_workers.proofs.Runs.{AreCut}
+use Rattle.nj_workers.proofs.Cuts.{AreCut}
 use Rattle.nj_workers.proofs.runs.cut.Given as goal
 
 abbrev pub invariant-loop-left : goal.invariant-loop-left

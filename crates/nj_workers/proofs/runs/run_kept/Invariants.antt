@@ -1,7 +1,7 @@
 -- The states of the runs behind those that are left, turned round.
 use Rattle.std.proofs.Common.{◌≤◌, ◌+◌}
 use Rattle.std.specs.Prelude.{vec_len, vec_capacity}
-use Rattle.nj_workers.proofs.Runs.{AreTaken}
+use Rattle.nj_workers.proofs.Cuts.{AreTaken}
 use Rattle.nj_workers.proofs.runs.run_kept.Given as goal
 
 abbrev pub invariant-loop-run : goal.invariant-loop-run

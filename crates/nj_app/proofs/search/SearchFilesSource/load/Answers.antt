@@ -2,7 +2,7 @@
 use Rattle.std.proofs.Common.{◌≡◌, ◌∙◌, ℕ, List, [], ◌∷◌, Contains, map, Option, Some, None, Result, Ok, Err, arith, ap, subst, sym}
 use Rattle.std.proofs.lemmas.Result.{err_from_is_err_and}
 use Rattle.std.specs.Borrow.{Bor}
-use Rattle.nj_outside.specs.Fnv.{fnv_of}
+use Rattle.nj_bytes.specs.Fnv.{fnv_of}
 use Rattle.nj_outside.specs.Told.{Files}
 use Rattle.nj_app.specs.Search.{Game, game_files, game_names, input_of, name_in, saved_loaded, search_files, search_names}
 use Rattle.nj_tasks.specs.Stops.{Loads}

@@ -10,13 +10,15 @@ pub returns-clause-reads : goal.returns-clause-reads
 unfolding search_finding
 returns-clause-reads g c =
     c.found_from.ensures.reads
-    (search_reading (planned c.args.said.setting (limits_of c.args.self.now.options.now)) (is_some c.args.self.now.options.now.save))
+    (search_reading (planned c.args.said.setting (limits_of c.args.self.now.options.now))
+    (is_some c.args.self.now.options.now.save))
     (rw (c.limits_of.ensures.value, c.is_some-keep.ensures) at c.searched-ended.ensures.reads)
 
 pub returns-clause-frames : goal.returns-clause-frames
 unfolding search_finding
 returns-clause-frames g c =
     rw (told_frames kinds.Plan (found_of c.args.said.cart_hash c.args.said.script_hash)
-    (search_reading (planned c.args.said.setting (limits_of c.args.self.now.options.now)) (is_some c.args.self.now.options.now.save))
+    (search_reading (planned c.args.said.setting (limits_of c.args.self.now.options.now))
+    (is_some c.args.self.now.options.now.save))
     (frames_most (planned c.args.said.setting (limits_of c.args.self.now.options.now))))
     (rw (c.limits_of.ensures.value, c.is_some-keep.ensures) at c.searched-ended.ensures.frames)

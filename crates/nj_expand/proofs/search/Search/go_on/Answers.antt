@@ -1,5 +1,5 @@
 -- One part more, and all of them.
-use Rattle.std.proofs.Common.{length, arith}
+use Rattle.std.proofs.Common.{arith}
 use Rattle.nj_expand.proofs.Parts.{IsNext, begun_joining, next_joining, base_next, births_next, room_next, still_joining, all_joined}
 use Rattle.nj_expand.proofs.search.Search.go_on.Goals as goal
 

@@ -1,5 +1,5 @@
 -- The state after the step.
-use Rattle.std.proofs.Common.{arith, ℕ, Vec, Global, List, [], ◌∷◌, ◌++◌, ◌≡◌, ◌+◌, ◌*◌, ◌<◌, length, ap, sym, subst, ◌∙◌, refl, cond}
+use Rattle.std.proofs.Common.{arith, ℕ, Vec, Global, List, [], ◌∷◌, ◌++◌, ◌+◌, ◌*◌, ◌<◌, length, ap, sym, subst, ◌∙◌, refl, cond}
 use Rattle.std.specs.Prelude.{nat_lt}
 use Rattle.nj_search_defs.specs.Outcome.{State, seen_of, state_after}
 use Rattle.nj_seen.specs.Held.{seen_in}
@@ -7,11 +7,11 @@ use Rattle.nj_game.specs.Plan.{plan_of}
 use Rattle.nj_game.specs.Words.{game_of}
 use Rattle.nj_expand.specs.Held.{Held, bounds_of, kept_in}
 use Rattle.nj_expand.specs.Front.{size_in, image_at}
-use Rattle.nj_expand.specs.Again.{before_of, AreRunFrom}
-use Rattle.nj_expand.specs.Ending.{IsNewTable, AreNextKeys, CanPut, IsPut, AreFew}
+use Rattle.nj_expand.specs.Again.{before_of}
+use Rattle.nj_expand.specs.Ending.{CanPut, IsPut, AreFew}
 use Rattle.nj_expand.specs.Kept.{IsAgain, IsKept}
 use Rattle.nj_expand.proofs.Ends.{are_kept, kept_rows_in, generation_in, goes_step}
-use Rattle.nj_expand.proofs.Nexts.{AreKept, laws_of, mark_next, state_next, new_front, new_words, have_parents}
+use Rattle.nj_expand.proofs.Nexts.{laws_of, mark_next, state_next, new_front, new_words, have_parents}
 use Rattle.nj_expand.proofs.Parts.{again_is}
 use Rattle.nj_expand.proofs.Filed.{IsAfter, can_put, put_makes, after_step}
 use Rattle.nj_expand.proofs.search.Search.move_on.Goals as goal
@@ -63,16 +63,16 @@ put-requires c =
     (record { table = table.table; slots = table.slots; seen = table.seen }) kept.table)
 
 after : (c : goal.After-drop-rows-2) → (let s = c.self.inside in let h : Held = record {
-      plan = plan_of s.cart s.script s.start;
-      bounds = bounds_of s.bounds s.script;
-      state = record {
-        step = s.step;
-        front = s.pool.words;
-        seen = seen_in s.words.items s.step s.keys.oldest;
-        mark = record { level = s.mark.level; until = s.mark.until };
-      };
-      spent = s.spent;
-    } in
+  plan = plan_of s.cart s.script s.start;
+  bounds = bounds_of s.bounds s.script;
+  state = record {
+    step = s.step;
+    front = s.pool.words;
+    seen = seen_in s.words.items s.step s.keys.oldest;
+    mark = record { level = s.mark.level; until = s.mark.until };
+  };
+  spent = s.spent;
+} in
     IsAfter h c.put.result.items c.args.kept.keys s.bounds.exponent)
 after c =
     let s = c.self.inside in

@@ -1,8 +1,6 @@
 -- The states of rows, run again from the front's images.
-use Rattle.std.proofs.Common.{◌≡◌, ◌+◌, ◌*◌, ◌<◌, ◌≤◌, List, length, ap, sym, subst, ◌∙◌, arith, mul-le-mul_right}
-use Rattle.std.specs.Prelude.{Ok, IfOk}
+use Rattle.std.proofs.Common.{◌≡◌, ◌+◌, ◌*◌, ◌<◌, ◌≤◌, length, ap, sym, subst, ◌∙◌, arith, mul-le-mul_right}
 use Rattle.std.specs.List.{All}
-use Rattle.nj_machine.specs.State.{rom_of}
 use Rattle.nj_game.specs.Plan.{plan_of}
 use Rattle.nj_seen.specs.Held.{seen_in}
 use Rattle.nj_expand.specs.Held.{Held, bounds_of}

@@ -1,5 +1,5 @@
 -- All strings of another list behind.
-use Rattle.std.proofs.Common.{◌≡◌, ◌+◌, ◌<◌, List, ℕ, ◌++◌, map, length, ap, ap₂, sym, subst, ◌∙◌, arith, length-append}
+use Rattle.std.proofs.Common.{◌+◌, ◌<◌, List, ℕ, ◌++◌, map, length, ap, ap₂, sym, subst, ◌∙◌, arith, length-append}
 use Rattle.std.specs.List.{All}
 use Rattle.nj_pool.proofs.Behind.{ends_small, AreJoined, are_joined}
 use Rattle.nj_pool.proofs.strings.Strings.append.Goals as goal

@@ -1,6 +1,5 @@
 -- One string more.
-use Rattle.std.proofs.Common.{◌≡◌, ℕ, List, ◌∷◌, [], ◌++◌, ◌+◌, length, sym, ap, subst, ◌∙◌, arith, length-append}
-use Rattle.nj_pool.specs.Strings.{strings_in, AreEnds}
+use Rattle.std.proofs.Common.{ℕ, List, ◌∷◌, [], ◌++◌, ap, ◌∙◌, arith}
 use Rattle.nj_pool.proofs.Behind.{IsOneMore, is_one_more}
 use Rattle.nj_pool.proofs.strings.Strings.push.Goals as goal
 

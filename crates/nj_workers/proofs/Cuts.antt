@@ -1,10 +1,10 @@
 -- Runs of neighbours: how they are cut, what the workers do with them, and their states in order.
-use Rattle.std.proofs.Common.{◌≡◌, ℕ, zero, suc, ◌+◌, ◌-◌, ◌*◌, ◌<◌, ◌≤◌, List, [], ◌∷◌, ◌++◌, length, take, drop, refl, sym, ap, ap₂, subst, ◌∙◌, arith, append_assoc, append-nil, length-append, length-drop, le-add_right, mul-le-mul_right, mul-le-mul_left, mul-add, suc-mul}
+use Rattle.std.proofs.Common.{◌≡◌, ◌==◌, false, ℕ, zero, suc, ◌+◌, ◌-◌, ◌*◌, ◌<◌, ◌≤◌, List, [], ◌∷◌, ◌++◌, length, take, drop, refl, sym, ap, ap₂, subst, ◌∙◌, arith, append_assoc, append-nil, length-append, length-drop, le-add_right, mul-le-mul_left, mul-add, suc-mul}
 use Rattle.std.specs.Prelude.{Ok, IfOk, Result, max, min, reverse, sum}
 use Rattle.std.specs.List.{All}
 use Rattle.std.specs.declared.alloc.AllocError.{AllocError}
 use Rattle.std.proofs.lemmas.List.{reverse-append, take-append-drop}
-use Rattle.std.proofs.lemmas.List.Elements.{All-nil, All-cons, All-head, All-tail, All-take, All-drop}
+use Rattle.std.proofs.lemmas.List.Elements.{All-nil, All-cons, All-head, All-take, All-drop}
 use Rattle.std.proofs.lemmas.List.Sums.{sum_by-cons}
 use Rattle.std.proofs.Math.Seq.{take-append_seam, drop-append_seam}
 use Rattle.nj_rows.specs.declared.Row.{Row}
@@ -16,7 +16,7 @@ use Rattle.nj_workers.specs.declared.runs.Run.{Run}
 use Rattle.nj_workers.specs.Desks.{AllHave}
 use Rattle.nj_workers.specs.Counted.{AreCounted}
 use Rattle.nj_workers.specs.Runs.{rows_in, MayRunAgain, WasRun, HasRun}
-use Rattle.nj_workers.proofs.Counters.{counted}
+use Rattle.nj_workers.proofs.Counters.{counted, by_more}
 
 -- the rows of one run more
 rows_more : (runs : List Run) (run : Run) → rows_in (runs ++ run ∷ []) ≡ rows_in runs ++ run.rows.now
@@ -44,7 +44,14 @@ run_left rows workers size runs left cut some =
     let n = some_left (workers - length runs) (length left) size cut.enough some in omega (arith, n)
 
 pub none_cut : (rows : List Row) (workers size : ℕ) → length rows ≤ workers * size → AreCut rows workers size [] rows
-none_cut rows workers size enough = record { whole = refl; few = omega arith; enough = enough }
+none_cut rows workers size enough =
+    let all : workers ≡ workers - 0 = omega arith in
+    record { whole = refl; few = omega arith; enough = subst (λ n. length rows ≤ n * size) all enough }
+
+-- what is not empty has some
+pub some_rows : (n : ℕ) → false ≡ (n == 0) → 0 < n
+some_rows zero is = absurd (cc)
+some_rows (suc n) is = omega arith
 
 -- one run more is cut
 fewer_left : (n rows size taken : ℕ) → rows ≤ suc n * size → taken ≡ min size rows → rows - taken ≤ n * size
@@ -140,7 +147,7 @@ were_run held (old ∷ olds) (new ∷ news) (count ∷ counts) (after ∷ afters
     let rest = were_run held olds news counts afters have.1 in
     let hold = held.plan.script.hold in
     let frames : hold * length (old.rows.now ++ rows_in olds) ≡ hold * length old.rows.now
-        + hold * length (rows_in olds) =
+    + hold * length (rows_in olds) =
     ap (λ n. hold * n) (length-append old.rows.now (rows_in olds))
     ∙ mul-add hold (length old.rows.now) (length (rows_in olds)) in
     record {
@@ -159,13 +166,22 @@ were_run held (old ∷ olds) (new ∷ news) (count ∷ counts) (after ∷ afters
       );
     }
 
-pub runs_counted : (held : Held) (olds news : List Run) (counts afters : List ℕ)
+runs_counted : (held : Held) (olds news : List Run) (counts afters : List ℕ)
     → AllHave (HasRun held) olds news counts afters
     → AreCounted (length olds) counts afters (held.plan.script.hold * length (rows_in olds))
 runs_counted held olds news counts afters have =
     counted (HasRun held) (λ old new from to has. has.rises) (length olds)
     (held.plan.script.hold * length (rows_in olds)) olds news counts afters refl have
     (were_run held olds news counts afters have).together
+
+-- the counters of so many workers, no fewer than runs
+pub kept_counted : (workers : ℕ) (held : Held) (rows : List Row) (olds news : List Run) (counts afters : List ℕ)
+    → rows_in olds ≡ rows → length olds ≤ workers → AllHave (HasRun held) olds news counts afters
+    → AreCounted workers counts afters (held.plan.script.hold * length rows)
+kept_counted workers held rows olds news counts afters are few have =
+    by_more (length olds) workers counts afters (held.plan.script.hold * length rows) few
+    (subst (λ rs. AreCounted (length olds) counts afters (held.plan.script.hold * length rs)) are
+    (runs_counted held olds news counts afters have))
 
 -- ---- their states
 
@@ -176,14 +192,22 @@ pub record AreTaken (held : Held) (rows : List Row) (runs : List Run) (turned : 
   pub ran : All (WasRun held) runs
   pub parts : ArePartsOf held rest (reverse turned)
 
-pub none_taken : (held : Held) (rows : List Row) (runs : List Run) (parts : List Again) → rows_in runs ≡ rows
-    → All (WasRun held) runs → parts ≡ [] → AreTaken held rows runs parts
-none_taken held rows runs parts are ran none = record {
-  rest = [];
-  whole = sym are ∙ sym (append-nil (rows_in runs));
-  ran = ran;
-  parts = subst (λ parts. ArePartsOf held [] (reverse parts)) (sym none) refl;
-}
+pub none_taken : (held : Held) (rows : List Row) (olds runs : List Run) (counts afters : List ℕ) (parts : List Again)
+    → rows_in olds ≡ rows → AllHave (HasRun held) olds runs counts afters → parts ≡ []
+    → AreTaken held rows runs parts
+none_taken held rows olds runs counts afters parts are have none =
+    let were = were_run held olds runs counts afters have in
+    record {
+      rest = [];
+      whole = sym are ∙ sym were.rows ∙ sym (append-nil (rows_in runs));
+      ran = were.ran;
+      parts = subst (λ parts. ArePartsOf held [] (reverse parts)) (sym none) refl;
+    }
+
+-- as many runs after as before
+pub many_run : (held : Held) (olds runs : List Run) (counts afters : List ℕ)
+    → AllHave (HasRun held) olds runs counts afters → length runs ≡ length olds
+many_run held olds runs counts afters have = (were_run held olds runs counts afters have).many
 
 pub more_taken : (held : Held) (rows : List Row) (runs left : List Run) (run : Run) (part : Again)
     (turned next : List Again)
@@ -192,8 +216,8 @@ pub more_taken : (held : Held) (rows : List Row) (runs left : List Run) (run : R
 more_taken held rows runs left run part turned next taken popped told pushed =
     let ran : All (WasRun held) (left ++ run ∷ []) = subst (All (WasRun held)) popped taken.ran in
     let first : All (WasRun held) left =
-    subst (All (WasRun held)) (take-append_seam left (run ∷ [])) (All-take (WasRun held) (length left) (left ++ run ∷ [])
-    ran) in
+    subst (All (WasRun held)) (take-append_seam left (run ∷ []))
+    (All-take (WasRun held) (length left) (left ++ run ∷ []) ran) in
     let last : WasRun held run =
     All-head (WasRun held) run []
     (subst (All (WasRun held)) (drop-append_seam left (run ∷ []))
