@@ -23,8 +23,6 @@ mod forgetting;
 mod laws;
 mod publishing;
 mod telling;
-#[cfg(test)]
-mod tests;
 
 pub use adding::{add_keys, keys_of, unseen};
 pub use claimed::owned_unseen;

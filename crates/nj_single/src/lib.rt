@@ -4,8 +4,6 @@
 #![tactic(auto)]
 
 mod step;
-#[cfg(test)]
-mod tests;
 
 pub use nj_expand::{Row, Search, Stepped};
 pub use nj_steps::Steps;

@@ -5,11 +5,11 @@ ghost use Rattle.std.specs.List.{All};
 ghost use Rattle.nj_claims.specs.Tables.{IsTable, entries_in};
 ghost use Rattle.nj_seen.specs.Held.{first_claim};
 
-use crate::{
+use nj_claims::{ClaimTable, Claimed, Pass, empty_table, owner_of};
+use nj_seen::{
     FIRST_CLAIM, Row, Seq, Verdict3, add_keys, fresh, generations, keys_of, publish, room,
     table_of, unseen,
 };
-use nj_claims::{ClaimTable, Claimed, Pass, empty_table, owner_of};
 use std::alloc::{AllocError, Global};
 use std::test::Fail;
 

@@ -1,6 +1,6 @@
 -- The pass stays of its table.
 use Rattle.std.proofs.Common.{◌≡◌}
-use Rattle.nj_seen.proofs.tests.claim_keys.Given as goal
+use Rattle.nj_seen_tests.proofs.forgetting.claim_keys.Given as goal
 
 abbrev pub invariant-loop-key : goal.invariant-loop-key
 invariant-loop-key l = record {

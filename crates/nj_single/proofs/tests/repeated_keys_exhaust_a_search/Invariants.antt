@@ -1,5 +1,0 @@
--- The ledger of the call is the one that its blank names.
-use Rattle.nj_single.proofs.tests.repeated_keys_exhaust_a_search.Given as goal
-
-abbrev pub ghosts-ended : goal.ghosts-ended
-ghosts-ended g a = record { name = a.blank.name; parts = a.blank.parts }
