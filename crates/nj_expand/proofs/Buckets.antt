@@ -1,15 +1,14 @@
 -- Buckets: those of rows are the same where those of their words are.
-use Rattle.std.proofs.Common.{◌≡◌, ℕ, zero, suc, ℤ, pos, ◌-◌, ◌≤◌, true, ◌&&◌, List, [], ◌∷◌, ◌++◌, length, replicate, get_or, refl, sym, ap, ◌∙◌, arith}
+use Rattle.std.proofs.Common.{◌≡◌, ℕ, zero, suc, ℤ, pos, ◌-◌, true, ◌&&◌, List, [], ◌∷◌, ◌++◌, length, replicate, refl, sym, ap, ◌∙◌, arith}
 use Rattle.std.specs.Ordering.{int_eq}
 use Rattle.std.proofs.lemmas.List.{length-map}
 use Rattle.nj_search_defs.specs.Game.{Word, Game}
 use Rattle.nj_search_defs.specs.Quota.{same_values}
 use Rattle.nj_property.specs.Property.{value_of}
-use Rattle.nj_machine.specs.State.{State, ram_of}
-use Rattle.nj_script.specs.Script.{Record}
+use Rattle.nj_machine.specs.State.{ram_of}
 use Rattle.nj_game.specs.Plan.{Plan}
 use Rattle.nj_game.specs.Words.{state_of, bucket_of, game_of}
-use Rattle.nj_expand.specs.Rows.{row_bucket, values_at}
+use Rattle.nj_candidate.specs.Rows.{row_bucket}
 
 -- zeros are the same
 same_zeros : (n : ℕ) → same_values (replicate n (pos 0)) (replicate n (pos 0)) ≡ true
@@ -41,26 +40,3 @@ unfolding game_of bucket_of
 even_buckets plan v w =
     length-map plan.script.bucket (λ property. value_of property (ram_of (state_of plan v)))
     ∙ sym (length-map plan.script.bucket (λ property. value_of property (ram_of (state_of plan w))))
-
--- ---- the four places
-
-four : (values : List ℤ) → length values ≤ 4
-    → (get_or values 0 (pos 0) ∷ get_or values 1 (pos 0) ∷ get_or values 2 (pos 0) ∷ get_or values 3 (pos 0) ∷ [])
-    ≡ row_bucket values
-unfolding row_bucket
-four [] few = refl
-four (a ∷ []) few = refl
-four (a ∷ b ∷ []) few = refl
-four (a ∷ b ∷ c ∷ []) few = refl
-four (a ∷ b ∷ c ∷ d ∷ []) few = refl
-four (a ∷ b ∷ c ∷ d ∷ e ∷ rest) few = absurd (omega (arith, few))
-
--- the values at four places, where there are no more
-pub bucket_is : (script : Record) (s : State) (a b c d : ℤ) → length script.bucket ≤ 4
-    → a ≡ get_or (values_at script s) 0 (pos 0) → b ≡ get_or (values_at script s) 1 (pos 0)
-    → c ≡ get_or (values_at script s) 2 (pos 0) → d ≡ get_or (values_at script s) 3 (pos 0)
-    → (a ∷ b ∷ c ∷ d ∷ []) ≡ row_bucket (values_at script s)
-bucket_is script s a b c d few first second third fourth =
-    let count : length (values_at script s) ≡ length script.bucket =
-    length-map script.bucket (λ property. value_of property (ram_of s)) in
-    (λ i. first i ∷ second i ∷ third i ∷ fourth i ∷ []) ∙ four (values_at script s) (omega (arith, count, few))

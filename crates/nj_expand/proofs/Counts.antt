@@ -5,10 +5,16 @@ use Rattle.nj_search_defs.specs.Candidates.{extensions, candidates_from, candida
 use Rattle.nj_rules.specs.declared.record.InputSet.{InputSet}
 use Rattle.nj_rules.specs.Pads.{allowed_pads, named_pads}
 use Rattle.nj_machine.specs.State.{ram_of}
-use Rattle.nj_game.specs.Words.{state_of, game_of}
+use Rattle.nj_game.specs.Plan.{Plan}
+use Rattle.nj_game.specs.Words.{state_of, allowed_of, game_of}
 use Rattle.nj_expand.specs.Held.{Held, candidates_in, kept_in}
-use Rattle.nj_expand.proofs.Words.{told_allowed}
 use Rattle.nj_expand.proofs.Ends.{kept_few}
+
+-- the pads that may follow a word
+told_allowed : (plan : Plan) (word : Word) → (let g : Game = game_of plan in g.allowed word)
+    ≡ allowed_pads plan.script.inputs.sets (ram_of (state_of plan word))
+unfolding game_of allowed_of
+told_allowed plan word = refl
 
 pub length-extensions : (number : ℕ) (word : Word) (pads : List ℕ) → length (extensions number word pads) ≡ length pads
 length-extensions number word [] = refl

@@ -11,8 +11,8 @@ use Rattle.nj_game.specs.Words.{game_of}
 use Rattle.nj_rows.specs.declared.Row.{Row}
 use Rattle.nj_rows.specs.Order.{is_win_row, is_row_before, is_alike_row}
 use Rattle.nj_seen.specs.Rows.{IsRising, winner_row, fresh_rows, kept_rows, generation_rows}
+use Rattle.nj_candidate.specs.Rows.{row_of}
 use Rattle.nj_expand.specs.declared.Stepped.TheVariants.{Won, Exhausted, Go}
-use Rattle.nj_expand.specs.Rows.{row_of}
 use Rattle.nj_expand.specs.Held.{Held, live_rows, kept_in, next_in}
 use Rattle.nj_expand.specs.Step.{IsStepBy, IsStep}
 use Rattle.nj_expand.specs.Ending.{AreFew, fresh_rows_in}

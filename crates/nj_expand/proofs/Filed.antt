@@ -19,11 +19,12 @@ use Rattle.nj_game.specs.Plan.{Plan}
 use Rattle.nj_pool.specs.Front.{Front}
 use Rattle.nj_seen.specs.Rows.{IsRising, is_live_row, fresh_rows, generation_rows}
 use Rattle.nj_seen.specs.Held.{HoldsSeen, first_claim, keys_in_rows, oldest_step, seen_in}
+use Rattle.nj_candidate.specs.Rows.{row_of}
+use Rattle.nj_candidate.specs.Front.{image_at}
 use Rattle.nj_expand.specs.declared.tables.NewTable.{NewTable}
 use Rattle.nj_expand.specs.declared.tables.NewTable.TheVariants.{Own, Made}
 use Rattle.nj_expand.specs.Held.{Held, live_rows, candidates_in}
-use Rattle.nj_expand.specs.Rows.{row_of}
-use Rattle.nj_expand.specs.Front.{image_at, IsFront}
+use Rattle.nj_expand.specs.Ranges.{IsFront}
 use Rattle.nj_expand.specs.Table.{IsTableAt}
 use Rattle.nj_expand.specs.Ending.{room_of, fresh_rows_in, seen_next, IsTableOf, HoldsLeft, IsMade, CanAdd, IsAdded, AreNewKeys, IsNewTable, CanPut, IsPut, IsLeft, AreNextKeys}
 use Rattle.nj_expand.proofs.Fronts.{LiveRowsAreLive, filter_short}

@@ -17,7 +17,7 @@ use Rattle.nj_game.specs.Plan.{Plan}
 use Rattle.nj_game.specs.Words.{state_of, status_of, allowed_of, key_of, game_of}
 use Rattle.nj_rows.specs.declared.Row.{Row}
 use Rattle.nj_seen.specs.Rows.{is_live_row}
-use Rattle.nj_expand.specs.Rows.{row_of, row_at}
+use Rattle.nj_candidate.specs.Rows.{row_of, row_at}
 use Rattle.nj_expand.specs.Held.{Held, live_rows, candidates_in}
 use Rattle.nj_expand.specs.Children.{child_rows, live_among, word_rows, rows_from, runs_from}
 use Rattle.nj_expand.specs.Ending.{AreFew}

@@ -1,10 +1,9 @@
-pub mod Words
+pub mod Images
 pub mod Starts
 pub mod Played
 pub mod Rising
 pub mod Buckets
 pub mod Lifts
-pub mod Agains
 pub mod Ends
 pub mod Nexts
 pub mod Parts
@@ -13,6 +12,5 @@ pub mod Fronts
 pub mod Runs
 pub mod Filed
 pub mod SavedWhole
-pub mod Replays
 pub mod Resumes
 pub mod Beside

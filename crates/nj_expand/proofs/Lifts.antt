@@ -16,7 +16,7 @@ use Rattle.nj_rows.specs.declared.Row.{Row}
 use Rattle.nj_rows.specs.Order.{is_win as is_row_win, is_win_row, is_row_before, is_alike_row}
 use Rattle.nj_seen.specs.Verdicts.{verdict_of}
 use Rattle.nj_seen.specs.Rows.{is_live_row, is_fresh_row, winner_row, fresh_rows, kept_rows, generation_rows}
-use Rattle.nj_expand.specs.Rows.{row_verdict, row_of}
+use Rattle.nj_candidate.specs.Rows.{row_verdict, row_of}
 use Rattle.nj_expand.specs.Held.{Held, live_rows, candidates_in}
 use Rattle.nj_expand.specs.Ending.{top_of_rows}
 use Rattle.nj_expand.proofs.Buckets.{EvenBuckets, same_buckets}

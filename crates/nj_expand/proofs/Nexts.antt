@@ -18,10 +18,12 @@ use Rattle.nj_game.specs.Words.{state_of, status_of, judged_of, held, game_of}
 use Rattle.nj_rows.specs.declared.Row.{Row}
 use Rattle.nj_pool.specs.Words.{child_word, child_words, HaveParents}
 use Rattle.nj_pool.specs.Front.{Front, next_front}
-use Rattle.nj_expand.specs.Rows.{row_of, judged_at}
+use Rattle.nj_candidate.specs.Rows.{row_of, judged_at}
+use Rattle.nj_candidate.specs.Lawful.{AreLawful}
+use Rattle.nj_candidate.specs.Front.{rom_in, size_in, image_at}
+use Rattle.nj_candidate.specs.Again.{Before, before_of, statuses_of, parent_of, birth_of, state_again, image_again, judged_again, pool_again, AreRunFrom}
 use Rattle.nj_expand.specs.Held.{Held, kept_in}
-use Rattle.nj_expand.specs.Front.{rom_in, size_in, image_at, IsFront}
-use Rattle.nj_expand.specs.Again.{Before, before_of, statuses_of, parent_of, birth_of, state_again, image_again, judged_again, pool_again, AreRunFrom}
+use Rattle.nj_expand.specs.Ranges.{IsFront}
 use Rattle.nj_expand.specs.Ending.{top_of_rows}
 use Rattle.nj_expand.proofs.Rising.{IsPlaced, stands}
 use Rattle.nj_expand.proofs.Lifts.{map-map, top-map}
@@ -42,15 +44,6 @@ before_is plan machine most pool judged shown on front same =
     λ i. record { rom = ap rom_of on i; script = plan.script; images = front.images i; statuses = statuses i }
 
 -- ---- one candidate
-
--- the laws of words of a plan that the run of the kept stands on
-pub record AreLawful (plan : Plan) : Type 0 where
-  pub again : (word : Word) → of_image (rom_in plan) (image_at plan word) ≡ state_of plan word
-  pub state : (word : Word) (pad : ℕ)
-      → state_of plan (word ++ pad ∷ []) ≡ held plan.script.hold pad (state_of plan word)
-  pub judged : (word : Word) (pad : ℕ) → judged_of plan (word ++ pad ∷ [])
-      ≡ judged_in plan.script.rules.rules (ram_of (state_of plan (word ++ pad ∷ []))) (status_of plan word)
-      (is_jammed (state_of plan (word ++ pad ∷ [])))
 
 pub laws_of : (plan : Plan) → IsCartridge plan.cartridge
     → ((p : Plan) (word : Word) (pad : ℕ) → state_of p (word ++ pad ∷ []) ≡ held p.script.hold pad (state_of p word))

@@ -9,11 +9,11 @@ use Rattle.nj_rules.specs.declared.record.Judged.{Judged}
 use Rattle.nj_rows.specs.declared.Row.{Row}
 use Rattle.nj_seen.specs.Rows.{winner_row}
 use Rattle.nj_pool.specs.Front.{Front, need, bytes_held, with_births}
-use Rattle.nj_expand.specs.declared.again.Again.{Again}
+use Rattle.nj_candidate.specs.declared.again.Again.{Again}
+use Rattle.nj_candidate.specs.Front.{size_in, image_at}
+use Rattle.nj_candidate.specs.Again.{Before, birth_of, before_of, image_again, judged_again, pool_again, AreRunFrom}
 use Rattle.nj_expand.specs.declared.kept.Kept.{Kept}
 use Rattle.nj_expand.specs.Held.{Held, live_rows, kept_in}
-use Rattle.nj_expand.specs.Front.{size_in, image_at}
-use Rattle.nj_expand.specs.Again.{Before, birth_of, before_of, image_again, judged_again, pool_again, AreRunFrom}
 use Rattle.nj_expand.specs.Ending.{AreFew, IsKeptOf, IsNewTable, AreNextKeys}
 use Rattle.nj_expand.specs.Kept.{IsAgain, ArePartsOf, IsKept}
 use Rattle.nj_expand.proofs.Lifts.{Prefers}

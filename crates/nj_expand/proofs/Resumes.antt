@@ -1,5 +1,6 @@
 -- The search that goes on from a saved one: its front, its table and its state.
 use Rattle.std.proofs.Common.{◌≡◌, ℕ, ◌+◌, ◌*◌, ◌≤◌, false, List, [], length, map, refl, sym, ap, subst, ◌∙◌}
+use Rattle.std.proofs.lemmas.List.FromFn.{length-map-range_with_len}
 use Rattle.nj_search_defs.specs.Game.{Bounds}
 use Rattle.nj_search_defs.specs.Pruning.{Seen, key_count, forgotten}
 use Rattle.nj_search_defs.specs.Outcome.{seen_of}
@@ -14,12 +15,13 @@ use Rattle.nj_seen.specs.Held.{HoldsSeen, oldest_step, seen_in}
 use Rattle.nj_saved.specs.declared.saved.Saved.{Saved}
 use Rattle.nj_saved.specs.Ranges.{words_of}
 use Rattle.nj_search_defs.specs.Game.{Word}
+use Rattle.nj_candidate.specs.Front.{size_in, image_at}
+use Rattle.nj_candidate.specs.SavedFront.{word_at, front_in}
+use Rattle.nj_candidate.specs.Resuming.{pool_at}
 use Rattle.nj_expand.specs.Held.{Held}
-use Rattle.nj_expand.specs.Front.{size_in, image_at, IsFront}
-use Rattle.nj_expand.specs.Table.{IsTableAt}
-use Rattle.nj_expand.specs.Saving.{front_in, state_in, state_from, resumed}
-use Rattle.nj_expand.specs.Resuming.{pool_at, IsSeenTable}
-use Rattle.nj_expand.proofs.Replays.{front_count}
+use Rattle.nj_expand.specs.Ranges.{IsFront}
+use Rattle.nj_expand.specs.Table.{IsTableAt, IsSeenTable}
+use Rattle.nj_expand.specs.Saving.{state_in, state_from, resumed}
 
 -- the front of words of a plan
 pub front_of : (plan : Plan) (most : ℕ) (words : List Word) (pool : Front) (judged : List Judged)
@@ -65,6 +67,11 @@ pub pool_words : (plan : Plan) (limit : ℕ) (words : List Word) (pool : Front) 
     → pool.words ≡ words
 unfolding pool_at
 pool_words plan limit words pool is = ap (λ p. p.words) is
+
+-- as many words as the file says
+pub front_count : (saved : Saved) → length (front_in saved) ≡ words_of saved
+unfolding front_in
+front_count saved = length-map-range_with_len (word_at saved.words saved.step) 0 (words_of saved)
 
 -- what the bounds forget at once of a saved search
 seen_from : (bounds : Bounds) (saved : Saved)

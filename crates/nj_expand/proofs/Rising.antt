@@ -13,7 +13,7 @@ use Rattle.nj_search_defs.proofs.Limited.{All-limited}
 use Rattle.nj_search_defs.specs.Game.{Bounds}
 use Rattle.nj_rows.specs.declared.Row.{Row}
 use Rattle.nj_seen.specs.Rows.{IsRising}
-use Rattle.nj_expand.specs.Rows.{row_of}
+use Rattle.nj_candidate.specs.Rows.{row_of}
 
 -- ---- numbers rise
 

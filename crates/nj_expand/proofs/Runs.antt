@@ -8,8 +8,8 @@ use Rattle.nj_machine.specs.Image.{of_image}
 use Rattle.nj_script.specs.Script.{Record}
 use Rattle.nj_rows.specs.declared.Row.{Row}
 use Rattle.nj_seen.specs.Rows.{is_live_row}
+use Rattle.nj_candidate.specs.Rows.{row_at}
 use Rattle.nj_expand.specs.Held.{Held}
-use Rattle.nj_expand.specs.Rows.{row_at}
 use Rattle.nj_expand.specs.Children.{child_rows, live_among}
 
 -- what all children of a state bring: the search, the status and the image of the state, the first child's number, the

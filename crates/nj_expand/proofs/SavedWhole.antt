@@ -1,13 +1,15 @@
 -- A state is found again in what was saved of it.
-use Rattle.std.proofs.Common.{◌≡◌, ℕ, zero, suc, ◌+◌, ◌*◌, ◌/◌, ◌<◌, ◌≤◌, List, [], ◌∷◌, ◌++◌, length, map, take, drop, get_or, refl, sym, ap, ◌∙◌, arith, zero-mul, suc-mul, length-append}
+use Rattle.std.proofs.Common.{◌≡◌, ℕ, zero, suc, ◌+◌, ◌*◌, ◌/◌, ◌<◌, ◌≤◌, List, [], ◌∷◌, ◌++◌, length, map, take, drop, get_or, refl, sym, ap, ◌∙◌, arith, zero-mul, suc-mul, length-append, ap₂, append-nil}
 use Rattle.std.specs.List.{All, concat, range_with_len}
 use Rattle.std.proofs.lemmas.Nat.{div-mul-add}
-use Rattle.std.proofs.lemmas.List.{take_at, drop_at, drop-drop}
+use Rattle.std.proofs.lemmas.List.{take_at, take_more, drop_at, drop-drop}
+use Rattle.std.proofs.lemmas.List.Folds.{concat-append}
 use Rattle.std.proofs.lemmas.List.Elements.{All-head, All-tail}
 use Rattle.std.proofs.lemmas.List.FromFn.{fill_by_all}
 use Rattle.nj_search_defs.specs.Game.{Word}
 use Rattle.nj_search_defs.specs.Outcome.{State}
-use Rattle.nj_expand.specs.Saving.{saved_of, word_at, front_in, state_in, CanBeSaved}
+use Rattle.nj_candidate.specs.SavedFront.{word_at, front_in}
+use Rattle.nj_expand.specs.Saving.{saved_of, state_in, CanBeSaved}
 
 -- words of n pads each have n pads for each word
 pub concat_long : (n : ℕ) (front : List Word) → All (λ word. length word ≡ n) front
@@ -65,3 +67,14 @@ pub state_again : (state : State) → CanBeSaved state → state_in (saved_of st
 unfolding state_in saved_of
 state_again state can =
     λ i. record { step = state.step; front = front_again state can i; seen = state.seen; mark = state.mark }
+
+-- ---- the words of a front, one behind the other
+
+-- one word more
+pub concat_more : (words : List Word) (i : ℕ) (word done all : List ℕ) → i < length words → word ≡ get_or words i []
+    → done ≡ concat (take i words)
+    → all ≡ done ++ word → all ≡ concat (take (i + 1) words)
+concat_more words i word done all lt here was more =
+    more
+    ∙ ap₂ (λ d w. d ++ w) was (here ∙ sym (append-nil (get_or words i [])))
+    ∙ sym (ap concat (take_more words i [] lt) ∙ concat-append (take i words) (get_or words i [] ∷ []))

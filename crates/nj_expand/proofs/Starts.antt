@@ -1,49 +1,24 @@
--- The state, judgement, key and pool at the start of a search.
+-- The key and pool at the start of a search.
 use Rattle.std.proofs.Common.{◌≡◌, ◌≤◌, ◌+◌, ◌*◌, ℕ, false, List, [], ◌∷◌, length, refl, sym, ap, ap₂, subst, ◌∙◌, arith}
 use Rattle.nj_search_defs.specs.Game.{Bounds}
 use Rattle.nj_search_defs.specs.Pruning.{Seen}
 use Rattle.nj_search_defs.specs.Outcome.{opening}
-use Rattle.nj_ines.specs.Cartridge.{Cartridge, IsCartridge}
-use Rattle.nj_machine.specs.State.{State, power_on, ram_of, is_jammed}
-use Rattle.nj_machine.specs.Frame.{frames, play}
-use Rattle.nj_machine.specs.Image.{image_of}
+use Rattle.nj_ines.specs.Cartridge.{IsCartridge}
+use Rattle.nj_machine.specs.State.{State}
 use Rattle.nj_rules.specs.declared.record.Judged.{Judged}
-use Rattle.nj_rules.specs.Rules.{judged_of as judged_in}
 use Rattle.nj_pool.specs.Front.{Front}
-use Rattle.nj_script.specs.Script.{Record}
-use Rattle.nj_game.specs.Plan.{Plan, plan_of}
-use Rattle.nj_game.specs.Words.{state_of, status_of, judged_of, key_of, game_of}
-use Rattle.nj_expand.specs.Rows.{judged_at, key_at}
+use Rattle.nj_game.specs.Plan.{Plan}
+use Rattle.nj_game.specs.Words.{state_of, judged_of, key_of, game_of}
+use Rattle.nj_candidate.specs.Rows.{key_at}
+use Rattle.nj_candidate.specs.Front.{size_in, image_at, one_state}
 use Rattle.nj_expand.specs.Held.{Held, opened}
-use Rattle.nj_expand.specs.Front.{size_in, image_at, one_state, IsFront}
-
-pub start_state : (cart : Cartridge) (script : Record) (start pads : List ℕ) (begun s : State) → begun ≡ power_on cart
-    → pads ≡ start → s ≡ frames begun pads
-    → state_of (plan_of cart script start) [] ≡ play cart start → s ≡ state_of (plan_of cart script start) []
-start_state cart script start pads begun s on same ran law = ran ∙ ap₂ frames on same ∙ sym law
-
-pub start_judged : (plan : Plan) (s : State) (judged : Judged) → s ≡ state_of plan []
-    → judged ≡ judged_at plan.script 0 s
-    → judged_of plan [] ≡ judged_in plan.script.rules.rules (ram_of (state_of plan [])) 0 (is_jammed (state_of plan []))
-    → judged ≡ judged_of plan []
-unfolding judged_at
-start_judged plan s judged is told law =
-    told ∙ ap (λ t. judged_in plan.script.rules.rules (ram_of t) 0 (is_jammed t)) is ∙ sym law
-
-status_in : (plan : Plan) (judged : Judged) → judged ≡ judged_of plan [] → judged.status.0 ≡ status_of plan []
-unfolding judged_of
-status_in plan judged e = ap (λ j. j.status.0) e
+use Rattle.nj_expand.specs.Ranges.{IsFront}
 
 pub start_key : (plan : Plan) (s : State) (judged : Judged) (key : ℕ) → s ≡ state_of plan []
     → judged ≡ judged_of plan [] → key ≡ key_at plan.script s judged
     → key ≡ key_of plan []
 unfolding key_at key_of judged_of
 start_key plan s judged key is told e = e ∙ ap₂ (key_at plan.script) is told
-
-pub start_image : (plan : Plan) (s : State) (image : List ℕ) → s ≡ state_of plan [] → image ≡ image_of s
-    → image ≡ image_at plan []
-unfolding image_at
-start_image plan s image is e = e ∙ ap image_of is
 
 pub start_pool : (plan : Plan) (most : ℕ) (image : List ℕ) (pool : Front) → image ≡ image_at plan []
     → length (image_at plan []) ≡ size_in plan

@@ -8,8 +8,8 @@ use Rattle.nj_game.specs.Plan.{Plan}
 use Rattle.nj_game.specs.Words.{game_of, allowed_of}
 use Rattle.nj_rows.specs.declared.Row.{Row}
 use Rattle.nj_seen.specs.Rows.{is_live_row}
+use Rattle.nj_candidate.specs.Rows.{row_of, row_at}
 use Rattle.nj_expand.specs.Held.{Held}
-use Rattle.nj_expand.specs.Rows.{row_of, row_at}
 
 -- the rows of a state's children by these pads, the first of them with this number
 abbrev pub child_rows : Record → ℕ → State → ℕ → List ℕ → List Row

@@ -7,8 +7,8 @@ use Rattle.nj_script.specs.Script.{Record}
 use Rattle.nj_game.specs.Plan.{Plan}
 use Rattle.nj_game.specs.Words.{game_of}
 use Rattle.nj_rows.specs.declared.Row.{Row}
+use Rattle.nj_candidate.specs.Rows.{row_of}
 use Rattle.nj_expand.specs.declared.Bounds.{Bounds as Given}
-use Rattle.nj_expand.specs.Rows.{row_of}
 
 -- a search between two steps: what is played, its bounds, its state, and whether it is spent
 pub record Held : Type 0 where

@@ -3,14 +3,14 @@ use Rattle.std.specs.Prelude.{◌≡◌, ◌+◌, ◌*◌, ◌<◌, ◌≤◌, L
 use Rattle.std.specs.List.{All}
 use Rattle.nj_rows.specs.declared.Row.{Row}
 use Rattle.nj_seen.specs.Rows.{winner_row}
-use Rattle.nj_expand.specs.declared.again.Again.{Again}
+pub use Rattle.nj_candidate.specs.declared.again.Again.{Again}
+use Rattle.nj_candidate.specs.Front.{size_in, image_at}
+use Rattle.nj_candidate.specs.Again.{parent_of, before_of, AreRunFrom}
 use Rattle.nj_expand.specs.declared.kept.Kept.{Kept}
 use Rattle.nj_expand.specs.declared.kept.Chosen.{Chosen}
 use Rattle.nj_expand.specs.declared.kept.Chosen.TheVariants.{Ended, Keeps}
 use Rattle.nj_expand.specs.Held.{Held, live_rows, kept_in}
-use Rattle.nj_expand.specs.Front.{size_in, image_at}
 use Rattle.nj_expand.specs.Step.{IsStep}
-use Rattle.nj_expand.specs.Again.{parent_of, before_of, AreRunFrom}
 use Rattle.nj_expand.specs.Ending.{IsKeptOf, IsNewTable, AreNextKeys}
 
 -- the states of rows, run again from the front of a search, in a pool over the start's image within what a full front

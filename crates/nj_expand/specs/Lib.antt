@@ -1,13 +1,13 @@
-pub mod Rows
+pub use Rattle.nj_candidate.specs.Rows
+pub use Rattle.nj_candidate.specs.Front
+pub use Rattle.nj_candidate.specs.Again
 pub mod Held
 pub mod Children
 pub mod Closed
 pub mod Step
-pub mod Front
+pub mod Ranges
 pub mod Table
-pub mod Again
 pub mod Kept
 pub mod Ending
 pub mod Saving
 pub mod Opening
-pub mod Resuming

@@ -1,12 +1,12 @@
 -- What a search saves of its state, and the search that goes on from a saved one. All of it is this project's own.
-use Rattle.std.specs.Prelude.{◌≡◌, ℕ, ◌*◌, ◌≤◌, false, List, length, map, take, drop}
-use Rattle.std.specs.List.{All, concat, range_with_len}
-use Rattle.nj_search_defs.specs.Game.{Word, Bounds}
+use Rattle.std.specs.Prelude.{◌≡◌, ◌≤◌, false, length}
+use Rattle.std.specs.List.{All, concat}
+use Rattle.nj_search_defs.specs.Game.{Bounds}
 use Rattle.nj_search_defs.specs.Outcome.{State, seen_of}
 use Rattle.nj_saved.specs.declared.saved.Saved.{Saved}
-use Rattle.nj_saved.specs.Ranges.{words_of}
 use Rattle.nj_game.specs.Plan.{Plan}
 use Rattle.nj_expand.specs.Held.{Held}
+pub use Rattle.nj_candidate.specs.SavedFront.{word_at, front_in}
 
 -- what a search saves of its state, its words one behind the other; the numbers of the two files are put in later
 unfoldable pub saved_of : State → Saved
@@ -19,14 +19,6 @@ saved_of state = record {
   words = concat state.front;
   generations = state.seen;
 }
-
--- the word at this place among words of so many pads, which stand one behind the other
-abbrev pub word_at : List ℕ → ℕ → ℕ → Word
-word_at pads long place = take long (drop (place * long) pads)
-
--- the words of a saved front
-unfoldable pub front_in : Saved → List Word
-front_in saved = map (word_at saved.words saved.step) (range_with_len 0 (words_of saved))
 
 -- the state that a saved search says
 unfoldable pub state_in : Saved → State

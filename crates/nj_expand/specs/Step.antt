@@ -2,9 +2,9 @@
 use Rattle.std.specs.Prelude.{◌≡◌}
 use Rattle.nj_search_defs.specs.Outcome.{Next, Won as NextWon, Exhausted as NextExhausted, Goes}
 use Rattle.nj_game.specs.Words.{game_of}
+use Rattle.nj_candidate.specs.Rows.{row_of}
 use Rattle.nj_expand.specs.declared.Stepped.{Stepped}
 use Rattle.nj_expand.specs.declared.Stepped.TheVariants.{Won, Exhausted, Go}
-use Rattle.nj_expand.specs.Rows.{row_of}
 use Rattle.nj_expand.specs.Held.{Held, next_in}
 
 -- the answer and the search that is left, by what the step leads to: the winner's row or nothing, with the search as it

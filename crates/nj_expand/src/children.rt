@@ -1,21 +1,18 @@
 //! The candidates of one word of the front.
 
-ghost use Rattle.std.specs.Prelude.{◌≡◌, ◌≢◌, ◌≤◌, ◌<◌, ◌+◌, ◌*◌, ◌^◌, ◌++◌, ◌∷◌, [], All, false, length, take, get_or, vec_capacity};
-ghost use Rattle.nj_machine.specs.State.{rom_of, ram_of};
+ghost use Rattle.std.specs.Prelude.{◌≡◌, ◌≢◌, ◌≤◌, ◌<◌, ◌+◌, ◌*◌, ◌^◌, ◌++◌, ◌∷◌, [], All, false, length, get_or, vec_capacity};
+ghost use Rattle.nj_machine.specs.State.{rom_of};
 ghost use Rattle.nj_machine.specs.Image.{of_image, IsImage};
-ghost use Rattle.nj_rules.specs.Pads.{allowed_pads};
 ghost use Rattle.nj_game.specs.Words.{allowed_of};
-ghost use Rattle.nj_expand.specs.Front.{rom_in, size_in};
+ghost use Rattle.nj_candidate.specs.Front.{rom_in, size_in};
 ghost use Rattle.nj_expand.specs.Children.{child_rows, live_among, word_rows};
 
-use crate::candidate::expand;
-use crate::laws::a_candidate_is_told_by_its_parent;
 use crate::search::Search;
+use nj_candidate::{a_candidate_is_told_by_its_parent, allow, expand};
 use nj_machine::Machine;
 use nj_pad::Pad;
 use nj_rows::Row;
-use nj_rules::{Status, allowed, allowed_pads_come_once, keys_tell_bytes_and_status};
-use nj_script::Script;
+use nj_rules::{Status, allowed_pads_come_once, keys_tell_bytes_and_status};
 use nj_steps::Steps;
 use std::sync::ledger::Ledger;
 
@@ -131,18 +128,4 @@ impl Search {
 // Room for pads.
 fn no_pads() -> [u8; 256] {
     [0; 256]
-}
-
-// The pads that may follow the state that has this image, written to the front of `pads`; the answer is their count.
-fn allow(machine: &mut Machine, image: &[u8], script: &Script, pads: &mut [u8; 256]) -> usize
-    requires { IsImage (rom_of machine.old) image.now }
-    ensures pads { take result pads.new
-        ≡ allowed_pads script.now.inputs.sets (ram_of (of_image (rom_of machine.old) image.now)) }
-    ensures count { result
-        ≡ length (allowed_pads script.now.inputs.sets (ram_of (of_image (rom_of machine.old) image.now))) }
-    ensures within { result ≤ 256 }
-    ensures cartridge { rom_of machine.new ≡ rom_of machine.old }
-{
-    machine.load(image);
-    allowed(script.inputs(), machine.ram(), pads)
 }

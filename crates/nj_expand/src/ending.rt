@@ -1,7 +1,7 @@
 //! The end of a step: a winner, nothing that is kept, or the kept as the next front.
 
 ghost use Rattle.std.specs.Prelude.{◌≡◌, ◌≤◌, ◌<◌, ◌+◌, ◌*◌, [], false, true, max, length, IfOk, OnOk, OnErr, if◌then◌else◌, nat_lt};
-ghost use Rattle.nj_expand.specs.Front.{size_in, image_at};
+ghost use Rattle.nj_candidate.specs.Front.{size_in, image_at};
 ghost use Rattle.nj_expand.specs.Held.{live_rows, kept_in};
 ghost use Rattle.nj_expand.specs.Step.{IsStep};
 ghost use Rattle.nj_expand.specs.Closed.{AreRowsOf, IsClosedFor};
@@ -9,11 +9,10 @@ ghost use Rattle.nj_expand.specs.Ending.{top_of_rows, IsPrepared, AreFew};
 ghost use Rattle.nj_expand.specs.Kept.{IsAgain, ArePartsOf, IsKept, IsChosen};
 
 use crate::Stepped;
-use crate::again::Again;
 use crate::kept::{Chosen, Kept};
-use crate::laws::{a_candidate_is_told_by_its_parent, an_image_stands_for_its_word};
 use crate::search::{Mark, Search};
 use crate::tables::{Prepared, put};
+use nj_candidate::{Again, a_candidate_is_told_by_its_parent, an_image_stands_for_its_word};
 use nj_game::a_word_goes_on;
 use nj_rows::{Row, keep_quota, order_is_preference, winner};
 use nj_rules::allowed_pads_come_once;

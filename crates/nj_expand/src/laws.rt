@@ -1,55 +1,19 @@
-//! Laws of candidates, each the contract of a function that does nothing.
+//! Laws of a step's candidates, each the contract of a function that does nothing.
 
-ghost use Rattle.std.specs.Prelude.{◌≡◌, ◌≢◌, ◌≤◌, ◌<◌, ◌++◌, ◌∷◌, [], ◌+◌, ◌*◌, ℕ, All, length, map, filter};
-ghost use Rattle.nj_search_defs.specs.Game.{Word, Game};
+ghost use Rattle.std.specs.Prelude.{◌≡◌, ◌≢◌, ◌≤◌, ◌<◌, ◌+◌, ◌*◌, All, length, map, filter};
 ghost use Rattle.nj_search_defs.specs.Outcome.{State, Goes};
 ghost use Rattle.nj_search_defs.specs.Laws.{IsChild};
-ghost use Rattle.nj_ines.specs.Cartridge.{IsCartridge};
-ghost use Rattle.nj_machine.specs.State.{ram_of};
-ghost use Rattle.nj_machine.specs.Image.{of_image, IsImage};
-ghost use Rattle.nj_rules.specs.Pads.{allowed_pads, named_pads};
-ghost use Rattle.nj_game.specs.Plan.{Plan};
-ghost use Rattle.nj_game.specs.Words.{state_of, status_of, judged_of, game_of};
+ghost use Rattle.nj_rules.specs.Pads.{named_pads};
+ghost use Rattle.nj_game.specs.Words.{game_of};
 ghost use Rattle.nj_seen.specs.Rows.{is_live_row, IsRising};
-ghost use Rattle.nj_expand.specs.Rows.{row_of, row_at};
+ghost use Rattle.nj_candidate.specs.Rows.{row_of};
 ghost use Rattle.nj_expand.specs.Held.{Held, live_rows, candidates_in, kept_in, next_in};
-ghost use Rattle.nj_expand.specs.Front.{rom_in, size_in, image_at};
 ghost use Rattle.nj_expand.specs.Children.{rows_from, runs_from};
 ghost use Rattle.nj_expand.specs.Ending.{AreFew};
 ghost use Rattle.nj_expand.specs.Saving.{saved_of, state_in, CanBeSaved};
 
-use nj_game::{a_word_goes_on, a_word_keeps_the_cartridge};
-use nj_machine::an_image_tells_its_state;
 use nj_rules::{allowed_pads_come_once, keys_tell_bytes_and_status};
 use nj_search_defs::{front_is_bounded, parents_stood_before, words_are_equally_long};
-
-/// The image of a word's state is one of its cartridge, and the state is made again from it.
-pub fn an_image_stands_for_its_word()
-    ensures is_image { (plan : Plan) (word : Word) → IsCartridge plan.cartridge
-        → IsImage (rom_in plan) (image_at plan word) }
-    ensures state { (plan : Plan) (word : Word) → IsCartridge plan.cartridge
-        → of_image (rom_in plan) (image_at plan word) ≡ state_of plan word }
-    ensures len { (plan : Plan) (word : Word) → IsCartridge plan.cartridge
-        → length (image_at plan word) ≡ size_in plan }
-    ensures few { (plan : Plan) → size_in plan ≤ 12672 }
-{
-    a_word_keeps_the_cartridge();
-    an_image_tells_its_state();
-}
-
-/// The row of a candidate is that of its parent's state and status, and the pads that are allowed after a word are
-/// those that its memory allows.
-pub fn a_candidate_is_told_by_its_parent()
-    ensures row { (plan : Plan) (word : Word) (pad number : ℕ)
-        → row_at plan.script (status_of plan word) (state_of plan word) pad number
-        ≡ row_of (game_of plan) (record { number = number; parent = word; pad = pad }) }
-    ensures status { (plan : Plan) (word : Word) → (let j = judged_of plan word in j.status.0) ≡ status_of plan word }
-    ensures allowed { (plan : Plan) (word : Word)
-        → (let g : Game = game_of plan in g.allowed word)
-        ≡ allowed_pads plan.script.inputs.sets (ram_of (state_of plan word)) }
-{
-    a_word_goes_on();
-}
 
 /// The rows of the live candidates are the live among the rows of all.
 pub fn live_rows_are_live()

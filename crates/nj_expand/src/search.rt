@@ -1,28 +1,32 @@
 //! The search between two steps.
 
-ghost use Rattle.std.specs.Prelude.{◌≡◌, ◌≤◌, ◌<◌, ◌+◌, ◌*◌, ◌^◌, [], ◌∷◌, false, true, length, sum_by, get_or, IfOk};
+ghost use Rattle.std.specs.Prelude.{◌≡◌, ◌≤◌, ◌<◌, ◌+◌, ◌*◌, ◌^◌, [], false, true, not, length, sum_by, get_or, IfOk};
+ghost use Rattle.nj_search_defs.specs.Pruning.{is_fail};
 ghost use Rattle.nj_ines.specs.Cartridge.{IsCartridge};
 ghost use Rattle.nj_machine.specs.State.{power_on};
 ghost use Rattle.nj_machine.specs.Image.{of_image, IsImage};
 ghost use Rattle.nj_rules.specs.Pads.{named_pads};
 ghost use Rattle.nj_game.specs.Plan.{plan_of, movie_of};
-ghost use Rattle.nj_game.specs.Words.{state_of, status_of, judged_of, key_of};
+ghost use Rattle.nj_game.specs.Words.{state_of, status_of, judged_of};
 ghost use Rattle.nj_claims.specs.Tables.{IsTable, slot_count};
+ghost use Rattle.nj_seen.specs.Verdicts.{verdict_of};
 ghost use Rattle.nj_seen.specs.Rows.{is_live_row};
 ghost use Rattle.nj_seen.specs.Held.{HoldsSeen};
+ghost use Rattle.nj_candidate.specs.Front.{rom_in, size_in, image_at, need_at, one_state};
 ghost use Rattle.nj_expand.specs.Held.{bounds_of, opened};
 ghost use Rattle.nj_expand.specs.Opening.{IsFirst};
-ghost use Rattle.nj_expand.specs.Front.{rom_in, size_in, image_at, need_at, one_state, AreBounds};
+ghost use Rattle.nj_expand.specs.Ranges.{AreBounds};
 
 use crate::Bounds;
-use crate::laws::{a_candidate_is_told_by_its_parent, an_image_stands_for_its_word};
-use crate::movies::{is_no_fail, push_word};
-use crate::opening::{First, is_cartridge};
+use crate::opening::First;
+use nj_candidate::{
+    a_candidate_is_told_by_its_parent, an_image_stands_for_its_word, is_cartridge, push_word,
+};
 use nj_ines::Cart;
 use nj_machine::{Machine, frames_keep_the_cartridge};
 use nj_movie::Movie;
 use nj_pool::{FrontPool, a_need_is_bounded};
-use nj_rows::Row;
+use nj_rows::{Row, Verdict3};
 use nj_rules::Judged;
 use nj_script::Script;
 use nj_seen::{SeenKeys, seen_is_told};
@@ -57,7 +61,7 @@ pub struct Search {
 impl Model for Search {
     ghost use Rattle.nj_game.specs.Plan.{plan_of};
     ghost use Rattle.nj_expand.specs.Held.{Held, bounds_of};
-    ghost use Rattle.nj_expand.specs.Front.{AreBounds, IsFront};
+    ghost use Rattle.nj_expand.specs.Ranges.{AreBounds, IsFront};
     ghost use Rattle.nj_expand.specs.Table.{IsTableAt};
     ghost use Rattle.nj_seen.specs.Held.{seen_in};
 
@@ -107,7 +111,7 @@ impl Search {
     }
 
     // The search of these parts before its first step.
-    #[tactic(auto, unfolding(crate::specs::Held::opened, nj_search_defs::specs::Outcome::opening, nj_game::specs::Words::game_of, crate::specs::Front::one_state))]
+    #[tactic(auto, unfolding(crate::specs::Held::opened, nj_search_defs::specs::Outcome::opening, nj_game::specs::Words::game_of, nj_candidate::specs::Front::one_state))]
     fn begun(cart: Cart, script: Script, start: Movie, bounds: Bounds, first: First) -> Search
         requires bounds { AreBounds bounds script }
         requires cartridge { IsCartridge cart }
@@ -204,7 +208,7 @@ impl Search {
     }
 
     /// The bytes of an image of the machine: 4,480, or 12,672 where pattern memory is RAM.
-    #[tactic(auto, unfolding(crate::specs::Front::size_in, crate::specs::Front::rom_in, nj_machine::specs::Image::image_len))]
+    #[tactic(auto, unfolding(nj_candidate::specs::Front::size_in, nj_candidate::specs::Front::rom_in, nj_machine::specs::Image::image_len))]
     pub fn image_len(&self) -> usize
         ensures len { result ≡ size_in self.now.plan }
         ensures within { result ≤ 12672 }
@@ -276,5 +280,15 @@ impl Search {
         ensures { self.new ≡ record self.old { spent = true } }
     {
         self.spent = true;
+    }
+}
+
+// Whether a verdict is no failure.
+fn is_no_fail(verdict: Verdict3) -> bool
+    ensures { result ≡ not (is_fail (verdict_of verdict)) }
+{
+    match verdict {
+        Verdict3::Go | Verdict3::Win => true,
+        Verdict3::Fail => false,
     }
 }

@@ -14,7 +14,8 @@ use Rattle.nj_saved.specs.declared.saved.Saved.{Saved}
 use Rattle.nj_saved.specs.Bytes.{file_bytes}
 use Rattle.nj_saved.specs.Ranges.{words_of, AreGenerations, ComeOnce, IsInRange, Fits}
 use Rattle.nj_saved.specs.Reading.{saved_of as read_of}
-use Rattle.nj_expand.specs.Saving.{saved_of, front_in, state_in, state_from, CanBeSaved}
+use Rattle.nj_candidate.specs.SavedFront.{front_in}
+use Rattle.nj_expand.specs.Saving.{saved_of, state_in, state_from, CanBeSaved}
 use Rattle.nj_search.specs.Plans.{Planned, AreInRange, most_of, steps_before, total_steps, refusal_of, bounds_in}
 use Rattle.nj_search.specs.Ends.{outcome_from, outcome_of}
 use Rattle.nj_search.specs.Laws.{IsPlan, with_steps, saved_with, going_on, GoesOnUnbroken, ResumedIsUnbroken}

@@ -22,7 +22,8 @@ use Rattle.nj_game.specs.Plan.{Plan}
 use Rattle.nj_game.specs.Words.{ram_after, status_of, judged_of, allowed_of, key_of, game_of}
 use Rattle.nj_saved.specs.declared.saved.Saved.{Saved}
 use Rattle.nj_saved.specs.Ranges.{words_of, AreGenerations, ComeOnce, IsInRange, Fits}
-use Rattle.nj_expand.specs.Saving.{saved_of, word_at, front_in, state_in, state_from}
+use Rattle.nj_candidate.specs.SavedFront.{word_at, front_in}
+use Rattle.nj_expand.specs.Saving.{saved_of, state_in, state_from}
 use Rattle.nj_search.specs.Plans.{Planned, AreInRange, cost_of, most_of, inputs_of, slots_of, steps_before, words_before, total_steps, refusal_of, bounds_in}
 use Rattle.nj_search.specs.Ends.{outcome_from, outcome_of, saved_in}
 use Rattle.nj_search.proofs.Accepted.{accepted, some_word, few_steps}

@@ -8,7 +8,7 @@ use Rattle.std.proofs.lemmas.List.Elements.{All-nil, All-cons, All-head, All-tak
 use Rattle.std.proofs.lemmas.List.Sums.{sum_by-cons}
 use Rattle.std.proofs.Math.Seq.{take-append_seam, drop-append_seam}
 use Rattle.nj_rows.specs.declared.Row.{Row}
-use Rattle.nj_expand.specs.declared.again.Again.{Again}
+use Rattle.nj_expand.specs.Kept.{Again}
 use Rattle.nj_expand.specs.Again.{parent_of}
 use Rattle.nj_expand.specs.Held.{Held}
 use Rattle.nj_expand.specs.Kept.{IsAgain, ArePartsOf}

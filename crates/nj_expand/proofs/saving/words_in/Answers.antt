@@ -1,6 +1,6 @@
 -- One word more.
 use Rattle.std.proofs.Common.{◌<◌, length, ◌∙◌, arith}
-use Rattle.nj_expand.proofs.Replays.{concat_more}
+use Rattle.nj_expand.proofs.SavedWhole.{concat_more}
 use Rattle.nj_expand.proofs.saving.words_in.Goals as goal
 
 pub loop-place-preserved : goal.loop-place-preserved

@@ -4,7 +4,7 @@ use Rattle.nj_rules.specs.declared.record.Judged.{Judged}
 use Rattle.nj_seen.specs.Held.{HoldsSeen}
 use Rattle.nj_game.specs.Plan.{plan_of}
 use Rattle.nj_expand.proofs.Starts.{start_key, start_pool}
-use Rattle.nj_expand.proofs.Words.{image_size}
+use Rattle.nj_expand.proofs.Images.{image_size}
 use Rattle.nj_expand.proofs.opening.First.run.Goals as goal
 
 pub pool_of-requires-clause-size : goal.pool_of-requires-clause-size

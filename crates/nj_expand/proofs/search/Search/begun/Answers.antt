@@ -2,8 +2,8 @@
 use Rattle.std.proofs.Common.{◌+◌, ◌*◌, []}
 use Rattle.nj_game.specs.Plan.{plan_of}
 use Rattle.nj_game.specs.Words.{key_of}
+use Rattle.nj_candidate.specs.Front.{size_in}
 use Rattle.nj_expand.specs.Held.{bounds_of}
-use Rattle.nj_expand.specs.Front.{size_in}
 use Rattle.nj_expand.proofs.Starts.{first_front, opened_is}
 use Rattle.nj_expand.proofs.Filed.{IsFirstTable, first_table}
 use Rattle.nj_expand.proofs.search.Search.begun.Goals as goal

@@ -3,9 +3,9 @@ use Rattle.std.proofs.Common.{◌≡◌, ◌+◌, ◌*◌, ◌≤◌, [], length
 use Rattle.std.specs.Prelude.{sum_by}
 use Rattle.nj_search_defs.specs.Game.{Word}
 use Rattle.nj_game.specs.Plan.{plan_of}
+use Rattle.nj_candidate.specs.Front.{size_in, image_at, need_at}
 use Rattle.nj_expand.specs.Held.{Held}
-use Rattle.nj_expand.specs.Front.{size_in, image_at, need_at}
-use Rattle.nj_expand.proofs.Words.{front_needs, needs_bound, image_size}
+use Rattle.nj_expand.proofs.Images.{front_needs, needs_bound, image_size}
 use Rattle.nj_expand.proofs.search.Search.bytes.Goals as goal
 
 needs : (c : goal.After-bytes) → c.bytes.result

@@ -4,10 +4,10 @@ use Rattle.nj_search_defs.specs.Pruning.{Seen, forgotten}
 use Rattle.nj_saved.specs.Ranges.{words_of}
 use Rattle.nj_seen.specs.Held.{seen_in}
 use Rattle.nj_game.specs.Plan.{plan_of}
+use Rattle.nj_candidate.specs.Front.{size_in}
+use Rattle.nj_candidate.specs.SavedFront.{front_in}
 use Rattle.nj_expand.specs.Held.{bounds_of}
-use Rattle.nj_expand.specs.Front.{size_in}
-use Rattle.nj_expand.specs.Saving.{front_in}
-use Rattle.nj_expand.proofs.Replays.{front_count}
+use Rattle.nj_expand.proofs.Resumes.{front_count}
 use Rattle.nj_expand.proofs.Resumes.{front_of, told_table, table_at, pool_words, resumed_is}
 use Rattle.nj_expand.proofs.search.Search.going_on.Goals as goal
 

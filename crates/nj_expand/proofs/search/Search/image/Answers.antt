@@ -1,9 +1,9 @@
 use Rattle.std.proofs.Common.{◌<◌, [], length, get_or, sym, subst}
 use Rattle.nj_machine.specs.Image.{IsImage}
 use Rattle.nj_game.specs.Plan.{plan_of}
+use Rattle.nj_candidate.specs.Front.{rom_in}
 use Rattle.nj_expand.specs.Held.{Held}
-use Rattle.nj_expand.specs.Front.{rom_in}
-use Rattle.nj_expand.proofs.Words.{image_here}
+use Rattle.nj_expand.proofs.Images.{image_here}
 use Rattle.nj_expand.proofs.search.Search.image.Goals as goal
 
 pub returns-clause-is_image : goal.returns-clause-is_image

@@ -1,7 +1,7 @@
 -- The start's image is the pool's base.
 use Rattle.std.proofs.Common.{◌≡◌, [], length, ap, sym, subst, ◌∙◌}
+use Rattle.nj_candidate.specs.Front.{size_in, image_at}
 use Rattle.nj_expand.specs.Held.{Held}
-use Rattle.nj_expand.specs.Front.{size_in, image_at}
 use Rattle.nj_expand.proofs.search.Search.images_are_long.Goals as goal
 
 pub returns : goal.returns

@@ -5,9 +5,9 @@ use Rattle.nj_search_defs.specs.Outcome.{State, seen_of, state_after}
 use Rattle.nj_seen.specs.Held.{seen_in}
 use Rattle.nj_game.specs.Plan.{plan_of}
 use Rattle.nj_game.specs.Words.{game_of}
+use Rattle.nj_candidate.specs.Front.{size_in, image_at}
+use Rattle.nj_candidate.specs.Again.{before_of}
 use Rattle.nj_expand.specs.Held.{Held, bounds_of, kept_in}
-use Rattle.nj_expand.specs.Front.{size_in, image_at}
-use Rattle.nj_expand.specs.Again.{before_of}
 use Rattle.nj_expand.specs.Ending.{CanPut, IsPut, AreFew}
 use Rattle.nj_expand.specs.Kept.{IsAgain, IsKept}
 use Rattle.nj_expand.proofs.Ends.{are_kept, kept_rows_in, generation_in, goes_step}

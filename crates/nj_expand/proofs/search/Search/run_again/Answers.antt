@@ -3,9 +3,9 @@ use Rattle.std.proofs.Common.{◌≡◌, ◌+◌, ◌*◌, ◌<◌, ◌≤◌, l
 use Rattle.std.specs.List.{All}
 use Rattle.nj_game.specs.Plan.{plan_of}
 use Rattle.nj_seen.specs.Held.{seen_in}
+use Rattle.nj_candidate.specs.Front.{size_in}
+use Rattle.nj_candidate.specs.Again.{parent_of}
 use Rattle.nj_expand.specs.Held.{Held, bounds_of}
-use Rattle.nj_expand.specs.Front.{size_in}
-use Rattle.nj_expand.specs.Again.{parent_of}
 use Rattle.nj_expand.proofs.Nexts.{before_is, machine_size, all_images, image_count}
 use Rattle.nj_expand.proofs.Parts.{run_from}
 use Rattle.nj_expand.proofs.search.Search.run_again.Goals as goal

@@ -1,0 +1,7 @@
+pub mod Rows
+pub mod Front
+pub mod Lawful
+pub mod Again
+pub mod Opening
+pub mod SavedFront
+pub mod Resuming
