@@ -11,8 +11,8 @@ use Rattle.nj_search_defs.specs.Game.{Bounds, Fail, Game, Go, Verdict, Win, Word
 use Rattle.nj_search_defs.specs.Laws.{IsChild, ParentsStoodBefore, WinnerIsBest}
 use Rattle.nj_search_defs.specs.Outcome.{Exhausted, ExhaustedAt, Goes, LimitAt, Next, Outcome, State, Won, WonAt, exhausted_or, judged_first, kept_of, lives_of, next, opening, outcome, searched, state_after, then_go_on, won_or}
 use Rattle.nj_search_defs.specs.Pruning.{live, winner}
-use Rattle.nj_search.specs.Ends.{outcome_from, outcome_of}
-use Rattle.nj_search.specs.Plans.{Planned, bounds_in}
+use Rattle.nj_plan.specs.Outcomes.{outcome_from, outcome_of}
+use Rattle.nj_plan.specs.Plans.{Planned, bounds_in}
 
 -- each number is a byte
 abbrev pub AreBytes : List ℕ → Type 0

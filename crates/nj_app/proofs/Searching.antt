@@ -1,8 +1,9 @@
 -- A plan that is not refused is searched, and its frames are the search's.
 use Rattle.std.proofs.Common.{◌≡◌, Bool, Some, None, Ok, Err, refl, sym, ap, ◌∙◌}
-use Rattle.nj_search.specs.Ends.{ended_of, frames_most}
-use Rattle.nj_search.specs.Plans.{Planned, refusal_of}
-use Rattle.nj_search.specs.declared.planning.PlanRefused.{PlanRefused}
+use Rattle.nj_plan.specs.Outcomes.{frames_most}
+use Rattle.nj_search.specs.Ends.{ended_of}
+use Rattle.nj_plan.specs.Plans.{Planned, refusal_of}
+use Rattle.nj_plan.specs.declared.planning.PlanRefused.{PlanRefused}
 use Rattle.nj_search.specs.declared.searching.Ended.{Ended}
 use Rattle.nj_tasks.specs.Work.{frames_for}
 use Rattle.nj_app.specs.Refusals.{plan_refusal}

@@ -3,7 +3,7 @@ use Rattle.std.specs.Prelude.{ℕ, ◌/◌, List, length, if◌then◌else◌}
 use Rattle.nj_ines.specs.Cartridge.{Cartridge}
 use Rattle.nj_rules.specs.Pads.{named_pads}
 use Rattle.nj_script.specs.Script.{Record}
-use Rattle.nj_search.specs.Plans.{cost_of}
+use Rattle.nj_plan.specs.Plans.{cost_of}
 use Rattle.nj_texts.specs.Counts.{check_line}
 use Rattle.nj_texts.specs.declared.counts.Counts.{Counts}
 use Rattle.nj_tasks.specs.Formats.{cart_format, loaded, script_format}

@@ -8,8 +8,9 @@ use Rattle.nj_rules.specs.declared.record.Verdict.TheVariants.{Win}
 use Rattle.nj_script.specs.Script.{script_of}
 use Rattle.nj_search_defs.specs.Game.{Word}
 use Rattle.nj_search_defs.specs.Outcome.{WonAt}
-use Rattle.nj_search.specs.Ends.{outcome_of, reward_in, told_of}
-use Rattle.nj_search.specs.Plans.{Planned, refusal_of}
+use Rattle.nj_plan.specs.Outcomes.{outcome_of, reward_in}
+use Rattle.nj_search.specs.Ends.{told_of}
+use Rattle.nj_plan.specs.Plans.{Planned, refusal_of}
 use Rattle.nj_search.specs.declared.searching.Outcome.{Outcome}
 use Rattle.nj_tasks.specs.Formats.{movie_format, reading_of}
 use Rattle.nj_app.specs.Outcomes.{outcome_head, outcome_text}

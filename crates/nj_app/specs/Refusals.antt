@@ -1,8 +1,8 @@
 -- The text of a refused plan. Our own.
 use Rattle.std.specs.Prelude.{ℕ, List, ◌++◌, codes}
 use Rattle.std.specs.Fmt.{decimal}
-use Rattle.nj_search.specs.declared.planning.PlanRefused.{PlanRefused}
-use Rattle.nj_search.specs.declared.planning.PlanRefused.TheVariants as plans
+use Rattle.nj_plan.specs.declared.planning.PlanRefused.{PlanRefused}
+use Rattle.nj_plan.specs.declared.planning.PlanRefused.TheVariants as plans
 
 -- a refused plan
 unfoldable pub plan_refusal : PlanRefused → List ℕ

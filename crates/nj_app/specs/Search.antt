@@ -9,9 +9,10 @@ use Rattle.nj_bytes.specs.Fnv.{fnv_from}
 use Rattle.nj_saved.specs.Bytes.{file_bytes}
 use Rattle.nj_saved.specs.declared.saved.Saved.{Saved}
 use Rattle.nj_script.specs.Script.{Record}
-use Rattle.nj_search.specs.Ends.{ended_of, frames_most}
-use Rattle.nj_search.specs.Plans.{Planned, refusal_of}
-use Rattle.nj_search.specs.declared.planning.Limits.{Limits}
+use Rattle.nj_plan.specs.Outcomes.{frames_most}
+use Rattle.nj_search.specs.Ends.{ended_of}
+use Rattle.nj_plan.specs.Plans.{Planned, refusal_of}
+use Rattle.nj_plan.specs.declared.planning.Limits.{Limits}
 use Rattle.nj_search.specs.declared.searching.Ended.{Ended}
 use Rattle.nj_search.specs.declared.searching.Outcome.{Outcome}
 use Rattle.nj_search.specs.declared.searching.Outcome.TheVariants.{Limit}

@@ -2,8 +2,8 @@
 use Rattle.std.specs.Prelude.{ℕ, List, None, ◌++◌, false, length}
 use Rattle.nj_ines.specs.Cartridge.{Cartridge}
 use Rattle.nj_script.specs.Script.{Record}
-use Rattle.nj_search.specs.Ends.{frames_most}
-use Rattle.nj_search.specs.Plans.{Planned}
+use Rattle.nj_plan.specs.Outcomes.{frames_most}
+use Rattle.nj_plan.specs.Plans.{Planned}
 use Rattle.nj_search.specs.declared.searching.Ended.{Ended}
 use Rattle.nj_texts.specs.Lines.{workload_line}
 use Rattle.nj_texts.specs.declared.kinds.Kind.TheVariants as kinds

@@ -2,8 +2,8 @@
 
 ghost use Rattle.std.specs.Prelude.{◌≡◌, ◌≢◌, ◌≤◌, ◌+◌, length, string_bytes, IfOk, IfSome, Err};
 ghost use Rattle.nj_saved.specs.Ranges.{Fits, IsInRange};
-ghost use Rattle.nj_search.specs.Ends.{frames_most};
-ghost use Rattle.nj_search.specs.Plans.{AreInRange};
+ghost use Rattle.nj_plan.specs.Outcomes.{frames_most};
+ghost use Rattle.nj_plan.specs.Plans.{AreInRange};
 ghost use Rattle.nj_texts.specs.declared.kinds.Kind.TheVariants as kinds;
 ghost use Rattle.nj_workers.specs.Counted.{AreCounted};
 ghost use Rattle.nj_app.specs.Refusals.{plan_refusal};

@@ -7,7 +7,7 @@ ghost use Rattle.nj_bytes.specs.Fnv.{fnv_from, fnv_of};
 ghost use Rattle.nj_outside.specs.Rise.{Rose};
 ghost use Rattle.nj_outside.specs.Told.{Files};
 ghost use Rattle.nj_saved.specs.Ranges.{Fits, IsInRange};
-ghost use Rattle.nj_search.specs.Plans.{AreInRange};
+ghost use Rattle.nj_plan.specs.Plans.{AreInRange};
 ghost use Rattle.nj_tasks.specs.Causes.{IsCarriedOut, IsSavedAs};
 ghost use Rattle.nj_tasks.specs.Stops.{Loads, Reads, Serves};
 ghost use Rattle.nj_tasks.specs.Work.{frames_for, frames_of, given, value_told};

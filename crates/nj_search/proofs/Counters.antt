@@ -9,8 +9,8 @@ use Rattle.nj_search_defs.specs.Game.{Bounds}
 use Rattle.nj_script.specs.Script.{Record}
 use Rattle.nj_expand.specs.declared.Bounds.{Bounds as Given}
 use Rattle.nj_expand.specs.Held.{Held, bounds_of}
-use Rattle.nj_search.specs.Plans.{Planned}
-use Rattle.nj_search.specs.Ends.{frames_before, frames_most}
+use Rattle.nj_plan.specs.Plans.{Planned}
+use Rattle.nj_plan.specs.Outcomes.{frames_before, frames_most}
 use Rattle.nj_search.specs.Rests.{frames_a_step}
 use Rattle.nj_search.specs.Starts.{IsGoing}
 use Rattle.nj_search.proofs.Going.{AreMade, start_within, all_frames, same_frames}

@@ -11,13 +11,13 @@ use Rattle.nj_game.specs.Plan.{Plan, movie_of}
 use Rattle.nj_game.specs.Words.{judged_of, search_verdict, game_of}
 use Rattle.nj_saved.specs.declared.saved.Saved.{Saved}
 use Rattle.nj_saved.specs.Ranges.{IsInRange}
-use Rattle.nj_expand.specs.declared.Bounds.{Bounds as Given}
-use Rattle.nj_expand.specs.Held.{Held, opened, bounds_of}
+use Rattle.nj_expand.specs.Held.{Held, opened}
 use Rattle.nj_expand.specs.Saving.{state_in, state_from, resumed}
-use Rattle.nj_search.specs.Plans.{Planned, most_of, inputs_of, bounds_in, steps_before}
-use Rattle.nj_search.specs.Ends.{outcome_from, outcome_of, reward_in, told_of, saved_in, answer_of, ended_of, first_word, frames_before, frames_most}
+use Rattle.nj_plan.specs.Plans.{Planned, bounds_in, steps_before}
+use Rattle.nj_plan.specs.Outcomes.{outcome_from, outcome_of, reward_in, saved_in, held_from, held_in, frames_before, frames_most}
+use Rattle.nj_search.specs.Ends.{told_of, answer_of, ended_of, first_word}
 use Rattle.nj_search.specs.Rests.{rest_of, frames_a_step, IsFurther}
-use Rattle.nj_search.specs.Starts.{held_from, held_in, unsaved, IsGoing, EndsIn}
+use Rattle.nj_search.specs.Starts.{unsaved, IsGoing, EndsIn}
 use Rattle.nj_search.specs.declared.searching.Ended.{Ended}
 use Rattle.nj_search.specs.declared.searching.Outcome.{Outcome}
 use Rattle.nj_search.specs.declared.searching.Outcome.TheVariants.{Won, Exhausted, Limit}
@@ -132,30 +132,6 @@ limit_told held keep step judged movie saved is_step is_judged is_movie is_saved
     let shown : movie_of held.plan (first_word held.state.front) ≡ movie =
     ap (movie_of held.plan) (sym (first_of held.state.front)) ∙ sym is_movie in
     λ i. record { outcome = Limit (sym is_step i) (reward i) (shown i); saved = sym is_saved i }
-
--- ---- the search before its next step
-
--- the bounds that are given are those of the plan
-pub given_bounds : (planned : Planned) (given : Given) → given.front ≡ most_of planned.limits planned.plan.cartridge
-    → given.exponent ≡ planned.limits.exponent → given.inputs ≡ inputs_of planned.plan
-    → bounds_of given planned.plan.script ≡ bounds_in planned
-unfolding bounds_in
-given_bounds planned given most exponent inputs =
-    λ i. bounds_of (record { front = most i; exponent = exponent i; inputs = inputs i }) planned.plan.script
-
-pub opens_at_start :
-    (planned : Planned) (bounds : Bounds) (held : Held) → bounds ≡ bounds_in planned → planned.saved ≡ None
-    → held ≡ opened planned.plan bounds → held ≡ held_in planned
-unfolding held_in
-opens_at_start planned bounds held same none is = is ∙ ap (opened planned.plan) same ∙ sym (ap (held_from planned) none)
-
-pub opens_from_saved :
-    (planned : Planned) (bounds : Bounds) (saved : Saved) (held : Held) → bounds ≡ bounds_in planned
-    → planned.saved ≡ Some saved
-    → held ≡ resumed planned.plan bounds saved → held ≡ held_in planned
-unfolding held_in
-opens_from_saved planned bounds saved held same some is =
-    is ∙ ap (λ b. resumed planned.plan b saved) same ∙ sym (ap (held_from planned) some)
 
 -- ---- the start
 

@@ -1,10 +1,3 @@
-pub mod Accepted
-pub mod Products
-pub mod WonWords
-pub mod Longer
 pub mod StepEnds
 pub mod Going
-pub mod Budgets
-pub mod Sound
-pub mod Resumed
 pub mod Counters

@@ -1,28 +1,18 @@
 -- How a search is begun, and what a step ends it with. All of it is this project's own.
 use Rattle.std.specs.Prelude.{◌≡◌, ℕ, ◌+◌, Bool, false, Option, Some, None}
-use Rattle.nj_saved.specs.declared.saved.Saved.{Saved}
 use Rattle.nj_expand.specs.declared.Stepped.{Stepped}
 use Rattle.nj_expand.specs.declared.Stepped.TheVariants.{Won, Exhausted, Go}
-use Rattle.nj_expand.specs.Held.{Held, opened}
-use Rattle.nj_expand.specs.Saving.{resumed}
+use Rattle.nj_expand.specs.Held.{Held}
 use Rattle.nj_expand.specs.Step.{IsStep}
-use Rattle.nj_search.specs.Plans.{Planned, bounds_in, steps_before}
-use Rattle.nj_search.specs.Ends.{outcome_of, answer_of, ended_of}
+use Rattle.nj_plan.specs.Plans.{Planned, bounds_in, steps_before}
+use Rattle.nj_plan.specs.Outcomes.{outcome_of}
+use Rattle.nj_search.specs.Ends.{answer_of, ended_of}
 use Rattle.nj_search.specs.Rests.{rest_of}
 use Rattle.nj_search.specs.declared.searching.Outcome.{Outcome}
 use Rattle.nj_search.specs.declared.searching.Outcome.TheVariants.{Exhausted as ToldExhausted}
 use Rattle.nj_search.specs.declared.searching.Ended.{Ended}
 use Rattle.nj_search.specs.declared.searching.Begun.{Begun}
 use Rattle.nj_search.specs.declared.searching.Begun.TheVariants.{Over, Going}
-
--- the search before its next step: its first one, or that behind the steps of its saved search
-abbrev pub held_from : Planned → Option Saved → Held
-held_from planned None = opened planned.plan (bounds_in planned)
-held_from planned (Some saved) = resumed planned.plan (bounds_in planned) saved
-
--- the planned search before its next step
-unfoldable pub held_in : Planned → Held
-held_in planned = held_from planned planned.saved
 
 -- a planned search that goes on: what is left of it is its outcome
 pub record IsGoing (planned : Planned) (held : Held) : Type 0 where

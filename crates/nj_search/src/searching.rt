@@ -5,10 +5,11 @@ ghost use Rattle.nj_search_defs.specs.Outcome.{LimitAt};
 ghost use Rattle.nj_saved.specs.Ranges.{IsInRange};
 ghost use Rattle.nj_expand.specs.declared.Stepped.{Stepped};
 ghost use Rattle.nj_expand.specs.Step.{IsStep};
-ghost use Rattle.nj_search.specs.Plans.{Planned};
-ghost use Rattle.nj_search.specs.Ends.{saved_in, answer_of, ended_of, frames_before, frames_most};
+ghost use Rattle.nj_plan.specs.Plans.{Planned};
+ghost use Rattle.nj_plan.specs.Outcomes.{saved_in, held_in, frames_before, frames_most};
+ghost use Rattle.nj_search.specs.Ends.{answer_of, ended_of};
 ghost use Rattle.nj_search.specs.Rests.{rest_of, frames_a_step, IsFurther};
-ghost use Rattle.nj_search.specs.Starts.{unsaved, held_in, CanEnd, EndsIn, IsBegun, IsEnded};
+ghost use Rattle.nj_search.specs.Starts.{unsaved, CanEnd, EndsIn, IsBegun, IsEnded};
 
 use crate::{Movie, Plan, Saved, Steps};
 use nj_expand::{Judged, Row, Search, Stepped};

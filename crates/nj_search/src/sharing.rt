@@ -4,7 +4,8 @@ ghost use Rattle.std.specs.Prelude.{◌≡◌, ◌≤◌, ◌<◌, ◌+◌, ◌*
 ghost use Rattle.nj_expand.specs.Held.{candidates_in, kept_in};
 ghost use Rattle.nj_workers.specs.Counted.{AreCounted};
 ghost use Rattle.nj_saved.specs.Ranges.{IsInRange};
-ghost use Rattle.nj_search.specs.Ends.{answer_of, ended_of, frames_before, frames_most};
+ghost use Rattle.nj_plan.specs.Outcomes.{frames_before, frames_most};
+ghost use Rattle.nj_search.specs.Ends.{answer_of, ended_of};
 ghost use Rattle.nj_search.specs.Rests.{rest_of, frames_a_step, IsFurther};
 ghost use Rattle.nj_search.specs.Starts.{EndsIn, IsBegun};
 

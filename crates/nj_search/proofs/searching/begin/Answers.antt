@@ -1,8 +1,9 @@
 use Rattle.std.proofs.Common.{◌≡◌, sym, ◌∙◌}
 use Rattle.std.specs.Prelude.{None}
 use Rattle.std.proofs.lemmas.Result.{IfOk-weaker}
-use Rattle.nj_search.specs.Plans.{Planned}
-use Rattle.nj_search.specs.Starts.{held_in, IsBegun}
+use Rattle.nj_plan.specs.Plans.{Planned}
+use Rattle.nj_plan.specs.Outcomes.{held_in}
+use Rattle.nj_search.specs.Starts.{IsBegun}
 use Rattle.nj_search.proofs.Going.{goes_on, starts, unspent_in}
 use Rattle.nj_search.proofs.searching.begin.Goals as goal
 

@@ -1,6 +1,6 @@
 -- What the search answers is told as what is found.
 use Rattle.std.specs.Option.{is_some}
-use Rattle.nj_search.specs.Ends.{frames_most}
+use Rattle.nj_plan.specs.Outcomes.{frames_most}
 use Rattle.nj_texts.specs.declared.kinds.Kind.TheVariants as kinds
 use Rattle.nj_tasks.proofs.Serving.{told_frames}
 use Rattle.nj_app.specs.Search.{found_of, limits_of, planned, search_finding, search_reading}

@@ -1,0 +1,5 @@
+pub mod Plans
+pub mod Outcomes
+pub mod Laws
+pub mod Budget
+pub use Rattle.nj_game.specs.Plan

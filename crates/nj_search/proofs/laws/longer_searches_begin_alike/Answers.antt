@@ -1,5 +1,0 @@
-use Rattle.nj_search.proofs.Longer.{longer}
-use Rattle.nj_search.proofs.laws.longer_searches_begin_alike.Goals as goal
-
-pub returns : goal.returns
-returns c = longer c.limits_add.ensures
