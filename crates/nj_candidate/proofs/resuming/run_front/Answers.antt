@@ -8,8 +8,7 @@ use Rattle.nj_candidate.specs.Front.{size_in}
 use Rattle.nj_candidate.specs.SavedFront.{front_in}
 use Rattle.nj_candidate.specs.Resuming.{Reached, AreReplayed, AreRunAgain}
 use Rattle.nj_candidate.proofs.Words.{image_size}
-use Rattle.nj_candidate.proofs.Nexts.{laws_of}
-use Rattle.nj_candidate.proofs.Replays.{start_reached, run_again_is}
+use Rattle.nj_candidate.proofs.Replays.{laws_of, start_reached, run_again_is}
 use Rattle.nj_candidate.proofs.resuming.run_front.Goals as goal
 
 pub replay_all-requires-clause-size : goal.replay_all-requires-clause-size
