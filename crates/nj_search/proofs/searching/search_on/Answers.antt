@@ -3,11 +3,8 @@ use Rattle.std.proofs.lemmas.Result.{IfOk-weaker}
 use Rattle.nj_search_defs.specs.Outcome.{LimitAt}
 use Rattle.nj_search.specs.Ends.{answer_of}
 use Rattle.nj_search.specs.Rests.{rest_of}
-use Rattle.nj_search.proofs.Going.{none_made, one_more_made, frames_within, told_at_end, told_at_limit}
+use Rattle.nj_search.proofs.Going.{frames_within, told_at_end, told_at_limit}
 use Rattle.nj_search.proofs.searching.search_on.Goals as goal
-
-pub loop-made-init : goal.loop-made-init
-loop-made-init g c = none_made c.args.search c.args.limit _ c.requires.spent
 
 pub returns-in_err-outcome-clause-frames : goal.returns-in_err-outcome-clause-frames
 returns-in_err-outcome-clause-frames g c =
@@ -33,9 +30,3 @@ returns-clause-ended g c =
 
 pub at_limit-requires : goal.at_limit-requires
 at_limit-requires g c = record { spent = c.loop-made.invariant.unspent }
-
-pub loop-made-preserved : goal.loop-made-preserved
-loop-made-preserved g c =
-    one_more_made c.args.search c.loop-made.search c.step_on.new.search c.args.limit c.loop-made._made _ _ _
-    c.loop-made-test.true c.loop-made.invariant
-    (rw c.in_default.is at c.in_ok-outcome.ensures.further) c.step_on.ensures.frames c.step_on.ensures.never_falls
