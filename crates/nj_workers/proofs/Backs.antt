@@ -14,52 +14,11 @@ use Rattle.nj_pieces.specs.Takers.{taken_of}
 use Rattle.nj_rows.specs.declared.Row.{Row}
 use Rattle.nj_seen.specs.Held.{claim_of}
 use Rattle.nj_expand.specs.Held.{Held}
-use Rattle.nj_workers.specs.declared.hand.WorkEnd.{WorkEnd}
-use Rattle.nj_workers.specs.Claimed.{MayBeDropped, AreClaimed}
-use Rattle.nj_workers.specs.Shares.{piece_rows, piece_runs, rows_of, runs_of}
+use Rattle.nj_hands.specs.declared.hand.WorkEnd.{WorkEnd}
+use Rattle.nj_hands.specs.Claimed.{MayBeDropped, AreClaimed}
+use Rattle.nj_hands.specs.Shares.{piece_rows, piece_runs, rows_of, runs_of}
 use Rattle.nj_workers.specs.Desks.{IsSeated, Served, AllServed, joined_all, rows_all, taken_all}
 use Rattle.nj_workers.proofs.Claims.{claimed_none, parts_more}
-
--- a number that was seen is seen in more
-seen_in_left : (seen more : List (ℕ × ℕ)) (row : Row) → MayBeDropped seen row → MayBeDropped (seen ++ more) row
-seen_in_left seen more row may =
-    (may.0, record { number = may.1.number; stands = Contains-append_left seen more _ may.1.stands; less = may.1.less })
-
-seen_in_right : (seen more : List (ℕ × ℕ)) (row : Row) → MayBeDropped more row → MayBeDropped (seen ++ more) row
-seen_in_right seen more row may = (
-  may.0,
-  record { number = may.1.number; stands = Contains-append_right seen more _ may.1.stands; less = may.1.less },
-)
-
--- claims through the first pass, and those of another pass that is joined to it
-pub claimed_joined : (a b : List Row) (first root given other : PassView) (xs ys : List Row) → given.claims ≡ []
-    → given.seen ≡ [] → given.full ≡ []
-    → AreClaimed a first root xs → AreClaimed b given other ys
-    → AreClaimed (a ++ b) first (joined_pass root other) (xs ++ ys)
-claimed_joined a b first root given other xs ys no_claims no_seen no_full f g = record {
-  placed = f.placed ++ g.placed;
-  refused = f.refused ++ g.refused;
-  parts = parts_more a b f.placed f.refused g.placed g.refused f.parts g.parts;
-  claims =
-      ap (λ c. c ++ other.claims) f.claims ∙ ap (λ c. (first.claims ++ map claim_of f.placed) ++ c) (g.claims
-      ∙ ap (λ c. c ++ map claim_of g.placed) no_claims)
-      ∙ append_assoc first.claims (map claim_of f.placed) (map claim_of g.placed)
-      ∙ ap (λ c. first.claims ++ c) (sym (map-append claim_of f.placed g.placed));
-  full =
-      ap (λ c. c ++ other.full) f.full ∙ ap (λ c. (first.full ++ map (λ row. row.key) f.refused) ++ c) (g.full
-      ∙ ap (λ c. c ++ map (λ row. row.key) g.refused) no_full)
-      ∙ append_assoc first.full (map (λ row. row.key) f.refused) (map (λ row. row.key) g.refused)
-      ∙ ap (λ c. first.full ++ c) (sym (map-append (λ (row : Row). row.key) f.refused g.refused));
-  more = f.more ++ other.seen;
-  seen = ap (λ s. s ++ other.seen) f.seen ∙ append_assoc first.seen f.more other.seen;
-  dropped = f.dropped ++ g.dropped;
-  choice = parts_more a b xs f.dropped ys g.dropped f.choice g.choice;
-  dropped_may = All-append (MayBeDropped (root.seen ++ other.seen)) f.dropped g.dropped
-      (All-weaker (MayBeDropped root.seen) (MayBeDropped (root.seen ++ other.seen)) (seen_in_left root.seen other.seen)
-      f.dropped f.dropped_may)
-      (All-weaker (MayBeDropped other.seen)
-      (MayBeDropped (root.seen ++ other.seen)) (seen_in_right root.seen other.seen) g.dropped g.dropped_may);
-}
 
 -- what a worker that began with nothing has claimed, and its rows
 pub one_back : (table : TableView) (pieces : Pieces) (held : Held) (old new : WorkEnd) (from to : ℕ)

@@ -12,9 +12,9 @@ use Rattle.nj_pieces.specs.Takers.{count_of, workers_of, taken_of, AreTakersOf}
 use Rattle.nj_rows.specs.declared.Row.{Row}
 use Rattle.nj_expand.specs.Held.{Held, live_rows, candidates_in}
 use Rattle.nj_expand.specs.Children.{rows_from, runs_from}
-use Rattle.nj_workers.specs.declared.hand.WorkEnd.{WorkEnd}
-use Rattle.nj_workers.specs.Claimed.{AreClaimed}
-use Rattle.nj_workers.specs.Shares.{pieces_in, piece_rows, piece_runs, rows_of, runs_of}
+use Rattle.nj_hands.specs.declared.hand.WorkEnd.{WorkEnd}
+use Rattle.nj_hands.specs.Claimed.{AreClaimed}
+use Rattle.nj_hands.specs.Shares.{pieces_in, piece_rows, piece_runs, rows_of, runs_of}
 use Rattle.nj_workers.specs.Counted.{AreCounted}
 use Rattle.nj_workers.specs.Desks.{IsSeated, Served, AllServed, joined_all, rows_all, taken_all}
 use Rattle.nj_workers.proofs.Backs.{all_back, frames_back, joined_table, joined_root, joined_out}

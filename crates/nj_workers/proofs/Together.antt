@@ -18,10 +18,10 @@ use Rattle.nj_seen.specs.Rows.{is_live_row}
 use Rattle.nj_expand.specs.Rows.{row_of}
 use Rattle.nj_expand.specs.Held.{Held, live_rows, candidates_in}
 use Rattle.nj_expand.specs.Front.{rom_in}
-use Rattle.nj_workers.specs.declared.hand.WorkEnd.{WorkEnd}
-use Rattle.nj_workers.specs.Claimed.{AreClaimed}
-use Rattle.nj_workers.specs.Shares.{pieces_in}
-use Rattle.nj_workers.specs.Hands.{MayWork}
+use Rattle.nj_hands.specs.declared.hand.WorkEnd.{WorkEnd}
+use Rattle.nj_hands.specs.Claimed.{AreClaimed}
+use Rattle.nj_hands.specs.Shares.{pieces_in}
+use Rattle.nj_hands.specs.Hands.{MayWork}
 use Rattle.nj_workers.specs.Desks.{IsSeated, AllServed, taken_all}
 use Rattle.nj_workers.proofs.Fronts.{SameSums}
 use Rattle.nj_workers.proofs.Backs.{taken_weigh}
@@ -158,35 +158,3 @@ none_twice h count left takers ends takers_are whole =
     ap (sum_by (λ taker. sum_by h (taken_of taker))) takers_are in
     omega (arith, taken_weigh h ends)
 
--- claims of the same rows in another order
-pub claimed_moved : (lives others : List Row) (p q : PassView) (rows : List Row) → IsPermutation others lives
-    → AreClaimed lives p q rows → AreClaimed others p q rows
-claimed_moved lives others p q rows moved f = record {
-  placed = f.placed;
-  refused = f.refused;
-  parts = IsPermutation-trans others lives (f.placed ++ f.refused) moved f.parts;
-  claims = f.claims;
-  full = f.full;
-  more = f.more;
-  seen = f.seen;
-  dropped = f.dropped;
-  choice = IsPermutation-trans others lives (rows ++ f.dropped) moved f.choice;
-  dropped_may = f.dropped_may;
-}
-
--- the live rows are no more than the candidates
-pub few_live : (held : Held) → ((held : Held) → live_rows held ≡ filter
-    (is_live_row held.state.mark (held.state.step + 1)) (map (row_of (game_of held.plan)) (candidates_in held)))
-    → length (candidates_in held) ≤ length held.state.front * held.bounds.inputs
-    → length (live_rows held) ≤ length held.state.front * held.bounds.inputs
-few_live held live few =
-    let rows : List Row = map (row_of (game_of held.plan)) (candidates_in held) in
-    let many : length rows ≡ length (candidates_in held) =
-    length-map (candidates_in held) (row_of (game_of held.plan)) in
-    let is : length (live_rows held) ≡ length (filter (is_live_row held.state.mark (held.state.step + 1)) rows) =
-    ap length (live held) in
-    omega (
-      arith,
-      length-filter (is_live_row held.state.mark (held.state.step + 1)) rows,
-      count_by-le-length (is_live_row held.state.mark (held.state.step + 1)) rows,
-    )

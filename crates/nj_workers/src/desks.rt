@@ -1,7 +1,7 @@
 //! The desks at which workers work, each with a counter.
 
 ghost use Rattle.std.specs.Prelude.{◌≡◌, ◌≤◌, ◌<◌, ◌+◌, ◌++◌, [], All, length, map, reverse, vec_len, vec_capacity, OnOk, OnErr};
-ghost use Rattle.nj_workers.specs.Hands.{MayWork};
+ghost use Rattle.nj_hands.specs.Hands.{MayWork};
 ghost use Rattle.nj_workers.specs.Desks.{EachPair, Served, AllServed};
 
 use crate::hand::WorkEnd;

@@ -4,7 +4,7 @@ ghost use Rattle.std.specs.Prelude.{◌≡◌, ◌≤◌, ◌<◌, ◌+◌, ◌*
 ghost use Rattle.nj_expand.specs.Held.{candidates_in, kept_in};
 ghost use Rattle.nj_expand.specs.Step.{IsStep};
 ghost use Rattle.nj_expand.specs.Closed.{AreRowsOf, IsClosedFor};
-ghost use Rattle.nj_workers.specs.Room.{IsOpenFor};
+ghost use Rattle.nj_hands.specs.Room.{IsOpenFor};
 ghost use Rattle.nj_workers.specs.Counted.{AreCounted};
 
 use crate::runs::run_kept;

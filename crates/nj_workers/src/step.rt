@@ -4,10 +4,10 @@ ghost use Rattle.std.specs.Prelude.{◌≡◌, ◌≤◌, ◌<◌, ◌+◌, ◌*
 ghost use Rattle.nj_claims.specs.Passes.{first_pass};
 ghost use Rattle.nj_seen.specs.Rows.{IsRising};
 ghost use Rattle.nj_expand.specs.Held.{live_rows, candidates_in};
-ghost use Rattle.nj_workers.specs.Claimed.{AreClaimed};
+ghost use Rattle.nj_hands.specs.Claimed.{AreClaimed};
 ghost use Rattle.nj_workers.specs.Counted.{AreCounted};
 ghost use Rattle.nj_expand.specs.Closed.{AreRowsOf, IsClosedFor};
-ghost use Rattle.nj_workers.specs.Room.{IsOpenFor};
+ghost use Rattle.nj_hands.specs.Room.{IsOpenFor};
 
 use crate::desks::work_all;
 use crate::piece::WORDS;
