@@ -49,8 +49,8 @@ one_back table pieces held old new from to seated none served =
     )
 
 -- the first pass when all have come back to it, with all their rows
-pub all_back : (laws : Laws) (table : TableView) (pieces : Pieces) (held : Held) (root : PassView) (olds news : List WorkEnd)
-    (counts afters : List ℕ)
+pub all_back : (laws : Laws) (table : TableView) (pieces : Pieces) (held : Held) (root : PassView)
+    (olds news : List WorkEnd) (counts afters : List ℕ)
     → All (IsSeated table held) olds → All (λ end. taken_of end.hand.taker ≡ []) olds
     → AllServed table pieces olds news counts afters
     → AreClaimed (rows_of held (taken_all news)) root (joined_all root news) (rows_all news)
@@ -61,7 +61,8 @@ all_back laws table pieces held root (old ∷ olds) (new ∷ news) [] afters sea
 all_back laws table pieces held root (old ∷ olds) (new ∷ news) (count ∷ counts) [] seated none served = absurd served
 all_back laws table pieces held root (old ∷ olds) (new ∷ news) (count ∷ counts) (after ∷ afters) seated none served =
     let here = All-head (IsSeated table held) old olds seated in
-    let rest = all_back laws table pieces held root olds news counts afters (All-tail (IsSeated table held) old olds seated)
+    let rest = all_back laws table pieces held root olds news counts afters
+    (All-tail (IsSeated table held) old olds seated)
     (All-tail (λ (end : WorkEnd). taken_of end.hand.taker ≡ []) old olds none) served.1 in
     subst (λ rows.
     AreClaimed rows root (joined_pass (joined_all root news) new.hand.pass) (rows_all news ++ new.rows.items))
