@@ -2,64 +2,31 @@
 use Rattle.std.proofs.Common.{◌≡◌, ℕ, ◌+◌, ◌-◌, ◌*◌, ◌≤◌, List, [], ◌∷◌, ◌++◌, length, Result, Ok, Err, length-append, false, true, refl, sym, ap, ◌∙◌, subst, arith, append_assoc, append-nil}
 use Rattle.std.specs.Prelude.{map, sum, OnOk, IsOk}
 use Rattle.std.specs.List.{All, sum_by}
+use Rattle.std.specs.List.Sorted.{IsPermutation}
 use Rattle.std.proofs.Math.Nat.{mul-add}
-use Rattle.std.proofs.lemmas.List.{map-append, get_or_append_left}
+use Rattle.std.proofs.lemmas.List.{get_or_append_left}
 use Rattle.std.proofs.lemmas.List.Concat.{flat_map-append}
-use Rattle.std.proofs.lemmas.List.Elements.{All-head, All-tail, All-append, All-weaker, Contains-append_left, Contains-append_right}
+use Rattle.std.proofs.lemmas.List.Elements.{All-head, All-tail}
 use Rattle.std.proofs.lemmas.List.Sums.{sum_by-append, sum_by-cons}
 use Rattle.nj_claims.specs.Passes.{TableView, PassView, joined_pass}
 use Rattle.nj_pieces.specs.declared.parts.Pieces.{Pieces}
 use Rattle.nj_pieces.specs.declared.parts.Taker.{Taker}
 use Rattle.nj_pieces.specs.Takers.{taken_of}
 use Rattle.nj_rows.specs.declared.Row.{Row}
-use Rattle.nj_seen.specs.Held.{claim_of}
 use Rattle.nj_expand.specs.Held.{Held}
-use Rattle.nj_workers.specs.declared.hand.WorkEnd.{WorkEnd}
-use Rattle.nj_workers.specs.Claimed.{MayBeDropped, AreClaimed}
-use Rattle.nj_workers.specs.Shares.{piece_rows, piece_runs, rows_of, runs_of}
+use Rattle.nj_hands.specs.declared.hand.WorkEnd.{WorkEnd}
+use Rattle.nj_hands.specs.Claimed.{AreClaimed}
+use Rattle.nj_hands.specs.Shares.{piece_rows, piece_runs, rows_of, runs_of}
 use Rattle.nj_workers.specs.Desks.{IsSeated, Served, AllServed, joined_all, rows_all, taken_all}
-use Rattle.nj_workers.proofs.Claims.{claimed_none, parts_more}
 
--- a number that was seen is seen in more
-seen_in_left : (seen more : List (ℕ × ℕ)) (row : Row) → MayBeDropped seen row → MayBeDropped (seen ++ more) row
-seen_in_left seen more row may =
-    (may.0, record { number = may.1.number; stands = Contains-append_left seen more _ may.1.stands; less = may.1.less })
-
-seen_in_right : (seen more : List (ℕ × ℕ)) (row : Row) → MayBeDropped more row → MayBeDropped (seen ++ more) row
-seen_in_right seen more row may = (
-  may.0,
-  record { number = may.1.number; stands = Contains-append_right seen more _ may.1.stands; less = may.1.less },
-)
-
--- claims through the first pass, and those of another pass that is joined to it
-pub claimed_joined : (a b : List Row) (first root given other : PassView) (xs ys : List Row) → given.claims ≡ []
-    → given.seen ≡ [] → given.full ≡ []
-    → AreClaimed a first root xs → AreClaimed b given other ys
-    → AreClaimed (a ++ b) first (joined_pass root other) (xs ++ ys)
-claimed_joined a b first root given other xs ys no_claims no_seen no_full f g = record {
-  placed = f.placed ++ g.placed;
-  refused = f.refused ++ g.refused;
-  parts = parts_more a b f.placed f.refused g.placed g.refused f.parts g.parts;
-  claims =
-      ap (λ c. c ++ other.claims) f.claims ∙ ap (λ c. (first.claims ++ map claim_of f.placed) ++ c) (g.claims
-      ∙ ap (λ c. c ++ map claim_of g.placed) no_claims)
-      ∙ append_assoc first.claims (map claim_of f.placed) (map claim_of g.placed)
-      ∙ ap (λ c. first.claims ++ c) (sym (map-append claim_of f.placed g.placed));
-  full =
-      ap (λ c. c ++ other.full) f.full ∙ ap (λ c. (first.full ++ map (λ row. row.key) f.refused) ++ c) (g.full
-      ∙ ap (λ c. c ++ map (λ row. row.key) g.refused) no_full)
-      ∙ append_assoc first.full (map (λ row. row.key) f.refused) (map (λ row. row.key) g.refused)
-      ∙ ap (λ c. first.full ++ c) (sym (map-append (λ (row : Row). row.key) f.refused g.refused));
-  more = f.more ++ other.seen;
-  seen = ap (λ s. s ++ other.seen) f.seen ∙ append_assoc first.seen f.more other.seen;
-  dropped = f.dropped ++ g.dropped;
-  choice = parts_more a b xs f.dropped ys g.dropped f.choice g.choice;
-  dropped_may = All-append (MayBeDropped (root.seen ++ other.seen)) f.dropped g.dropped
-      (All-weaker (MayBeDropped root.seen) (MayBeDropped (root.seen ++ other.seen)) (seen_in_left root.seen other.seen)
-      f.dropped f.dropped_may)
-      (All-weaker (MayBeDropped other.seen)
-      (MayBeDropped (root.seen ++ other.seen)) (seen_in_right root.seen other.seen) g.dropped g.dropped_may);
-}
+-- the laws of the crate below: what claims make together
+pub record Laws : Type 0 where
+  pub none : (pass : PassView) → AreClaimed [] pass pass []
+  pub joined : (a b : List Row) (first root given other : PassView) (xs ys : List Row) → given.claims ≡ []
+      → given.seen ≡ [] → given.full ≡ [] → AreClaimed a first root xs → AreClaimed b given other ys
+      → AreClaimed (a ++ b) first (joined_pass root other) (xs ++ ys)
+  pub moved : (lives others : List Row) (p q : PassView) (rows : List Row) → IsPermutation others lives
+      → AreClaimed lives p q rows → AreClaimed others p q rows
 
 -- what a worker that began with nothing has claimed, and its rows
 pub one_back : (table : TableView) (pieces : Pieces) (held : Held) (old new : WorkEnd) (from to : ℕ)
@@ -82,24 +49,25 @@ one_back table pieces held old new from to seated none served =
     )
 
 -- the first pass when all have come back to it, with all their rows
-pub all_back : (table : TableView) (pieces : Pieces) (held : Held) (root : PassView) (olds news : List WorkEnd)
-    (counts afters : List ℕ)
+pub all_back : (laws : Laws) (table : TableView) (pieces : Pieces) (held : Held) (root : PassView)
+    (olds news : List WorkEnd) (counts afters : List ℕ)
     → All (IsSeated table held) olds → All (λ end. taken_of end.hand.taker ≡ []) olds
     → AllServed table pieces olds news counts afters
     → AreClaimed (rows_of held (taken_all news)) root (joined_all root news) (rows_all news)
-all_back table pieces held root [] [] counts afters seated none served = claimed_none root
-all_back table pieces held root [] (new ∷ news) counts afters seated none served = absurd served
-all_back table pieces held root (old ∷ olds) [] counts afters seated none served = absurd served
-all_back table pieces held root (old ∷ olds) (new ∷ news) [] afters seated none served = absurd served
-all_back table pieces held root (old ∷ olds) (new ∷ news) (count ∷ counts) [] seated none served = absurd served
-all_back table pieces held root (old ∷ olds) (new ∷ news) (count ∷ counts) (after ∷ afters) seated none served =
+all_back laws table pieces held root [] [] counts afters seated none served = laws.none root
+all_back laws table pieces held root [] (new ∷ news) counts afters seated none served = absurd served
+all_back laws table pieces held root (old ∷ olds) [] counts afters seated none served = absurd served
+all_back laws table pieces held root (old ∷ olds) (new ∷ news) [] afters seated none served = absurd served
+all_back laws table pieces held root (old ∷ olds) (new ∷ news) (count ∷ counts) [] seated none served = absurd served
+all_back laws table pieces held root (old ∷ olds) (new ∷ news) (count ∷ counts) (after ∷ afters) seated none served =
     let here = All-head (IsSeated table held) old olds seated in
-    let rest = all_back table pieces held root olds news counts afters (All-tail (IsSeated table held) old olds seated)
+    let rest = all_back laws table pieces held root olds news counts afters
+    (All-tail (IsSeated table held) old olds seated)
     (All-tail (λ (end : WorkEnd). taken_of end.hand.taker ≡ []) old olds none) served.1 in
     subst (λ rows.
     AreClaimed rows root (joined_pass (joined_all root news) new.hand.pass) (rows_all news ++ new.rows.items))
     (sym (flat_map-append (piece_rows held) (taken_all news) (taken_of new.hand.taker)))
-    (claimed_joined (rows_of held (taken_all news)) (rows_of held (taken_of new.hand.taker)) root
+    (laws.joined (rows_of held (taken_all news)) (rows_of held (taken_of new.hand.taker)) root
     (joined_all root news) old.hand.pass new.hand.pass (rows_all news) new.rows.items
     here.claims here.seen here.full rest (one_back table pieces held old new count after here
     (All-head (λ (end : WorkEnd). taken_of end.hand.taker ≡ []) old olds none) served.0).0)

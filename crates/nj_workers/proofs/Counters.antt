@@ -1,8 +1,15 @@
 -- The counters of all workers, before and after.
-use Rattle.std.proofs.Common.{◌≡◌, ℕ, ◌+◌, ◌-◌, ◌≤◌, List, [], ◌∷◌, length, drop, refl, sym, ap, ◌∙◌, subst, arith}
+use Rattle.std.proofs.Common.{◌≡◌, ℕ, ◌+◌, ◌-◌, ◌*◌, ◌≤◌, List, [], ◌∷◌, length, drop, refl, sym, ap, ◌∙◌, subst, arith}
 use Rattle.std.specs.Prelude.{sum}
 use Rattle.std.specs.List.{AllZip}
+use Rattle.std.proofs.Math.Nat.{mul-add}
 use Rattle.std.proofs.lemmas.List.{drop-drop}
+use Rattle.nj_rows.specs.declared.Row.{Row}
+use Rattle.nj_expand.specs.declared.kept.Kept.{Kept}
+use Rattle.nj_expand.specs.declared.kept.Chosen.{Chosen}
+use Rattle.nj_expand.specs.declared.kept.Chosen.TheVariants.{Keeps}
+use Rattle.nj_expand.specs.Held.{Held, candidates_in, kept_in}
+use Rattle.nj_expand.specs.Kept.{IsKept, IsChosen}
 use Rattle.nj_workers.specs.Desks.{AllHave}
 use Rattle.nj_workers.specs.Counted.{AreCounted}
 
@@ -93,3 +100,20 @@ by_more workers more old new most le counted =
           ∙ drop-drop (more - workers) workers old ∙ ap (λ n. drop n old) (sym is);
       together = counted.together;
     }
+
+-- the candidates are counted, and then the rows that are kept
+pub counted_whole : (workers : ℕ) (held : Held) (chosen : Chosen) (kept : Kept) (rows : List Row)
+    (counts mid afters : List ℕ)
+    → IsChosen held chosen → chosen ≡ Keeps kept → rows ≡ kept.rows.items
+    → AreCounted workers counts mid (held.plan.script.hold * length (candidates_in held))
+    → AreCounted workers mid afters (held.plan.script.hold * length rows)
+    → AreCounted workers counts afters
+    (held.plan.script.hold * (length (candidates_in held) + length (kept_in held)))
+counted_whole workers held chosen kept rows counts mid afters is keeps same first later =
+    let hold = held.plan.script.hold in
+    let runs = length (candidates_in held) in
+    let is_kept : IsKept held kept = subst (IsChosen held) keeps is in
+    let count : length rows ≡ length (kept_in held) = ap length same ∙ is_kept.count in
+    subst (λ (n : ℕ). AreCounted workers counts afters n) (sym (mul-add hold runs (length (kept_in held))))
+    (counted_then workers counts mid afters (hold * runs) (hold * length (kept_in held)) first
+    (subst (λ (n : ℕ). AreCounted workers mid afters (hold * n)) count later))

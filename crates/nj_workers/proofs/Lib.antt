@@ -1,13 +1,7 @@
-pub mod Claims
-pub mod Words
-pub mod Turns
 pub mod Backs
-pub mod Endings
-pub mod Fronts
 pub mod Sitting
 pub mod Together
 pub mod Counters
 pub mod Seating
 pub mod Meetings
-pub mod Rooms
 pub mod Cuts

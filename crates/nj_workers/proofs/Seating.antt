@@ -10,7 +10,7 @@ use Rattle.nj_machine.specs.State.{State, rom_of, power_on}
 use Rattle.nj_game.specs.Plan.{Plan}
 use Rattle.nj_expand.specs.Held.{Held}
 use Rattle.nj_expand.specs.Front.{rom_in}
-use Rattle.nj_workers.specs.declared.hand.WorkEnd.{WorkEnd}
+use Rattle.nj_hands.specs.declared.hand.WorkEnd.{WorkEnd}
 use Rattle.nj_workers.specs.Desks.{IsSeated}
 use Rattle.nj_workers.proofs.Together.{taker_of}
 use Rattle.nj_workers.proofs.Sitting.{still_all}

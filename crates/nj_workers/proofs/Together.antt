@@ -1,29 +1,20 @@
 -- All hands of a step, before they work and after.
-use Rattle.std.proofs.Common.{◌≡◌, ℕ, ◌+◌, ◌*◌, ◌≤◌, false, List, [], ◌∷◌, ◌++◌, length, get_or, refl, sym, ap, ◌∙◌, subst, arith}
-use Rattle.std.specs.Prelude.{map, filter}
+use Rattle.std.proofs.Common.{◌≡◌, ℕ, ◌+◌, ◌≤◌, false, List, [], ◌∷◌, length, get_or, refl, sym, ap, ◌∙◌, subst, arith}
+use Rattle.std.specs.Prelude.{map}
 use Rattle.std.specs.List.{All, sum_by, range_with_len}
-use Rattle.std.specs.List.Sorted.{IsPermutation}
 use Rattle.std.proofs.lemmas.List.{length-map}
 use Rattle.std.proofs.Math.ListN.{get_or-map}
 use Rattle.std.proofs.lemmas.List.Elements.{All-nil, All-cons, All-head, All-tail, All-map}
-use Rattle.std.proofs.lemmas.List.Sorted.{IsPermutation-trans}
-use Rattle.std.proofs.lemmas.List.Sums.{length-filter, count_by-le-length}
-use Rattle.nj_claims.specs.Passes.{TableView, PassView}
+use Rattle.nj_claims.specs.Passes.{TableView}
 use Rattle.nj_pieces.specs.declared.parts.Pieces.{Pieces}
 use Rattle.nj_pieces.specs.declared.parts.Taker.{Taker}
-use Rattle.nj_pieces.specs.Takers.{count_of, number_of, taken_of, IsTakerOf, AreTakersOf}
-use Rattle.nj_game.specs.Words.{game_of}
-use Rattle.nj_rows.specs.declared.Row.{Row}
-use Rattle.nj_seen.specs.Rows.{is_live_row}
-use Rattle.nj_expand.specs.Rows.{row_of}
-use Rattle.nj_expand.specs.Held.{Held, live_rows, candidates_in}
+use Rattle.nj_pieces.specs.Takers.{count_of, workers_of, number_of, taken_of, IsTakerOf, AreTakersOf}
+use Rattle.nj_expand.specs.Held.{Held}
 use Rattle.nj_expand.specs.Front.{rom_in}
-use Rattle.nj_workers.specs.declared.hand.WorkEnd.{WorkEnd}
-use Rattle.nj_workers.specs.Claimed.{AreClaimed}
-use Rattle.nj_workers.specs.Shares.{pieces_in}
-use Rattle.nj_workers.specs.Hands.{MayWork}
+use Rattle.nj_hands.specs.declared.hand.WorkEnd.{WorkEnd}
+use Rattle.nj_hands.specs.Shares.{pieces_in}
+use Rattle.nj_hands.specs.Hands.{MayWork}
 use Rattle.nj_workers.specs.Desks.{IsSeated, AllServed, taken_all}
-use Rattle.nj_workers.proofs.Fronts.{SameSums}
 use Rattle.nj_workers.proofs.Backs.{taken_weigh}
 
 -- a worker's taker
@@ -62,6 +53,11 @@ may_all table pieces held ends takers spent count seated same are =
           })
           (each ends (All-tail (IsSeated table held) end ends seated)
           (All-tail (λ (end : WorkEnd). IsTakerOf pieces end.hand.taker) end ends is))
+
+-- as many as were asked for
+pub many_seated : (pieces : Pieces) (workers : ℕ) (ends : List WorkEnd) (takers : List Taker)
+    → map taker_of ends ≡ takers → AreTakersOf pieces takers → workers_of pieces ≡ workers → length ends ≡ workers
+many_seated pieces workers ends takers same are many = sym (length-map ends taker_of) ∙ ap length same ∙ are.many ∙ many
 
 -- none of their takers has taken a piece
 pub none_all : (ends : List WorkEnd) (takers : List Taker) → map taker_of ends ≡ takers
@@ -136,7 +132,7 @@ pub all_taken : (count : ℕ) (left : List ℕ) (takers : List Taker) (ends : Li
     → left ≡ []
     → ((h : ℕ → ℕ) → sum_by h left + sum_by (λ taker. sum_by h (taken_of taker)) takers
     ≡ sum_by h (range_with_len 0 count))
-    → SameSums (range_with_len 0 count) (taken_all ends)
+    → (h : ℕ → ℕ) → sum_by h (range_with_len 0 count) ≡ sum_by h (taken_all ends)
 all_taken count left takers ends takers_are none whole h =
     let sum = whole h in
     let nothing : sum_by h left ≡ 0 = ap (sum_by h) none in
@@ -157,36 +153,3 @@ none_twice h count left takers ends takers_are whole =
     (map taker_of ends) =
     ap (sum_by (λ taker. sum_by h (taken_of taker))) takers_are in
     omega (arith, taken_weigh h ends)
-
--- claims of the same rows in another order
-pub claimed_moved : (lives others : List Row) (p q : PassView) (rows : List Row) → IsPermutation others lives
-    → AreClaimed lives p q rows → AreClaimed others p q rows
-claimed_moved lives others p q rows moved f = record {
-  placed = f.placed;
-  refused = f.refused;
-  parts = IsPermutation-trans others lives (f.placed ++ f.refused) moved f.parts;
-  claims = f.claims;
-  full = f.full;
-  more = f.more;
-  seen = f.seen;
-  dropped = f.dropped;
-  choice = IsPermutation-trans others lives (rows ++ f.dropped) moved f.choice;
-  dropped_may = f.dropped_may;
-}
-
--- the live rows are no more than the candidates
-pub few_live : (held : Held) → ((held : Held) → live_rows held ≡ filter
-    (is_live_row held.state.mark (held.state.step + 1)) (map (row_of (game_of held.plan)) (candidates_in held)))
-    → length (candidates_in held) ≤ length held.state.front * held.bounds.inputs
-    → length (live_rows held) ≤ length held.state.front * held.bounds.inputs
-few_live held live few =
-    let rows : List Row = map (row_of (game_of held.plan)) (candidates_in held) in
-    let many : length rows ≡ length (candidates_in held) =
-    length-map (candidates_in held) (row_of (game_of held.plan)) in
-    let is : length (live_rows held) ≡ length (filter (is_live_row held.state.mark (held.state.step + 1)) rows) =
-    ap length (live held) in
-    omega (
-      arith,
-      length-filter (is_live_row held.state.mark (held.state.step + 1)) rows,
-      count_by-le-length (is_live_row held.state.mark (held.state.step + 1)) rows,
-    )

@@ -7,8 +7,8 @@ use Rattle.nj_machine.specs.State.{rom_of}
 use Rattle.nj_rows.specs.declared.Row.{Row}
 use Rattle.nj_expand.specs.Held.{Held}
 use Rattle.nj_expand.specs.Front.{rom_in}
-use Rattle.nj_workers.specs.declared.hand.WorkEnd.{WorkEnd}
-use Rattle.nj_workers.specs.Hands.{HasWorked}
+use Rattle.nj_hands.specs.declared.hand.WorkEnd.{WorkEnd}
+use Rattle.nj_hands.specs.Hands.{HasWorked}
 
 -- a worker's hand before it works: a machine of the cartridge, and a pass of the table that knows nothing; no row is
 -- there

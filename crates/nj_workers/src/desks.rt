@@ -1,12 +1,11 @@
 //! The desks at which workers work, each with a counter.
 
 ghost use Rattle.std.specs.Prelude.{◌≡◌, ◌≤◌, ◌<◌, ◌+◌, ◌++◌, [], All, length, map, reverse, vec_len, vec_capacity, OnOk, OnErr};
-ghost use Rattle.nj_workers.specs.Hands.{MayWork};
+ghost use Rattle.nj_hands.specs.Hands.{MayWork};
 ghost use Rattle.nj_workers.specs.Desks.{EachPair, Served, AllServed};
 
-use crate::hand::WorkEnd;
-use crate::serving::serve;
 use nj_claims::ClaimTable;
+use nj_hands::{WorkEnd, serve};
 use nj_outside::Gate;
 use nj_pieces::Pieces;
 use nj_steps::Steps;

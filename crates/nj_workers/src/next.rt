@@ -1,18 +1,16 @@
 //! The whole of a step by several workers.
 
-ghost use Rattle.std.specs.Prelude.{◌≡◌, ◌≤◌, ◌<◌, ◌+◌, ◌*◌, ◌^◌, false, true, length, IfOk, OnErr};
+ghost use Rattle.std.specs.Prelude.{◌≡◌, ◌≤◌, ◌<◌, ◌+◌, ◌*◌, false, true, length, IfOk, OnErr};
 ghost use Rattle.nj_expand.specs.Held.{candidates_in, kept_in};
 ghost use Rattle.nj_expand.specs.Step.{IsStep};
 ghost use Rattle.nj_expand.specs.Closed.{AreRowsOf, IsClosedFor};
-ghost use Rattle.nj_workers.specs.Room.{IsOpenFor};
 ghost use Rattle.nj_workers.specs.Counted.{AreCounted};
 
 use crate::runs::run_kept;
-use crate::step::shared;
-use nj_claims::empty_table;
+use crate::step::claimed_rows;
 use nj_expand::{Chosen, Row, Search, Stepped};
+use nj_hands::{close_table, open_table};
 use nj_outside::Gate;
-use nj_seen::no_key_is_seen;
 use nj_steps::Steps;
 use std::alloc::{AllocError, Global};
 use std::sync::Wait;
@@ -20,9 +18,9 @@ use std::sync::ledger::Ledger;
 use std::thread::Threads;
 
 /// Makes the next step by so many workers, from 1 to 64: they run the candidates of the front's pieces, each in a
-/// thread where one can be made, and claim their keys in one table, and so they run again what is kept; the step ends as
-/// one thread would end it. Each worker counts frames by the counter at its place. After want of memory the search is
-/// spent.
+/// thread where one can be made, and claim their keys in one table, and so they run again what is kept; the step ends
+/// as one thread would end it. Each worker counts frames by the counter at its place. After want of memory the search
+/// is spent.
 pub fn next_shared<R: Threads + Wait + Sync, G: Gate, L: Ledger + Send>(
     rt: &R,
     search: &mut Search,
@@ -99,35 +97,7 @@ fn made<R: Threads + Wait + Sync, G: Gate, L: Ledger + Send>(
     ensures frames { AreCounted workers steps.old.items steps.new.items
         (search.now.plan.script.hold * length (candidates_in search.now)) }
 {
-    let claims = opening(search, alloc)?;
-    shared(rt, alloc, search, claims, workers, gate, steps)
-}
-
-// An empty table with room for the claims of the next step.
-fn opening(search: &Search, alloc: Global) -> Result<Vec<u64>, AllocError>
-    ensures { IfOk result (λ claims. IsOpenFor search.now claims.items) }
-{
-    no_key_is_seen();
-    let bounds = search.bounds();
-    let room = search.front_len() as u64 * bounds.inputs;
-    let claims = empty_table(alloc, exponent_for(room, bounds.exponent))?;
-    Ok(claims)
-}
-
-// The least exponent from 10 on of a table with twice the room, or the greatest that is allowed, which has the room.
-// In a table that is half empty few slots are passed before a key's.
-fn exponent_for(room: u64, most: u32) -> u32
-    requires least { 10 ≤ most }
-    requires most { most ≤ 25 }
-    requires fits { room ≤ 2 ^ most }
-    ensures least { 10 ≤ result }
-    ensures most { result ≤ 25 }
-    ensures fits { room ≤ 2 ^ result }
-{
-    for exponent in 10..most {
-        if 2 * room <= 2_u64.pow(exponent) {
-            return exponent;
-        }
-    }
-    most
+    let (table, mut pass) = open_table(search, alloc)?;
+    let rows = claimed_rows(rt, alloc, search, &table, &mut pass, workers, gate, steps)?;
+    Ok(close_table(search, table, pass, rows))
 }

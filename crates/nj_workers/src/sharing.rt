@@ -4,9 +4,9 @@ ghost use Rattle.std.specs.Prelude.{◌≡◌, ◌≤◌, ◌<◌, ◌+◌, ◌+
 ghost use Rattle.nj_claims.specs.Passes.{first_pass, joined_pass};
 ghost use Rattle.nj_workers.specs.Desks.{IsSeated, joined_all, rows_all};
 
-use crate::hand::{Hand, WorkEnd};
 use nj_claims::{ClaimTable, Pass};
 use nj_expand::{Row, Search};
+use nj_hands::{Hand, WorkEnd};
 use nj_pieces::Taker;
 use std::alloc::{AllocError, Global};
 

@@ -1,8 +1,8 @@
 -- All sit down, work and stand up.
 use Rattle.nj_workers.specs.declared.desks.Desk.{Desk}
-use Rattle.nj_workers.specs.declared.hand.WorkEnd.{WorkEnd}
+use Rattle.nj_hands.specs.declared.hand.WorkEnd.{WorkEnd}
 use Rattle.nj_workers.specs.Desks.{Served}
-use Rattle.nj_workers.specs.Hands.{MayWork}
+use Rattle.nj_hands.specs.Hands.{MayWork}
 use Rattle.nj_workers.proofs.Sitting.{all_at, all_stood_within}
 use Rattle.nj_workers.proofs.desks.work_all.Goals as goal
 

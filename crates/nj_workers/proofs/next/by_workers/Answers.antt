@@ -1,5 +1,5 @@
 -- The counters of the candidates, and of those that are kept.
-use Rattle.nj_workers.proofs.Rooms.{counted_whole}
+use Rattle.nj_workers.proofs.Counters.{counted_whole}
 use Rattle.nj_workers.proofs.next.by_workers.Goals as goal
 
 pub returns-in_err-parts-in-Keeps-clause-frames : goal.returns-in_err-parts-in-Keeps-clause-frames

@@ -2,5 +2,5 @@
 use Rattle.nj_workers.proofs.Counters.{counted_none}
 use Rattle.nj_workers.proofs.next.made.Goals as goal
 
-pub returns-in_err-claims-clause-frames : goal.returns-in_err-claims-clause-frames
-returns-in_err-claims-clause-frames g c = counted_none _ _ c.args.steps.now.items
+pub returns-in_err-table-clause-frames : goal.returns-in_err-table-clause-frames
+returns-in_err-table-clause-frames g c = counted_none _ _ c.args.steps.now.items

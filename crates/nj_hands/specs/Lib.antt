@@ -1,0 +1,4 @@
+pub mod Claimed
+pub mod Shares
+pub mod Hands
+pub mod Room
