@@ -9,10 +9,10 @@ use nj_hands::{WorkEnd, serve};
 use nj_outside::Gate;
 use nj_pieces::Pieces;
 use nj_steps::Steps;
+use nj_threads::for_each_apart;
 use std::alloc::{AllocError, Global};
 use std::sync::Wait;
 use std::sync::ledger::Ledger;
-use std::thread;
 use std::thread::Threads;
 
 // The words between what two workers write: a pair of cache lines.
@@ -37,7 +37,6 @@ pub(crate) fn work_all<'a, R: Threads + Wait + Sync, G: Gate, L: Ledger + Send>(
     ends: &mut Vec<WorkEnd<'a>>,
     steps: &mut Vec<Steps<L>>,
 ) -> Result<(), AllocError>
-    requires some { 0 < length ends.old.items }
     requires counters { length ends.old.items ≤ length steps.old.items }
     requires may { All (λ end. MayWork table.now pieces.now end.hand) ends.old.items }
     ensures served { OnOk result
@@ -45,18 +44,9 @@ pub(crate) fn work_all<'a, R: Threads + Wait + Sync, G: Gate, L: Ledger + Send>(
     ensures capacity { OnOk result (vec_capacity ends.new ≡ vec_capacity ends.old) }
     ensures counters { OnErr result (steps.new.items ≡ steps.old.items) }
 {
-    let threads = ends.len();
-    let mut desks = Vec::with_capacity(alloc, threads)?;
+    let mut desks = Vec::with_capacity(alloc, ends.len())?;
     sit_down(ends, steps, &mut desks);
-    serve_all(
-        rt,
-        alloc,
-        table,
-        pieces,
-        gate,
-        desks.as_mut_slice(),
-        threads,
-    );
+    serve_all(rt, alloc, table, pieces, gate, desks.as_mut_slice());
     stand_up(desks, ends, steps);
     Ok(())
 }
@@ -69,18 +59,15 @@ fn serve_all<'a, R: Threads + Wait + Sync, G: Gate, L: Ledger + Send>(
     pieces: &Pieces,
     gate: &G,
     desks: &mut [Desk<WorkEnd<'a>, L>],
-    threads: usize,
 )
-    requires threads { 0 < threads }
     requires may { All (λ desk. MayWork table.now pieces.now desk.end.hand) desks.old }
     ensures many { length desks.new ≡ length desks.old }
     ensures served { EachPair (λ old new. Served table.now pieces.now old.end new.end old.steps new.steps)
         desks.old desks.new }
 {
-    thread::for_each_mut(
+    for_each_apart(
         rt,
         desks,
-        threads,
         &|_at: usize, desk: &mut Desk<WorkEnd, L>|
             requires { MayWork table.now pieces.now desk.old.end.hand }
             ensures { Served table.entry.now pieces.entry.now desk.old.end desk.new.end desk.old.steps desk.new.steps }

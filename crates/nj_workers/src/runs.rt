@@ -9,10 +9,10 @@ ghost use Rattle.nj_workers.specs.Runs.{rows_in, MayRunAgain, HasRun};
 use crate::desks::{Desk, sit_down, stand_up};
 use nj_expand::{Again, Row, Search};
 use nj_steps::Steps;
+use nj_threads::for_each_apart;
 use std::alloc::{AllocError, Global};
 use std::sync::Wait;
 use std::sync::ledger::Ledger;
-use std::thread;
 use std::thread::Threads;
 
 // The least rows of a run, but the last one. A thread for fewer is not worth its start.
@@ -90,17 +90,15 @@ fn run_all<'a, R: Threads + Wait + Sync, L: Ledger + Send>(
     runs: &mut Vec<Run<'a>>,
     steps: &mut Vec<Steps<L>>,
 ) -> Result<(), AllocError>
-    requires some { 0 < length runs.old.items }
     requires counters { length runs.old.items ≤ length steps.old.items }
     requires rows { MayRunAgain search.now (rows_in runs.old.items) }
     ensures ran { OnOk result
         (AllHave (HasRun search.now) runs.old.items runs.new.items steps.old.items steps.new.items) }
     ensures counters { OnErr result (steps.new.items ≡ steps.old.items) }
 {
-    let threads = runs.len();
-    let mut desks = Vec::with_capacity(alloc, threads)?;
+    let mut desks = Vec::with_capacity(alloc, runs.len())?;
     sit_down(runs, steps, &mut desks);
-    run_desks(rt, alloc, search, desks.as_mut_slice(), threads);
+    run_desks(rt, alloc, search, desks.as_mut_slice());
     stand_up(desks, runs, steps);
     Ok(())
 }
@@ -111,17 +109,14 @@ fn run_desks<'a, R: Threads + Wait + Sync, L: Ledger + Send>(
     alloc: Global,
     search: &Search,
     desks: &mut [Desk<Run<'a>, L>],
-    threads: usize,
 )
-    requires threads { 0 < threads }
     requires rows { All (λ desk. MayRunAgain search.now desk.end.rows.now) desks.old }
     ensures many { length desks.new ≡ length desks.old }
     ensures ran { EachPair (λ old new. HasRun search.now old.end new.end old.steps new.steps) desks.old desks.new }
 {
-    thread::for_each_mut(
+    for_each_apart(
         rt,
         desks,
-        threads,
         &|_at: usize, desk: &mut Desk<Run, L>|
             requires { MayRunAgain search.now desk.old.end.rows.now }
             ensures { HasRun search.entry.now desk.old.end desk.new.end desk.old.steps desk.new.steps }
