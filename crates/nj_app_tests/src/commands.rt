@@ -186,6 +186,13 @@ fn run_cases(rt: &impl Abort, alloc: Global, cases: &str) -> Result<(), AllocErr
     Ok(())
 }
 
+fn run_all(rt: &impl Abort, alloc: Global, tables: &[&str]) -> Result<(), AllocError> {
+    for cases in tables {
+        run_cases(rt, alloc, cases)?;
+    }
+    Ok(())
+}
+
 // Whether all cases end so by `run`, with more words behind each line.
 fn share_cases<R: Threads + Wait + Sync, L: Ledger + Send>(
     rt: &R,
@@ -210,8 +217,35 @@ fn share_cases<R: Threads + Wait + Sync, L: Ledger + Send>(
     Ok(are_told)
 }
 
-// Whether 2, 3 and 64 workers win as one does.
-fn many_win<R: Threads + Wait + Sync, L: Ledger + Send>(
+// What is run by `run`, each with what stands behind its lines: 2, 3 and 64 workers win as one does, and two search as
+// one; where no workers are asked for, it does what one thread does.
+static SHARED: [(&str, &str); 9] = [
+    (WINS, " --workers 2"),
+    (WINS, " --workers=3"),
+    (WINS, " --workers 64"),
+    (SEARCHES, " --workers 2"),
+    (SAVES, " --workers 2"),
+    (QUOTAS, ""),
+    (WINS, ""),
+    (PLAYS, ""),
+    (FAULTS, ""),
+];
+
+fn share_all<R: Threads + Wait + Sync, L: Ledger + Send>(
+    rt: &R,
+    alloc: Global,
+    tables: &[(&str, &str)],
+    steps: &mut Vec<Steps<L>>,
+) -> Result<bool, AllocError> {
+    let mut are_told = true;
+    for (cases, more) in tables {
+        are_told &= share_cases(rt, alloc, cases, more, steps)?;
+    }
+    Ok(are_told)
+}
+
+// Whether all of them end so.
+fn all_are_shared<R: Threads + Wait + Sync, L: Ledger + Send>(
     rt: &R,
     alloc: Global,
     blank: Blank,
@@ -219,112 +253,30 @@ fn many_win<R: Threads + Wait + Sync, L: Ledger + Send>(
     requires { blank.name ≡ L.name }
 {
     let mut steps = Steps::<L>::open_many(alloc, blank, COUNTERS)?;
-    let by_two = share_cases(rt, alloc, WINS, " --workers 2", &mut steps)?;
-    let by_three = share_cases(rt, alloc, WINS, " --workers=3", &mut steps)?;
-    let by_all = share_cases(rt, alloc, WINS, " --workers 64", &mut steps)?;
-    Ok(by_two && by_three && by_all)
-}
-
-// Whether two workers search as one does.
-fn two_search<R: Threads + Wait + Sync, L: Ledger + Send>(
-    rt: &R,
-    alloc: Global,
-    blank: Blank,
-) -> Result<bool, AllocError>
-    requires { blank.name ≡ L.name }
-{
-    let mut steps = Steps::<L>::open_many(alloc, blank, COUNTERS)?;
-    let are_found = share_cases(rt, alloc, SEARCHES, " --workers 2", &mut steps)?;
-    let are_saved = share_cases(rt, alloc, SAVES, " --workers 2", &mut steps)?;
-    let are_few = share_cases(rt, alloc, QUOTAS, "", &mut steps)?;
-    Ok(are_found && are_saved && are_few)
-}
-
-// Whether `run` does what one thread does where no workers are asked for.
-fn one_does<R: Threads + Wait + Sync, L: Ledger + Send>(
-    rt: &R,
-    alloc: Global,
-    blank: Blank,
-) -> Result<bool, AllocError>
-    requires { blank.name ≡ L.name }
-{
-    let mut steps = Steps::<L>::open_many(alloc, blank, COUNTERS)?;
-    let are_won = share_cases(rt, alloc, WINS, "", &mut steps)?;
-    let are_played = share_cases(rt, alloc, PLAYS, "", &mut steps)?;
-    let have_failed = share_cases(rt, alloc, FAULTS, "", &mut steps)?;
-    Ok(are_won && are_played && have_failed)
+    share_all(rt, alloc, SHARED.as_slice(), &mut steps)
 }
 
 #[test]
-fn plays(rt: HostRuntime) -> Result<(), Fail> {
-    run_cases(&rt, rt.alloc(), PLAYS)?;
+fn commands_end_as_written(rt: HostRuntime) -> Result<(), Fail> {
+    run_all(&rt, rt.alloc(), &[PLAYS, REPLAYS, SOURCES, CLEANS, LISTS])?;
     Ok(())
 }
 
 #[test]
-fn replays(rt: HostRuntime) -> Result<(), Fail> {
-    run_cases(&rt, rt.alloc(), REPLAYS)?;
+fn refusals_and_faults_are_told(rt: HostRuntime) -> Result<(), Fail> {
+    run_all(&rt, rt.alloc(), &[CHECKS, PLANS, FAULTS])?;
     Ok(())
 }
 
 #[test]
-fn checks(rt: HostRuntime) -> Result<(), Fail> {
-    run_cases(&rt, rt.alloc(), CHECKS)?;
+fn searches_end_as_written(rt: HostRuntime) -> Result<(), Fail> {
+    run_all(&rt, rt.alloc(), &[WINS, SEARCHES, SAVES, QUOTAS])?;
     Ok(())
 }
 
 #[test]
-fn refuses_plans(rt: HostRuntime) -> Result<(), Fail> {
-    run_cases(&rt, rt.alloc(), PLANS)?;
-    Ok(())
-}
-
-#[test]
-fn assembles(rt: HostRuntime) -> Result<(), Fail> {
-    run_cases(&rt, rt.alloc(), SOURCES)?;
-    Ok(())
-}
-
-#[test]
-fn cleans(rt: HostRuntime) -> Result<(), Fail> {
-    run_cases(&rt, rt.alloc(), CLEANS)?;
-    Ok(())
-}
-
-#[test]
-fn lists(rt: HostRuntime) -> Result<(), Fail> {
-    run_cases(&rt, rt.alloc(), LISTS)?;
-    Ok(())
-}
-
-#[test]
-fn traces(rt: HostRuntime) -> Result<(), Fail> {
+fn traces_begin_as_written(rt: HostRuntime) -> Result<(), Fail> {
     begin_cases(&rt, rt.alloc(), TRACES)?;
-    Ok(())
-}
-
-#[test]
-fn searches(rt: HostRuntime) -> Result<(), Fail> {
-    run_cases(&rt, rt.alloc(), WINS)?;
-    run_cases(&rt, rt.alloc(), SEARCHES)?;
-    Ok(())
-}
-
-#[test]
-fn searches_are_saved_and_go_on(rt: HostRuntime) -> Result<(), Fail> {
-    run_cases(&rt, rt.alloc(), SAVES)?;
-    Ok(())
-}
-
-#[test]
-fn quotas_bound_the_kept(rt: HostRuntime) -> Result<(), Fail> {
-    run_cases(&rt, rt.alloc(), QUOTAS)?;
-    Ok(())
-}
-
-#[test]
-fn calls_fail(rt: HostRuntime) -> Result<(), Fail> {
-    run_cases(&rt, rt.alloc(), FAULTS)?;
     Ok(())
 }
 
@@ -339,15 +291,11 @@ fn saved_bytes(alloc: Global) -> Result<Vec<u8>, AllocError> {
     }
 }
 
-// What `resume` of this saved file and start comes to.
-fn resume_of(
-    alloc: Global,
-    saved: &[u8],
-    start: &str,
-) -> Result<(u8, MemSink, MemSink), AllocError> {
+// What `resume` of this saved file comes to.
+fn resume_of(alloc: Global, saved: &[u8]) -> Result<(u8, MemSink, MemSink), AllocError> {
     let mut shelf = shelf_with(alloc, saved, &[])?;
-    let line = format!(in alloc; "resume walk goal {start} movie --steps 3")?;
-    by_one(alloc, line.as_str(), &mut shelf, NONE)
+    let line = "resume walk goal start movie --steps 3";
+    by_one(alloc, line, &mut shelf, NONE)
 }
 
 // A saved file that was changed, and the line that refuses it.
@@ -355,10 +303,9 @@ fn expect_saved(
     rt: &impl Abort,
     alloc: Global,
     saved: &[u8],
-    start: &str,
     line: &str,
 ) -> Result<(), AllocError> {
-    let (status, out, err) = resume_of(alloc, saved, start)?;
+    let (status, out, err) = resume_of(alloc, saved)?;
     assert_eq!(rt; status, 11, "{line}");
     assert_eq!(rt; out.bytes(), b"".as_slice(), "{line}");
     assert_eq!(rt; err.bytes(), line.as_bytes());
@@ -381,46 +328,17 @@ fn saved_files_are_refused(rt: HostRuntime) -> Result<(), Fail> {
     assert_eq!(&rt; saved.len(), 90);
     let mut cut = saved.clone()?;
     cut.truncate(89);
-    expect_saved(
-        &rt,
-        alloc,
-        cut.as_slice(),
-        "start",
-        "nj: saved 5 Short at=89\n",
-    )?;
+    expect_saved(&rt, alloc, cut.as_slice(), "nj: saved 5 Short at=89\n")?;
     let mut long = saved.clone()?;
     long.push(0)?;
-    expect_saved(
-        &rt,
-        alloc,
-        long.as_slice(),
-        "start",
-        "nj: saved 7 Trailing at=90\n",
-    )?;
+    expect_saved(&rt, alloc, long.as_slice(), "nj: saved 7 Trailing at=90\n")?;
     let first = with_byte(alloc, saved.as_slice(), 24, 0)?;
-    expect_saved(
-        &rt,
-        alloc,
-        first.as_slice(),
-        "start",
-        "nj: saved 6 Range at=24\n",
-    )?;
+    expect_saved(&rt, alloc, first.as_slice(), "nj: saved 6 Range at=24\n")?;
     let other = with_byte(alloc, saved.as_slice(), 4, 9)?;
-    expect_saved(
-        &rt,
-        alloc,
-        other.as_slice(),
-        "start",
-        "nj: saved 2 Version n=9\n",
-    )?;
+    expect_saved(&rt, alloc, other.as_slice(), "nj: saved 2 Version n=9\n")?;
     let damaged = with_byte(alloc, saved.as_slice(), 44, 1)?;
-    expect_saved(
-        &rt,
-        alloc,
-        damaged.as_slice(),
-        "start",
-        "nj: saved 9 Damaged kept=15950387202685951007 now=3479608552922645262\n",
-    )?;
+    let line = "nj: saved 9 Damaged kept=15950387202685951007 now=3479608552922645262\n";
+    expect_saved(&rt, alloc, damaged.as_slice(), line)?;
     Ok(())
 }
 
@@ -431,7 +349,7 @@ fn first_version_goes_on(rt: HostRuntime) -> Result<(), Fail> {
     let saved = saved_bytes(alloc)?;
     let mut first = with_byte(alloc, saved.as_slice(), 4, 1)?;
     first.truncate(82);
-    let (status, out, _err) = resume_of(alloc, first.as_slice(), "start")?;
+    let (status, out, _err) = resume_of(alloc, first.as_slice())?;
     assert_eq!(rt; status, 0);
     assert!(rt;
         out.bytes()
@@ -442,22 +360,8 @@ fn first_version_goes_on(rt: HostRuntime) -> Result<(), Fail> {
 
 #[test]
 fn any_number_of_workers_writes_the_text_of_one(rt: HostRuntime) -> Result<(), Fail> {
-    let wins = many_win::<HostRuntime, Brand>(&rt, rt.alloc(), Blank::new(1))?;
-    assert!(rt; wins);
-    Ok(())
-}
-
-#[test]
-fn two_workers_search_as_one(rt: HostRuntime) -> Result<(), Fail> {
-    let search = two_search::<HostRuntime, Brand>(&rt, rt.alloc(), Blank::new(1))?;
-    assert!(rt; search);
-    Ok(())
-}
-
-#[test]
-fn one_worker_does_all_else(rt: HostRuntime) -> Result<(), Fail> {
-    let does = one_does::<HostRuntime, Brand>(&rt, rt.alloc(), Blank::new(1))?;
-    assert!(rt; does);
+    let are_told = all_are_shared::<HostRuntime, Brand>(&rt, rt.alloc(), Blank::new(1))?;
+    assert!(rt; are_told);
     Ok(())
 }
 
@@ -598,29 +502,23 @@ fn expect_workload(
 }
 
 #[test]
-fn workload_0(rt: HostRuntime) -> Result<(), Fail> {
+fn workloads_begin_as_written(rt: HostRuntime) -> Result<(), Fail> {
+    let alloc = rt.alloc();
     let head = "# workload number=0 size=24592\n# won step=4 frames=204 reward=0\n";
-    expect_workload(&rt, rt.alloc(), "workload 0", head)?;
-    Ok(())
-}
-
-#[test]
-fn workload_1(rt: HostRuntime) -> Result<(), Fail> {
+    expect_workload(&rt, alloc, "workload 0", head)?;
     let head = "# workload number=1 size=24592\n# limit step=20 frames=220 reward=0\n";
-    expect_workload(&rt, rt.alloc(), "workload 1", head)?;
-    Ok(())
-}
-
-#[test]
-fn workload_2(rt: HostRuntime) -> Result<(), Fail> {
-    let head = "# workload number=2 size=24592\n# ";
-    expect_workload(&rt, rt.alloc(), "workload 2", head)?;
-    Ok(())
-}
-
-#[test]
-fn workload_3(rt: HostRuntime) -> Result<(), Fail> {
-    let head = "# workload number=3 size=24592\n# ";
-    expect_workload(&rt, rt.alloc(), "workload 3", head)?;
+    expect_workload(&rt, alloc, "workload 1", head)?;
+    expect_workload(
+        &rt,
+        alloc,
+        "workload 2",
+        "# workload number=2 size=24592\n# ",
+    )?;
+    expect_workload(
+        &rt,
+        alloc,
+        "workload 3",
+        "# workload number=3 size=24592\n# ",
+    )?;
     Ok(())
 }

@@ -109,9 +109,9 @@ fn options_text(alloc: Global, options: &SearchOptions) -> Result<String, AllocE
     }
 }
 
-fn command_text(alloc: Global, command: &Command) -> Result<String, AllocError> {
+// A search, begun or gone on with; nothing of any other command.
+fn search_text(alloc: Global, command: &Command) -> Result<String, AllocError> {
     match command {
-        Command::Play { cart, movie } => format!(in alloc; "play {cart},{movie}"),
         Command::Search {
             cart,
             script,
@@ -131,6 +131,13 @@ fn command_text(alloc: Global, command: &Command) -> Result<String, AllocError> 
             let options = options_text(alloc, options)?;
             format!(in alloc; "resume {cart},{script},{start},{saved} {options}")
         }
+        _other => Ok(String::new(alloc)),
+    }
+}
+
+fn command_text(alloc: Global, command: &Command) -> Result<String, AllocError> {
+    match command {
+        Command::Play { cart, movie } => format!(in alloc; "play {cart},{movie}"),
         Command::Replay {
             cart,
             script,
@@ -152,6 +159,7 @@ fn command_text(alloc: Global, command: &Command) -> Result<String, AllocError> 
             script,
             movie,
         } => format!(in alloc; "watch {cart},{script},{movie}"),
+        _other => search_text(alloc, command),
     }
 }
 

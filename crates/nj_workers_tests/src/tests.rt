@@ -69,21 +69,40 @@ fn cartridge(alloc: Global) -> Result<Cart, Fail> {
     )
 }
 
-// The search behind three frames without a button, with at most 64 words in its front.
-fn begun<L: Ledger>(alloc: Global, text: &str, steps: &mut Steps<L>) -> Result<Search, Fail> {
-    let script = Script::read(alloc, text.as_bytes())
-        .ok()
-        .ok_or("no script")?;
+// Three frames without a button.
+fn start(alloc: Global) -> Result<Movie, Fail> {
     let mut start = Movie::new(alloc);
     for _frame in 0..3u32 {
         start.push(Pad(0))?;
     }
+    Ok(start)
+}
+
+// The search behind three frames without a button, with at most 64 words in its front.
+fn begun<L: Ledger>(alloc: Global, text: &str, steps: &mut Steps<L>) -> Result<Search, Fail> {
+    let cart = cartridge(alloc)?;
+    let script = Script::read(alloc, text.as_bytes())
+        .ok()
+        .ok_or("no script")?;
     let bounds = Bounds {
         front: 64,
         exponent: 14,
         inputs: script.input_count(),
     };
-    Ok(Search::start(alloc, cartridge(alloc)?, script, start, bounds, steps)?)
+    Ok(Search::start(alloc, cart, script, start(alloc)?, bounds, steps)?)
+}
+
+// The same search with 66 counters, whose first has counted its start.
+fn opened<L: Ledger>(
+    alloc: Global,
+    blank: Blank,
+    text: &str,
+) -> Result<(Search, Vec<Steps<L>>), Fail>
+    requires { blank.name ≡ L.name }
+{
+    let mut steps = Steps::<L>::open_many(alloc, blank, 66)?;
+    let search = begun(alloc, text, &mut steps[0])?;
+    Ok((search, steps))
 }
 
 // The next step, of the first hundred.
@@ -121,8 +140,7 @@ fn ended<R: Threads + Wait + Sync, L: Ledger + Send>(
     requires blank { blank.name ≡ L.name }
     requires workers { (1 ≤ workers) × (workers ≤ 64) }
 {
-    let mut steps = Steps::<L>::open_many(alloc, blank, 66)?;
-    let mut search = begun(alloc, GOAL, &mut steps[0])?;
+    let (mut search, mut steps) = opened::<L>(alloc, blank, GOAL)?;
     let mut last = Stepped::Go;
     for _step in 0..20 {
         if last == Stepped::Go {
@@ -149,6 +167,15 @@ fn holds_right_at_last(alloc: Global, search: &Search, place: usize) -> Result<b
     )
 }
 
+// Whether the movie of each word of the front does so.
+fn all_hold_right_at_last(alloc: Global, search: &Search) -> Result<bool, Fail> {
+    let mut holds = true;
+    for place in 0..search.front_len() {
+        holds &= holds_right_at_last(alloc, search, place)?;
+    }
+    Ok(holds)
+}
+
 // Sixteen steps by three workers, each of whom runs a part of the kept words again, and the seventeenth by two, whose
 // front is of two pieces, with a meeting: how often one met the other, the words of the front, whether they are those
 // of one thread, and the frames that were run.
@@ -159,8 +186,7 @@ fn met<R: Threads + Wait + Sync, L: Ledger + Send>(
 ) -> Result<(u64, usize, bool, u64), Fail>
     requires blank { blank.name ≡ L.name }
 {
-    let mut steps = Steps::<L>::open_many(alloc, blank, 64)?;
-    let mut search = begun(alloc, COUNTS, &mut steps[0])?;
+    let (mut search, mut steps) = opened::<L>(alloc, blank, COUNTS)?;
     for _step in 0..16 {
         step(rt, alloc, &mut search, 3, &OpenGate, &mut steps)?;
     }
@@ -169,14 +195,10 @@ fn met<R: Threads + Wait + Sync, L: Ledger + Send>(
         met: AtomicU64::new(0),
     };
     step(rt, alloc, &mut search, 2, &gate, &mut steps)?;
-    let mut holds = true;
-    for place in 0..search.front_len() {
-        holds &= holds_right_at_last(alloc, &search, place)?;
-    }
     Ok((
         gate.met.load(Ordering::SeqCst),
         search.front_len(),
-        holds,
+        all_hold_right_at_last(alloc, &search)?,
         counted(&steps),
     ))
 }
@@ -189,10 +211,19 @@ fn front_of_one_step<R: Threads + Wait + Sync, L: Ledger + Send>(
 ) -> Result<(usize, u64), Fail>
     requires blank { blank.name ≡ L.name }
 {
-    let mut steps = Steps::<L>::open_many(alloc, blank, 64)?;
-    let mut search = begun(alloc, GOAL, &mut steps[0])?;
+    let (mut search, mut steps) = opened::<L>(alloc, blank, GOAL)?;
     step(rt, alloc, &mut search, 2, &OpenGate, &mut steps)?;
     Ok((search.front_len(), search.bytes()))
+}
+
+// The number, the reward and the pad of a row that wins.
+fn won(last: Stepped) -> Option<(u64, i64, u8)> {
+    match last {
+        Stepped::Won { row } if row.verdict == Verdict3::Win => Some((
+            row.number, row.reward, row.pad,
+        )),
+        Stepped::Won { .. } | Stepped::Exhausted | Stepped::Go => None,
+    }
 }
 
 // Asks that so many workers end the search for the goal as one thread does.
@@ -200,15 +231,7 @@ fn win<R: Threads + Wait + Sync + Abort>(rt: &R, alloc: Global, workers: u32) ->
     requires { (1 ≤ workers) × (workers ≤ 64) }
 {
     let (last, made, frames, others) = ended::<R, Brand>(rt, alloc, Blank::new(1), workers)?;
-    match last {
-        Stepped::Won { row } => {
-            assert_eq!(rt; row.number, 1);
-            assert_eq!(rt; row.reward, 118);
-            assert_eq!(rt; row.verdict, Verdict3::Win);
-            assert_eq!(rt; row.pad, 0x80);
-        }
-        Stepped::Exhausted | Stepped::Go => assert!(rt; false),
-    }
+    assert_eq!(rt; won(last), Some((1, 118, 0x80)));
     assert_eq!(rt; (made, frames, others), (17, 515, 0));
     Ok(())
 }

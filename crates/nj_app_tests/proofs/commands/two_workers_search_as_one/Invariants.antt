@@ -1,5 +1,0 @@
--- The ledger is the one that the blank names.
-use Rattle.nj_app_tests.proofs.commands.two_workers_search_as_one.Given as goal
-
-abbrev pub ghosts-two_search : goal.ghosts-two_search
-ghosts-two_search g a = record { name = a.blank.name; parts = a.blank.parts }
