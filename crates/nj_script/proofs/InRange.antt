@@ -8,18 +8,20 @@ use Rattle.serde_json.specs.Data.{Data}
 use Rattle.nj_property.specs.Property.{IsPlaced}
 use Rattle.nj_rules.specs.declared.record.Rule.{Rule}
 use Rattle.nj_rules.specs.Limits.{IsItemInRange, IsSetInRange, IsRuleInRange, AreItemsInRange, AreSetsInRange, AreRulesInRange}
-use Rattle.nj_script.specs.declared.names.Named.{Named}
+use Rattle.nj_fields.specs.declared.names.Named.{Named}
 use Rattle.nj_script.specs.declared.rules.Body.{Body}
 use Rattle.nj_script.specs.declared.rules.NamedRule.{NamedRule}
-use Rattle.nj_script.specs.declared.refusal.ScriptRefused.TheVariants.{UnknownName}
-use Rattle.nj_script.specs.Reading.{then_read, if_there}
-use Rattle.nj_script.specs.Fields.{natural_or, list, list_or_none, text_in}
-use Rattle.nj_script.specs.Lists.{each, collected}
-use Rattle.nj_script.specs.Names.{number_of, property_named}
-use Rattle.nj_script.specs.Kinds.{property_in, item_in, set_in, rule_in}
+use Rattle.nj_fields.specs.declared.refusal.ScriptRefused.TheVariants.{UnknownName}
+use Rattle.nj_fields.specs.Reading.{then_read, if_there}
+use Rattle.nj_fields.specs.Fields.{natural_or, list, list_or_none, text_in}
+use Rattle.nj_fields.specs.Lists.{each, collected}
+use Rattle.nj_fields.specs.Names.{number_of, property_named}
+use Rattle.nj_fields.specs.Properties.{property_in}
+use Rattle.nj_script.specs.Kinds.{item_in, set_in, rule_in}
 use Rattle.nj_script.specs.Script.{IsInRange, properties_in, items_in, sets_in, named_rules_in, numbers_of, rule_of, rules_in, bucket_property_in, bucket_in, head_in, script_in}
-use Rattle.nj_script.proofs.Accepted.{ok_then, ok_after, ok_weaker, ok_collected, ok_natural_or, ok_list, ok_list_or_none}
-use Rattle.nj_script.proofs.Members.{ArePlaced, IsBodyInRange, ok_members, ok_property_in, ok_property_named, ok_item_in, ok_set_in, ok_rule_in}
+use Rattle.nj_fields.proofs.Accepted.{ok_then, ok_after, ok_weaker, ok_members, ok_collected, ok_natural_or, ok_list, ok_list_or_none}
+use Rattle.nj_fields.proofs.Placed.{ArePlaced, ok_property_in, ok_property_named}
+use Rattle.nj_script.proofs.Members.{IsBodyInRange, ok_item_in, ok_set_in, ok_rule_in}
 
 pub ok_properties_in : (d : Data) → IfOk (properties_in d) (λ ps. ArePlaced ps × (length ps ≤ 64))
 unfolding properties_in

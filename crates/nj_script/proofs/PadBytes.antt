@@ -3,16 +3,16 @@ use Rattle.std.proofs.Common.{◌≡◌, ℕ, ◌<◌, ◌≤◌, refl, List, []
 use Rattle.serde_json.specs.Data.{Data}
 use Rattle.nj_pad.specs.Pad.{pad_of_text}
 use Rattle.nj_rules.specs.declared.record.InputSet.{InputSet}
-use Rattle.nj_script.specs.declared.names.Named.{Named}
-use Rattle.nj_script.specs.declared.refusal.ScriptRefused.TheVariants.{UnknownName}
-use Rattle.nj_script.specs.Reading.{then_read, if_there}
-use Rattle.nj_script.specs.Fields.{opened, truth, text_in, natural_or, list}
-use Rattle.nj_script.specs.Lists.{each}
-use Rattle.nj_script.specs.Names.{pad_named}
-use Rattle.nj_script.specs.Kinds.{conditions_in, pad_in, pads_in, set_in}
+use Rattle.nj_fields.specs.declared.names.Named.{Named}
+use Rattle.nj_fields.specs.declared.refusal.ScriptRefused.TheVariants.{UnknownName}
+use Rattle.nj_fields.specs.Reading.{then_read, if_there}
+use Rattle.nj_fields.specs.Fields.{opened, truth, text_in, natural_or, list}
+use Rattle.nj_fields.specs.Lists.{each}
+use Rattle.nj_fields.specs.Names.{pad_named}
+use Rattle.nj_fields.specs.Conditions.{conditions_in}
+use Rattle.nj_script.specs.Kinds.{pad_in, pads_in, set_in}
 use Rattle.nj_script.specs.Script.{Record, bucket_in, head_in, items_in, json_of, properties_in, rules_in, script_in, script_of, sets_in}
-use Rattle.nj_script.proofs.Accepted.{ok_then, ok_after, ok_if_there, ok_weaker, ok_list}
-use Rattle.nj_script.proofs.Members.{ok_members}
+use Rattle.nj_fields.proofs.Accepted.{ok_then, ok_after, ok_if_there, ok_weaker, ok_members, ok_list}
 
 -- each pad is a byte
 abbrev pub AreBytes : List ℕ → Type 0

@@ -1,5 +1,4 @@
--- How many values a list has.
+-- How long a list is whose elements are made of another's.
 use Rattle.std.proofs.lemmas.List.{length-map}
-use Rattle.serde_json.proofs.Views.{items_len-items_view}
 
-pub ruleset sizes = (items_len-items_view, length-map)
+pub ruleset sizes = (length-map)

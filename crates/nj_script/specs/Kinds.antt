@@ -1,46 +1,26 @@
--- The kinds of object in a script, each as what its members are read as, in order. The layout is this project's own.
-use Rattle.std.specs.Prelude.{ℕ, ◌+◌, ◌-◌, ◌^◌, Bool, List, [], ◌∷◌, pos, neg_ℤ, is_some, codes, bytes_eq, Ok, if◌then◌else◌}
+-- The kinds of object in a script beside its properties and conditions, each as what its members are read as, in order.
+-- The layout is this project's own.
+use Rattle.std.specs.Prelude.{ℕ, ◌+◌, ◌-◌, ◌^◌, List, [], ◌∷◌, pos, neg_ℤ, codes, bytes_eq, Ok}
 use Rattle.std.specs.List.{list_any}
 use Rattle.serde_json.specs.Data.{Data}
-use Rattle.serde_json.specs.Find.{get, as_str}
+use Rattle.serde_json.specs.Find.{as_str}
 use Rattle.nj_property.specs.Property.{size_of}
-use Rattle.nj_property.specs.declared.Kind.{Kind}
-use Rattle.nj_property.specs.declared.Cmp.{Cmp}
 use Rattle.nj_property.specs.declared.Property.{Property}
-use Rattle.nj_property.specs.declared.Side.{Side}
-use Rattle.nj_property.specs.declared.Side.TheVariants.{Number, Other}
-use Rattle.nj_property.specs.declared.Condition.{Condition}
 use Rattle.nj_rules.specs.declared.record.HashItem.{HashItem}
 use Rattle.nj_rules.specs.declared.record.InputSet.{InputSet}
 use Rattle.nj_rules.specs.declared.record.Weight.{Weight}
-use Rattle.nj_script.specs.declared.names.Named.{Named}
 use Rattle.nj_script.specs.declared.rules.Flags.{Flags}
 use Rattle.nj_script.specs.declared.rules.Body.{Body}
 use Rattle.nj_script.specs.declared.rules.NamedRule.{NamedRule}
-use Rattle.nj_script.specs.Reading.{Reading, then_read, if_there}
-use Rattle.nj_script.specs.Fields.{opened, integer, integer_or, natural, truth, text, text_in, list, list_or_none}
-use Rattle.nj_script.specs.Lists.{each}
-use Rattle.nj_script.specs.Names.{free_name, property_named, kind_named, comparison_named, pad_named}
+use Rattle.nj_fields.specs.declared.names.Named.{Named}
+use Rattle.nj_fields.specs.Reading.{Reading, then_read, if_there}
+use Rattle.nj_fields.specs.Fields.{opened, integer, integer_or, natural, truth, text, text_in, list, list_or_none}
+use Rattle.nj_fields.specs.Lists.{each}
+use Rattle.nj_fields.specs.Names.{free_name, property_named, pad_named}
+use Rattle.nj_fields.specs.Properties.{property_at}
+use Rattle.nj_fields.specs.Conditions.{conditions_in}
 
--- ---- properties and ranges
-
--- a property's kind
-unfoldable pub kind_in : Data → Reading Kind
-kind_in d = then_read (text (codes "kind") d) kind_named
-
--- a property, where these are before it
-unfoldable pub property_in : List Named → Data → Reading Named
-property_in before d =
-    then_read (opened (codes "properties") (codes "name" ∷ codes "kind" ∷ codes "at" ∷ []) d) (λ _.
-    then_read (text (codes "name") d) (λ name.
-    then_read (free_name (list_any (λ n. bytes_eq n.name name) before) name) (λ name.
-    then_read (kind_in d) (λ kind.
-    then_read (natural (codes "at") 0 (2048 - size_of kind) d) (λ at.
-    Ok (record { name = name; property = record { at = at; kind = kind } }))))))
-
--- the property that the member names
-unfoldable pub property_at : List ℕ → List Named → Data → Reading Property
-property_at key properties d = then_read (text key d) (property_named properties)
+-- ---- items of `hash`
 
 -- a range of working memory
 unfoldable pub range_in : Data → Reading HashItem
@@ -58,39 +38,6 @@ range_of p = record { from = p.at; to = p.at + size_of p.kind - 1 }
 unfoldable pub item_in : List Named → Data → Reading HashItem
 item_in properties d =
     if_there (as_str d) (range_in d) (λ name. then_read (property_named properties name) (λ p. Ok (range_of p)))
-
--- ---- conditions
-
--- the keys that a condition may have: `value` only where there is no `other`
-abbrev pub condition_keys : Bool → List (List ℕ)
-condition_keys other =
-    if other then codes "property" ∷ codes "op" ∷ codes "other" ∷ []
-    else codes "property" ∷ codes "op" ∷ codes "other" ∷ codes "value" ∷ []
-
--- a condition's comparison
-unfoldable pub comparison_in : Data → Reading Cmp
-comparison_in d = then_read (text (codes "op") d) comparison_named
-
--- the right side: a property where there is `other`, else a number
-unfoldable pub side_in : List Named → Data → Reading Side
-side_in properties d =
-    if_there (get (codes "other") d)
-    (then_read (integer (codes "value") (neg_ℤ (pos 65536)) (pos 65535) d) (λ n. Ok (Number n)))
-    (λ value. then_read (text_in (codes "other") value) (λ name.
-    then_read (property_named properties name) (λ p. Ok (Other p))))
-
--- a condition
-unfoldable pub condition_in : List Named → Data → Reading Condition
-condition_in properties d =
-    then_read (opened (codes "when") (condition_keys (is_some (get (codes "other") d))) d) (λ _.
-    then_read (property_at (codes "property") properties d) (λ left.
-    then_read (comparison_in d) (λ op.
-    then_read (side_in properties d) (λ right.
-    Ok (record { left = left; op = op; right = right })))))
-
--- the conditions of an input set or a rule
-unfoldable pub conditions_in : List Named → Data → Reading (List Condition)
-conditions_in properties d = then_read (list_or_none (codes "when") 16 d) (each (λ _. condition_in properties) [])
 
 -- ---- input sets
 

@@ -14,17 +14,18 @@ use Rattle.nj_rules.specs.declared.record.InputSets.{InputSets}
 use Rattle.nj_rules.specs.declared.record.HashItem.{HashItem}
 use Rattle.nj_rules.specs.declared.record.HashItems.{HashItems}
 use Rattle.nj_rules.specs.Limits.{AreRulesInRange, AreSetsInRange, AreItemsInRange}
-use Rattle.nj_script.specs.declared.names.Named.{Named}
+use Rattle.nj_fields.specs.declared.names.Named.{Named}
 use Rattle.nj_script.specs.declared.rules.Body.{Body}
 use Rattle.nj_script.specs.declared.rules.NamedRule.{NamedRule}
 use Rattle.nj_script.specs.declared.script.ScriptVersion.{ScriptVersion}
 use Rattle.nj_script.specs.declared.script.ScriptVersion.TheVariants.{One, Two}
-use Rattle.nj_script.specs.declared.refusal.ScriptRefused.TheVariants.{NotJson, WrongKind, Version}
-use Rattle.nj_script.specs.Reading.{Reading, then_read, if_there}
-use Rattle.nj_script.specs.Fields.{opened, required, natural_or, list, list_or_none, text_in}
-use Rattle.nj_script.specs.Lists.{each, collected}
-use Rattle.nj_script.specs.Names.{number_of, property_named}
-use Rattle.nj_script.specs.Kinds.{property_in, item_in, set_in, rule_in}
+use Rattle.nj_fields.specs.declared.refusal.ScriptRefused.TheVariants.{NotJson, WrongKind, Version}
+use Rattle.nj_fields.specs.Reading.{Reading, then_read, if_there}
+use Rattle.nj_fields.specs.Fields.{opened, required, natural_or, list, list_or_none, text_in}
+use Rattle.nj_fields.specs.Lists.{each, collected}
+use Rattle.nj_fields.specs.Names.{number_of, property_named}
+use Rattle.nj_fields.specs.Properties.{property_in}
+use Rattle.nj_script.specs.Kinds.{item_in, set_in, rule_in}
 
 -- what a script says; names are gone, and the properties stand in order. The values of the properties of `bucket` are
 -- a state's bucket, and `quota` is how many states that are kept may have one bucket

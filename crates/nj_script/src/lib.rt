@@ -4,27 +4,24 @@
 //!
 //! A reading of a kind of thing is a function from a JSON value into a `Result`, and readings go on from
 //! one another as calls with `?` do (`then_read`), so the order of a script's refusals is the order in
-//! which its definition reads. Read `script_in` (specs/Script) first, and then specs/Fields.
+//! which its definition reads. How a member, a list, a name, a property and a condition is read is
+//! nj_fields'; here are the items, the input sets, the rules and the whole. Read `script_in`
+//! (specs/Script) first, and then nj_fields' specs/Fields.
 #![tactic(auto)]
 
-mod conditions;
-mod fields;
+mod items;
 mod laws;
-mod lists;
-mod names;
 mod naming;
-mod properties;
-mod refusal;
 mod rules;
 mod script;
 mod sets;
 
 pub use laws::what_is_read_is_in_range;
+pub use nj_fields::ScriptRefused;
 pub use nj_pad::Pad;
 pub use nj_rules::{
     Cmp, Condition, HashItem, HashItems, InputSet, InputSets, Kind, Property, Rule, Rules, Side,
     Weight,
 };
 pub use nj_seq::{Seq, Text};
-pub use refusal::ScriptRefused;
 pub use script::Script;

@@ -2,15 +2,12 @@
 
 ghost use Rattle.std.specs.Prelude.{◌≡◌, ◌≤◌, ◌<◌, ◌^◌, List, [], map, length, IfOk, MatchResult};
 ghost use Rattle.serde_json.specs.View.{view};
-ghost use Rattle.nj_script.specs.Reading.{Gives, GivesAs};
-ghost use Rattle.nj_script.specs.Lists.{collected};
+ghost use Rattle.nj_fields.specs.Reading.{Gives, GivesAs};
+ghost use Rattle.nj_fields.specs.Lists.{collected};
 ghost use Rattle.nj_script.specs.Script.{named_rules_in, numbers_of, rule_of, rules_in};
 
-use crate::fields::list;
-use crate::lists::read_each;
-use crate::names::{Named, number_of};
-use crate::refusal::ScriptRefused;
 use crate::rules::{Body, NamedRule, RuleMember};
+use nj_fields::{Named, ScriptRefused, list, number_of, read_each};
 use nj_rules::Rule;
 use nj_seq::{Seq, Text};
 use serde_json::Value;

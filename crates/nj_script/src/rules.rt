@@ -1,16 +1,14 @@
 ghost use Rattle.std.specs.Prelude.{◌≡◌, ◌∷◌, [], List, map, codes, bytes_eq};
 ghost use Rattle.std.specs.List.{list_any};
 ghost use Rattle.serde_json.specs.View.{view};
-ghost use Rattle.nj_script.specs.Reading.{Gives};
-ghost use Rattle.nj_script.specs.Fields.{text_in};
+ghost use Rattle.nj_fields.specs.Reading.{Gives};
+ghost use Rattle.nj_fields.specs.Fields.{text_in};
 ghost use Rattle.nj_script.specs.Kinds.{flags_in, weight_in, weights_in, also_in, body_in, rule_keys, rule_in};
 
-use crate::conditions::conditions_in;
-use crate::fields::{integer, integer_or, list_or_none, open, text, text_in, truth};
-use crate::lists::{Member, read_each};
-use crate::names::{Named, free_name};
-use crate::properties::property_at;
-use crate::refusal::ScriptRefused;
+use nj_fields::{
+    Member, Named, ScriptRefused, conditions_in, free_name, integer, integer_or, list_or_none,
+    open, property_at, read_each, text, text_in, truth,
+};
 use nj_property::Condition;
 use nj_rules::Weight;
 use nj_seq::{Seq, Text};

@@ -3,16 +3,16 @@ ghost use Rattle.serde_json.specs.View.{view};
 ghost use Rattle.nj_property.specs.Property.{IsPlaced};
 ghost use Rattle.nj_rules.specs.Limits.{AreRulesInRange, AreSetsInRange, AreItemsInRange};
 ghost use Rattle.nj_rules.specs.Pads.{named_pads};
-ghost use Rattle.nj_script.specs.Reading.{Gives, GivesAs};
+ghost use Rattle.nj_fields.specs.Reading.{Gives, GivesAs};
 ghost use Rattle.nj_script.specs.Script.{properties_in, items_in, sets_in, version_in, script_keys, head_in, bucket_in, json_of, script_in, script_of};
 
-use crate::fields::{list, list_or_none, natural_or, open, required, wrong_kind};
-use crate::lists::read_each;
-use crate::names::Named;
+use crate::items::{BucketMember, ItemMember};
 use crate::naming::rules_in;
-use crate::properties::{BucketMember, ItemMember, PropertyMember};
-use crate::refusal::ScriptRefused;
 use crate::sets::SetMember;
+use nj_fields::{
+    Named, PropertyMember, ScriptRefused, list, list_or_none, natural_or, open, read_each,
+    required, wrong_kind,
+};
 use nj_rules::{HashItem, HashItems, InputSet, InputSets, Property, Rules, pad_count};
 use nj_seq::Seq;
 use serde_json::Value;

@@ -1,13 +1,11 @@
 ghost use Rattle.std.specs.Prelude.{◌≡◌, ◌∷◌, [], map, codes};
 ghost use Rattle.serde_json.specs.View.{view};
-ghost use Rattle.nj_script.specs.Reading.{Gives};
+ghost use Rattle.nj_fields.specs.Reading.{Gives};
 ghost use Rattle.nj_script.specs.Kinds.{pad_in, pads_in, set_in};
 
-use crate::conditions::conditions_in;
-use crate::fields::{list, open, text_in, truth};
-use crate::lists::{Member, read_each};
-use crate::names::{Named, pad_named};
-use crate::refusal::ScriptRefused;
+use nj_fields::{
+    Member, Named, ScriptRefused, conditions_in, list, open, pad_named, read_each, text_in, truth,
+};
 use nj_pad::Pad;
 use nj_rules::InputSet;
 use nj_seq::Seq;

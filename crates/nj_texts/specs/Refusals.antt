@@ -12,8 +12,8 @@ use Rattle.nj_replay.specs.declared.ReplayRefused.{ReplayRefused}
 use Rattle.nj_replay.specs.declared.ReplayRefused.TheVariants as replays
 use Rattle.nj_saved.specs.declared.refusal.SavedRefused.{SavedRefused}
 use Rattle.nj_saved.specs.declared.refusal.SavedRefused.TheVariants as saves
-use Rattle.nj_script.specs.declared.refusal.ScriptRefused.{ScriptRefused}
-use Rattle.nj_script.specs.declared.refusal.ScriptRefused.TheVariants as scripts
+use Rattle.nj_fields.specs.declared.refusal.ScriptRefused.{ScriptRefused}
+use Rattle.nj_fields.specs.declared.refusal.ScriptRefused.TheVariants as scripts
 use Rattle.nj_trace.specs.declared.tracing.TraceRefused.{TraceRefused}
 use Rattle.nj_trace.specs.declared.tracing.TraceRefused.TheVariants as traces
 use Rattle.nj_texts.specs.Kinds.{kind_name}

@@ -1,7 +1,7 @@
 -- A script that is read is in range, and names bytes alone.
 use Rattle.std.proofs.Common.{ℕ, List, Err, IfOk}
 use Rattle.nj_script.specs.Script.{IsInRange, json_of, script_in, script_of}
-use Rattle.nj_script.proofs.Accepted.{holds_of, ok_if_there}
+use Rattle.nj_fields.proofs.Accepted.{holds_of, ok_if_there}
 use Rattle.nj_script.proofs.InRange.{ok_script_in}
 use Rattle.nj_script.proofs.PadBytes.{NamesBytes, ok_script_of}
 use Rattle.nj_script.proofs.laws.what_is_read_is_in_range.Goals as goal

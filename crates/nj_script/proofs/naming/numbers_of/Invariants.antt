@@ -1,6 +1,6 @@
 use Rattle.std.proofs.Common.{◌≡◌, [], drop}
-use Rattle.nj_script.specs.Lists.{collected}
-use Rattle.nj_script.specs.Names.{number_of}
+use Rattle.nj_fields.specs.Lists.{collected}
+use Rattle.nj_fields.specs.Names.{number_of}
 use Rattle.nj_script.proofs.naming.numbers_of.Given as goal
 
 -- the names that are left bring what is missing

@@ -1,6 +1,6 @@
 use Rattle.std.proofs.Common.{◌≡◌, []}
 use Rattle.std.specs.Vec.Iter.{into_iter_items}
-use Rattle.nj_script.specs.Lists.{collected}
+use Rattle.nj_fields.specs.Lists.{collected}
 use Rattle.nj_script.specs.Script.{rule_of}
 use Rattle.nj_script.proofs.naming.rules_of.Given as goal
 

@@ -1,5 +1,5 @@
 use Rattle.std.proofs.Common.{Ok}
-use Rattle.nj_script.specs.Reading.{then_read}
+use Rattle.nj_fields.specs.Reading.{then_read}
 use Rattle.nj_script.specs.Kinds.{flags_in}
 use Rattle.nj_script.proofs.rules.flags_in.Goals as goal
 

@@ -1,8 +1,8 @@
 use Rattle.std.proofs.Common.{length, ◌≤◌}
 use Rattle.serde_json.specs.View.{view}
 use Rattle.nj_script.specs.Script.{properties_in}
-use Rattle.nj_script.proofs.Accepted.{holds_of}
-use Rattle.nj_script.proofs.Members.{ArePlaced}
+use Rattle.nj_fields.proofs.Accepted.{holds_of}
+use Rattle.nj_fields.proofs.Placed.{ArePlaced}
 use Rattle.nj_script.proofs.InRange.{ok_properties_in}
 use Rattle.nj_script.proofs.script.properties_in.Goals as goal
 

@@ -1,7 +1,7 @@
 use Rattle.std.proofs.Common.{◌≡◌, Ok, rules}
 use Rattle.serde_json.specs.View.{view}
 use Rattle.nj_script.specs.Script.{Record, IsInRange, script_in}
-use Rattle.nj_script.proofs.Accepted.{holds_of}
+use Rattle.nj_fields.proofs.Accepted.{holds_of}
 use Rattle.nj_script.proofs.InRange.{ok_script_in}
 use Rattle.nj_script.proofs.script.script_in.Goals as goal
 

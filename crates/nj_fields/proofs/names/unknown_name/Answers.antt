@@ -1,0 +1,9 @@
+use Rattle.std.proofs.Common.{ap, inl, inr, refl}
+use Rattle.nj_fields.specs.declared.refusal.ScriptRefused.TheVariants.{UnknownName}
+use Rattle.nj_fields.proofs.names.unknown_name.Goals as goal
+
+pub returns-in-Ok : goal.returns-in-Ok
+returns-in-Ok c = inr (ap UnknownName c.in-Ok.ensures)
+
+pub returns-in-Err : goal.returns-in-Err
+returns-in-Err c = inl refl

@@ -1,5 +1,0 @@
-use Rattle.std.proofs.Common.{inl, refl}
-use Rattle.nj_script.proofs.fields.out_of_range.Goals as goal
-
-pub returns-in-Err : goal.returns-in-Err
-returns-in-Err c = inl refl

@@ -1,9 +1,0 @@
-use Rattle.std.proofs.Common.{ap, inl, inr, refl}
-use Rattle.nj_script.specs.declared.refusal.ScriptRefused.TheVariants.{UnknownKey}
-use Rattle.nj_script.proofs.fields.unknown_key.Goals as goal
-
-pub returns-in-Ok : goal.returns-in-Ok
-returns-in-Ok c = inr (ap UnknownKey c.in-Ok.ensures)
-
-pub returns-in-Err : goal.returns-in-Err
-returns-in-Err c = inl refl

@@ -1,5 +1,0 @@
-use Rattle.std.proofs.Common.{refl}
-use Rattle.nj_script.proofs.properties.range_keys.Goals as goal
-
-pub returns : goal.returns
-returns c = refl
