@@ -226,6 +226,3 @@ impl Picture for CatchUp {
 
     ghost fits = { λ s p. after_dots-fits (pending_of s.lull) p s.screen s.fits };
 }
-
-#[cfg(test)]
-mod tests;

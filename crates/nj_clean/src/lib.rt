@@ -13,8 +13,6 @@ mod cleaning;
 mod laws;
 mod presses;
 mod sweeping;
-#[cfg(test)]
-mod tests;
 
 use bench::Setting;
 use cleaning::{a_read_movie_is_its_words, cleaned_end};

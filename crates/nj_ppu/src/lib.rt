@@ -84,6 +84,3 @@ impl Picture for DotPicture {
 
     ghost fits = { λ s p. s.fits };
 }
-
-#[cfg(test)]
-mod tests;

@@ -30,6 +30,32 @@ pub(crate) fn pairs() -> &'static str {
 }"#
 }
 
+/// Two frames a step; one point for each count at $10, and 100 more once it is 2, which wins.
+pub(crate) fn pairs_to_win() -> &'static str {
+    r#"{
+"version": 1,
+"properties": [{"name": "x", "at": 16, "kind": "u8"}],
+"hash": ["x"],
+"hold": 2,
+"inputs": [{"pads": ["........", "...R...."]}],
+"rules": [
+    {"name": "go", "weights": [{"property": "x", "weight": 1}]},
+    {"name": "goal", "when": [{"property": "x", "op": "==", "value": 2}], "win": true, "reward": 100}
+]
+}"#
+}
+
+/// Two numbers of working memory.
+pub(crate) fn two() -> &'static str {
+    r#"{
+"version": 1,
+"properties": [{"name": "x", "at": 16, "kind": "u8"}, {"name": "t", "at": 17, "kind": "u8"}],
+"hash": ["x"],
+"inputs": [{"pads": ["........", "...R...."]}],
+"rules": [{"name": "go", "weights": [{"property": "x", "weight": 1}]}]
+}"#
+}
+
 /// Movies by the script with a goal, behind three frames without a button: each frame's pad, R for Right, and the
 /// answer with the frames that were run.
 pub(crate) fn of_goal() -> &'static str {

@@ -8,8 +8,8 @@ use std::marker::Brand;
 use std::sync::ledger::{Blank, Ledger};
 use std::test::Fail;
 
-// 16 KiB of zeros but for the walking program and the vectors, and 8 KiB of zeros.
-fn file(alloc: Global) -> Result<Vec<u8>, AllocError> {
+/// 16 KiB of zeros but for the walking program and the vectors, and 8 KiB of zeros.
+pub(crate) fn file(alloc: Global) -> Result<Vec<u8>, AllocError> {
     let mut file = Vec::from_slice(alloc, &[b'N', b'E', b'S', 0x1A, 1, 1])?;
     file.resize(16, 0)?;
     file.extend_from_slice(walk())?;
@@ -19,17 +19,19 @@ fn file(alloc: Global) -> Result<Vec<u8>, AllocError> {
     Ok(file)
 }
 
-fn cartridge(alloc: Global) -> Result<Cart, Fail> {
+/// The cartridge of that file.
+pub(crate) fn cartridge(alloc: Global) -> Result<Cart, Fail> {
     let file = file(alloc)?;
     Ok(Cart::read(alloc, file.as_slice()).map_err(|_| "no cartridge")?)
 }
 
-fn script(alloc: Global, text: &str) -> Result<Script, Fail> {
+/// The script of a text.
+pub(crate) fn script(alloc: Global, text: &str) -> Result<Script, Fail> {
     Ok(Script::read(alloc, text.as_bytes()).map_err(|_| "no script")?)
 }
 
-// A movie of these frames, Right where an R stands.
-fn movie(alloc: Global, pads: &[u8]) -> Result<Movie, AllocError> {
+/// A movie of these frames, Right where an R stands.
+pub(crate) fn movie(alloc: Global, pads: &[u8]) -> Result<Movie, AllocError> {
     let mut movie = Movie::new(alloc);
     for pad in pads {
         movie.push(Pad(if *pad == b'R' { 0x80 } else { 0 }))?;

@@ -1,5 +1,5 @@
 -- The ledger of each call is the one that its blank names.
-use Rattle.nj_clean.proofs.tests.presses_of_two_frames.Given as goal
+use Rattle.nj_replay_tests.proofs.cleaning.what_is_not_cleaned.Given as goal
 
 abbrev pub ghosts-outcome : goal.ghosts-outcome
 ghosts-outcome g a = record { name = a.blank.name; parts = a.blank.parts }

@@ -1,59 +1,23 @@
+//! The units of frames, and the properties after each frame, as text.
+
 ghost use Rattle.std.specs.Prelude.{◌≡◌, ◌≤◌};
 
-use crate::{Cart, Movie, Script, Steps, TraceRefused, trace, watch};
-use nj_pad::Pad;
+use crate::data::two;
+use crate::movies::{file, movie, script};
+use nj_replay::Cart;
+use nj_trace::{Steps, TraceRefused, trace, watch};
 use std::alloc::Global;
 use std::marker::Brand;
 use std::sync::ledger::{Blank, Ledger};
 use std::test::Fail;
 
-const HEADER: [u8; 16] = [b'N', b'E', b'S', 0x1A, 1, 1, 0, 0, 0, 0, 0, 0, 0, 0, 0, 0];
-
-// Lets NMIs come. Each counts at $11, reads the eight buttons, and counts at $10 where Right is held.
-const WALK: [u8; 36] = [
-    0x78, 0xA9, 0x80, 0x8D, 0x00, 0x20, 0x4C, 0x06, 0x80, 0xE6, 0x11, 0xA9, 0x01, 0x8D, 0x16, 0x40,
-    0xA9, 0x00, 0x8D, 0x16, 0x40, 0xA2, 0x08, 0xAD, 0x16, 0x40, 0xCA, 0xD0, 0xFA, 0x29, 0x01, 0xF0,
-    0x02, 0xE6, 0x10, 0x40,
-];
-
-// Two numbers of working memory.
-const TWO: &str = concat!(
-    r#"{"version":1,"properties":[{"name":"x","at":16,"kind":"u8"},{"name":"t","at":17,"kind":"u8"}],"#,
-    r#""hash":["x"],"inputs":[{"pads":["........","...R...."]}],"#,
-    r#""rules":[{"name":"go","weights":[{"property":"x","weight":1}]}]}"#,
-);
-
-const R: u8 = 0x80;
-
 // The walking cartridge, or one whose first opcode is another.
 fn cartridge(alloc: Global, first: u8) -> Result<Cart, Fail> {
-    let mut file = Vec::from_slice(alloc, &HEADER)?;
-    file.push(first)?;
-    file.extend_from_slice(&WALK[1..])?;
-    file.resize(16 + 0x3FFA, 0)?;
-    file.extend_from_slice(&[0x09, 0x80, 0x00, 0x80, 0x00, 0x80])?;
-    file.resize(24_592, 0)?;
-    Ok(
-        Cart::read(alloc, file.as_slice())
-            .ok()
-            .ok_or("no cartridge")?,
-    )
-}
-
-fn script(alloc: Global, text: &str) -> Result<Script, Fail> {
-    Ok(
-        Script::read(alloc, text.as_bytes())
-            .ok()
-            .ok_or("no script")?,
-    )
-}
-
-fn movie(alloc: Global, pads: &[u8]) -> Result<Movie, Fail> {
-    let mut movie = Movie::new(alloc);
-    for pad in pads {
-        movie.push(Pad(*pad))?;
+    let mut file = file(alloc)?;
+    if let Some(opcode) = file.get_mut(16) {
+        *opcode = first;
     }
-    Ok(movie)
+    Ok(Cart::read(alloc, file.as_slice()).map_err(|_| "no cartridge")?)
 }
 
 // The trace of a frame, and how many frames it took.
@@ -92,7 +56,7 @@ fn begins(text: &[u8], lines: &[&[u8]]) -> bool {
 
 #[test]
 fn the_units_of_frames(rt: HostRuntime) -> Result<(), Fail> {
-    let one = text(traced::<Brand>(rt.alloc(), Blank::new(1), 0x78, &[0], 1)?)?;
+    let one = text(traced::<Brand>(rt.alloc(), Blank::new(1), 0x78, b".", 1)?)?;
     let lines: [&[u8]; 4] = [
         b"# trace frame=1 units=9132\n",
         b"L=0 D=0 A=00 X=00 Y=00 S=FD P=24 8000 78       SEI\n",
@@ -100,7 +64,7 @@ fn the_units_of_frames(rt: HostRuntime) -> Result<(), Fail> {
         b"L=0 D=12 A=80 X=00 Y=00 S=FD P=A4 8003 8D 00 20 STA $2000\n",
     ];
     assert!(rt; begins(one.as_slice(), &lines));
-    let two = text(traced::<Brand>(rt.alloc(), Blank::new(1), 0x78, &[0, 0], 2)?)?;
+    let two = text(traced::<Brand>(rt.alloc(), Blank::new(1), 0x78, b"..", 2)?)?;
     let lines: [&[u8]; 4] = [
         b"# trace frame=2 units=9925\n",
         b"L=241 D=4 A=80 X=00 Y=00 S=FD P=A4 8006 4C 06 80 JMP $8006\n",
@@ -113,15 +77,15 @@ fn the_units_of_frames(rt: HostRuntime) -> Result<(), Fail> {
 
 #[test]
 fn jams_and_frames_that_are_not_there(rt: HostRuntime) -> Result<(), Fail> {
-    let one = text(traced::<Brand>(rt.alloc(), Blank::new(1), 0x02, &[0], 1)?)?;
+    let one = text(traced::<Brand>(rt.alloc(), Blank::new(1), 0x02, b".", 1)?)?;
     let lines: [&[u8]; 2] = [
         b"# trace frame=1 units=1\n",
         b"L=0 D=0 A=00 X=00 Y=00 S=FD P=24 8000 JAM\n",
     ];
     assert!(rt; begins(one.as_slice(), &lines));
-    let three = text(traced::<Brand>(rt.alloc(), Blank::new(1), 0x02, &[0, 0, 0], 3)?)?;
+    let three = text(traced::<Brand>(rt.alloc(), Blank::new(1), 0x02, b"...", 3)?)?;
     assert_eq!(rt; three.as_slice(), b"# trace frame=3 units=0\n".as_slice());
-    let (none, frames) = traced::<Brand>(rt.alloc(), Blank::new(1), 0x78, &[], 1)?;
+    let (none, frames) = traced::<Brand>(rt.alloc(), Blank::new(1), 0x78, b"", 1)?;
     assert!(rt;
         matches!(
             none,
@@ -139,7 +103,7 @@ fn watched<L: Ledger>(alloc: Global, blank: Blank, pads: &[u8]) -> Result<Vec<u8
     requires { blank.name ≡ L.name }
 {
     let cart = cartridge(alloc, 0x78)?;
-    let two = script(alloc, TWO)?;
+    let two = script(alloc, two())?;
     let played = movie(alloc, pads)?;
     let mut steps = Steps::<L>::open(blank);
     Ok(watch(alloc, &cart, &two, &played, &mut steps)?)
@@ -147,7 +111,7 @@ fn watched<L: Ledger>(alloc: Global, blank: Blank, pads: &[u8]) -> Result<Vec<u8
 
 #[test]
 fn the_properties_after_frames(rt: HostRuntime) -> Result<(), Fail> {
-    let text = watched::<Brand>(rt.alloc(), Blank::new(1), &[0, 0, 0, R, R])?;
+    let text = watched::<Brand>(rt.alloc(), Blank::new(1), b"...RR")?;
     let lines = b"# watch frames=5 properties=2\n0 0 0\n1 0 0\n2 0 1\n3 0 2\n4 1 3\n5 2 4\n";
     assert_eq!(rt; text.as_slice(), lines.as_slice());
     Ok(())

@@ -1,4 +1,6 @@
-use super::*;
+//! The picture that catches up.
+
+use nj_catchup::{CatchUp, Picture, Position};
 
 const START_OF_BLANK: u32 = 241 * 341 + 1;
 
@@ -10,8 +12,8 @@ fn with_sprite(
     x: u8,
     left: bool,
     pattern: &[u8; 8192],
-) -> DotPicture {
-    let mut picture = DotPicture::new(false);
+) -> CatchUp {
+    let mut picture = CatchUp::new(false);
     picture.write(1, if left { 0x1E } else { 0x18 }, pattern);
     picture.write(3, 0, pattern);
     for byte in [y, tile, attributes, x] {
@@ -20,13 +22,13 @@ fn with_sprite(
     picture
 }
 
-fn has_hit(picture: &mut DotPicture, pattern: &[u8; 8192]) -> bool {
+fn has_hit(picture: &mut CatchUp, pattern: &[u8; 8192]) -> bool {
     picture.read(2, pattern) & 0x40 != 0
 }
 
 // A picture with rendering on, eight sprites at Y 20, a ninth at this Y and the others below the picture.
-fn with_ninth(y: u8, pattern: &[u8; 8192]) -> DotPicture {
-    let mut picture = DotPicture::new(false);
+fn with_ninth(y: u8, pattern: &[u8; 8192]) -> CatchUp {
+    let mut picture = CatchUp::new(false);
     for sprite in 0..64u8 {
         let top = match sprite {
             0..=7 => 20,
@@ -41,7 +43,7 @@ fn with_ninth(y: u8, pattern: &[u8; 8192]) -> DotPicture {
     picture
 }
 
-fn has_overflow(picture: &mut DotPicture, pattern: &[u8; 8192]) -> bool {
+fn has_overflow(picture: &mut CatchUp, pattern: &[u8; 8192]) -> bool {
     picture.read(2, pattern) & 0x20 != 0
 }
 
@@ -49,7 +51,7 @@ fn has_overflow(picture: &mut DotPicture, pattern: &[u8; 8192]) -> bool {
 #[test]
 fn status_reads_race_with_vertical_blank(rt: HostRuntime) {
     let pattern = [0u8; 8192];
-    let mut held = DotPicture::new(false);
+    let mut held = CatchUp::new(false);
     held.write(0, 0x80, &pattern);
     held.run(START_OF_BLANK, &pattern);
     assert_eq!(rt; held.position(), Position { line: 241, dot: 1 });
@@ -59,7 +61,7 @@ fn status_reads_race_with_vertical_blank(rt: HostRuntime) {
     assert!(rt; !held.nmi_line());
     assert_eq!(rt; held.read(2, &pattern) & 0x80, 0);
 
-    let mut taken = DotPicture::new(false);
+    let mut taken = CatchUp::new(false);
     taken.write(0, 0x80, &pattern);
     assert_eq!(rt; taken.dots_to_event(), START_OF_BLANK + 1);
     taken.run(START_OF_BLANK + 1, &pattern);
@@ -68,18 +70,6 @@ fn status_reads_race_with_vertical_blank(rt: HostRuntime) {
     assert!(rt; !taken.take_end());
     assert_eq!(rt; taken.read(2, &pattern) & 0x80, 0x80);
     assert_eq!(rt; taken.read(2, &pattern) & 0x80, 0);
-    assert!(rt; !taken.nmi_line());
-}
-
-// With all background and sprite zero opaque, there is no hit at pixel 255 nor in hidden left columns.
-#[test]
-fn hits_keep_out_of_the_edges(rt: HostRuntime) {
-    let pattern = [0xFFu8; 8192];
-    for (x, left) in [(255, true), (0, false)] {
-        let mut picture = with_sprite(0, 0, 0, x, left, &pattern);
-        picture.run(START_OF_BLANK, &pattern);
-        assert!(rt; !has_hit(&mut picture, &pattern), "at {x}");
-    }
 }
 
 // A sprite at X 3 and Y 0, with the left columns hidden, first hits at pixel 8 of line 1: its flag rises at dot 10.
@@ -94,49 +84,46 @@ fn the_first_hit_is_on_the_line_below(rt: HostRuntime) {
     assert!(rt; has_hit(&mut picture, &pattern));
 }
 
-// A tall sprite of tile $02, upside down, with row 7 of tile 3 alone opaque, hits on line Y + 1.
+// A sprite at X 100 hits at pixel 100 of line 1: its flag rises at dot 102. Reads of $2002 that come every 21 dots see
+// it at the first read from there on, and so does one read after the line was run as one.
 #[test]
-fn tall_sprites_flip_as_one(rt: HostRuntime) {
-    let mut pattern = [0u8; 8192];
-    for row in 0..8usize {
-        pattern[row] = 0xFF;
-    }
-    pattern[3 * 16 + 7] = 0xFF;
-    let mut picture = with_sprite(20, 2, 0x80, 16, true, &pattern);
-    picture.write(0, 0x20, &pattern);
-    picture.run(21 * 341, &pattern);
-    assert!(rt; !has_hit(&mut picture, &pattern));
-    picture.run(341, &pattern);
-    assert!(rt; has_hit(&mut picture, &pattern));
-}
-
-// A picture that takes an image goes on as the one that wrote it did.
-#[test]
-fn images_give_the_picture_again(rt: HostRuntime) {
+fn a_hit_inside_a_line_is_seen(rt: HostRuntime) {
     let pattern = [0xFFu8; 8192];
-    let mut image = [0u8; 4480];
-    let mut picture = with_sprite(30, 1, 0, 40, true, &pattern);
-    picture.write(6, 0x21, &pattern);
-    picture.run(12_345, &pattern);
-    picture.settle(&pattern);
-    picture.take_end();
-    picture.put(&mut image);
-    let position = picture.position();
-    picture.run(70_000, &pattern);
-    let (after, status) = (picture.position(), picture.read(2, &pattern));
-    picture.get(&image);
-    assert_eq!(rt; picture.position(), position);
-    picture.run(70_000, &pattern);
-    assert_eq!(rt; picture.position(), after);
-    assert_eq!(rt; picture.read(2, &pattern), status);
+    let mut polled = with_sprite(0, 0, 0, 100, true, &pattern);
+    for _ in 0..21 {
+        polled.run(21, &pattern);
+        assert!(rt; !has_hit(&mut polled, &pattern));
+    }
+    polled.run(21, &pattern);
+    assert!(rt; has_hit(&mut polled, &pattern));
+    assert_eq!(rt; polled.position(), Position { line: 1, dot: 121 });
+
+    let mut at_once = with_sprite(0, 0, 0, 100, true, &pattern);
+    at_once.run(2 * 341, &pattern);
+    assert!(rt; has_hit(&mut at_once, &pattern));
 }
 
-// A ninth sprite on line 27 raises the overflow flag at dot (27,257), and it falls at (261,1).
+// A settled picture writes its position into an image, 1,000 dots from power-on.
+#[test]
+fn an_image_has_the_settled_position(rt: HostRuntime) {
+    let pattern = [0xFFu8; 8192];
+    let mut picture = with_sprite(0, 0, 0, 100, true, &pattern);
+    picture.run(1000, &pattern);
+    picture.settle(&pattern);
+    let mut image = [0u8; 4448];
+    picture.put(&mut image);
+    assert_eq!(rt; &image[4384..4388], [2u8, 0, 62, 1].as_slice());
+}
+
+// A ninth sprite on line 27 raises the overflow flag at dot (27,257), also where dots before it are pending from one
+// read to the next, and it falls at (261,1).
 #[test]
 fn a_ninth_sprite_overflows(rt: HostRuntime) {
     let pattern = [0u8; 8192];
     let mut picture = with_ninth(27, &pattern);
-    picture.run(27 * 341 + 257, &pattern);
+    picture.run(27 * 341 + 200, &pattern);
+    assert!(rt; !has_overflow(&mut picture, &pattern));
+    picture.run(57, &pattern);
     assert!(rt; !has_overflow(&mut picture, &pattern));
     picture.run(1, &pattern);
     assert!(rt; has_overflow(&mut picture, &pattern));
