@@ -6,6 +6,7 @@
 
 ghost use Rattle.std.specs.Prelude.{◌≡◌, ◌+◌, ◌*◌, ◌/◌, ◌%◌, ◌<◌, ◌≤◌, ◌⊎◌, ◌==◌, ℕ, length, replicate, slice_index, slice_range, IsTrue, IfOk, MatchResult, None, Ok, Err, if◌then◌else◌};
 ghost use Rattle.std.specs.Int.{bit_at};
+ghost use Rattle.std.specs.List.{list_all};
 ghost use Rattle.nj_ines.specs.Header.{is_named, is_nes_2, is_clean, mapper_of, prg_units_of, chr_units_of, timing_of};
 ghost use Rattle.nj_ines.specs.Cartridge.{IsCartridge};
 ghost use Rattle.nj_ines.specs.Reading.{is_board, has_prg, has_chr, refusals, first_refusal, IsReadable, contents_of, cartridge_of};
@@ -77,13 +78,20 @@ fn has_nes_2(file: &[u8]) -> bool
     file[7] / 4 % 4 == 2
 }
 
+// Whether all bytes are zeros.
+fn are_zeros(bytes: &[u8]) -> bool
+    ensures { result ≡ list_all (λ byte. byte == 0) bytes.now }
+{
+    bytes.iter().all(|byte| *byte == 0)
+}
+
 // Whether an older header may be read past byte 6.
 #[tactic(auto, unfolding(crate::specs::Header::is_clean))]
 fn has_clean_tail(file: &[u8]) -> bool
     requires { 16 ≤ length file.now }
     ensures { result ≡ is_clean file.now }
 {
-    file[7] / 4 % 4 == 0 && file[12..16].iter().all(|byte| *byte == 0)
+    file[7] / 4 % 4 == 0 && are_zeros(&file[12..16])
 }
 
 // The mapper's number.
