@@ -1,7 +1,7 @@
 -- From what a form takes to a command, and from a command to the reading.
 use Rattle.std.proofs.Common.{◌≡◌, ◌∙◌, [], ◌∷◌, List, Some, None, String, ap, arith, codes, false, length, refl, string_bytes, subst, sym}
 use Rattle.std.proofs.lemmas.Bool.{false_from_ne_true}
-use Rattle.std.specs.Prelude.{option_and_then, Result, Err}
+use Rattle.std.specs.Prelude.{option_and_then, Result, Err, IfOk, Ok}
 use Rattle.std.specs.Result.{IsErrAnd}
 use Rattle.std.specs.Borrow.{Bor}
 use Rattle.std.specs.Str.{bytes_eq}
@@ -20,6 +20,12 @@ no_such same = absurd (cc)
 pub not_usage : {X : Type 0} (result : Result Command WordsRefused) → IsErrAnd result (λ e. e ≡ NoMemory)
     → result ≡ Err Usage → X
 not_usage result want usage = no_such (subst (λ r. IsErrAnd r (λ e. e ≡ NoMemory)) usage want)
+
+-- want of memory is no command
+pub no_command : (result : Result Command WordsRefused) (holds : Command → Type 0)
+    → IsErrAnd result (λ e. e ≡ NoMemory) → IfOk result holds
+no_command (Ok command) holds want = absurd want
+no_command (Err refused) holds want = tt
 
 -- the form takes nothing from the words
 pub none_made : (row : Row) (names options : List (Bor Word)) (words : List Word) → form_of names options ≡ row.form

@@ -36,11 +36,13 @@ pub(crate) fn replay(alloc: Global, words: &[String]) -> Result<Command, WordsRe
     ensures in_range { IfOk result (λ command. IsInRange command) }
 {
     let given = take(alloc, REPLAY_NAMES.as_slice(), NO_OPTIONS.as_slice(), words)?;
+    let (cart, script) = given.pair(alloc, 0, 1)?;
+    let (start, movie) = given.pair(alloc, 2, 3)?;
     Ok(Command::Replay {
-        cart: given.name(alloc, 0)?,
-        script: given.name(alloc, 1)?,
-        start: given.name(alloc, 2)?,
-        movie: given.name(alloc, 3)?,
+        cart,
+        script,
+        start,
+        movie,
     })
 }
 
@@ -98,9 +100,10 @@ pub(crate) fn search(alloc: Global, words: &[String]) -> Result<Command, WordsRe
         words,
     )?;
     let options = search_options(alloc, &given)?;
+    let (cart, script) = given.pair(alloc, 0, 1)?;
     Ok(Command::Search {
-        cart: given.name(alloc, 0)?,
-        script: given.name(alloc, 1)?,
+        cart,
+        script,
         start: given.name(alloc, 2)?,
         options,
     })
@@ -119,11 +122,13 @@ pub(crate) fn resume(alloc: Global, words: &[String]) -> Result<Command, WordsRe
         words,
     )?;
     let options = search_options(alloc, &given)?;
+    let (cart, script) = given.pair(alloc, 0, 1)?;
+    let (start, saved) = given.pair(alloc, 2, 3)?;
     Ok(Command::Resume {
-        cart: given.name(alloc, 0)?,
-        script: given.name(alloc, 1)?,
-        start: given.name(alloc, 2)?,
-        saved: given.name(alloc, 3)?,
+        cart,
+        script,
+        start,
+        saved,
         options,
     })
 }
@@ -137,10 +142,8 @@ pub(crate) fn check(alloc: Global, words: &[String]) -> Result<Command, WordsRef
     ensures in_range { IfOk result (λ command. IsInRange command) }
 {
     let given = take(alloc, CHECK_NAMES.as_slice(), NO_OPTIONS.as_slice(), words)?;
-    Ok(Command::Check {
-        cart: given.name(alloc, 0)?,
-        script: given.name(alloc, 1)?,
-    })
+    let (cart, script) = given.pair(alloc, 0, 1)?;
+    Ok(Command::Check { cart, script })
 }
 
 static WORKLOAD_NAMES: [&str; 1] = ["NUMBER"];
@@ -186,11 +189,13 @@ pub(crate) fn clean(alloc: Global, words: &[String]) -> Result<Command, WordsRef
     ensures in_range { IfOk result (λ command. IsInRange command) }
 {
     let given = take(alloc, CLEAN_NAMES.as_slice(), NO_OPTIONS.as_slice(), words)?;
+    let (cart, script) = given.pair(alloc, 0, 1)?;
+    let (start, movie) = given.pair(alloc, 2, 3)?;
     Ok(Command::Clean {
-        cart: given.name(alloc, 0)?,
-        script: given.name(alloc, 1)?,
-        start: given.name(alloc, 2)?,
-        movie: given.name(alloc, 3)?,
+        cart,
+        script,
+        start,
+        movie,
     })
 }
 
@@ -213,8 +218,7 @@ pub(crate) fn trace(alloc: Global, words: &[String]) -> Result<Command, WordsRef
     let Some(frame) = given.number(0, 1, 1_048_576, 1) else {
         return Err(WordsRefused::Usage);
     };
-    let cart = given.name(alloc, 0)?;
-    let movie = given.name(alloc, 1)?;
+    let (cart, movie) = given.pair(alloc, 0, 1)?;
     Ok(Command::Trace {
         cart,
         movie,
@@ -231,9 +235,10 @@ pub(crate) fn watch(alloc: Global, words: &[String]) -> Result<Command, WordsRef
     ensures in_range { IfOk result (λ command. IsInRange command) }
 {
     let given = take(alloc, WATCH_NAMES.as_slice(), NO_OPTIONS.as_slice(), words)?;
+    let (cart, script) = given.pair(alloc, 0, 1)?;
     Ok(Command::Watch {
-        cart: given.name(alloc, 0)?,
-        script: given.name(alloc, 1)?,
+        cart,
+        script,
         movie: given.name(alloc, 2)?,
     })
 }

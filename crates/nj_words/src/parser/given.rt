@@ -31,6 +31,23 @@ impl<'a> Given<'a> {
         Text::from_str(alloc, self.names[place])
     }
 
+    /// Copies of the words of the names at these places.
+    pub(crate) fn pair(
+        &self,
+        alloc: Global,
+        first: usize,
+        second: usize,
+    ) -> Result<(Text, Text), AllocError>
+        requires first_there { first < length self.now.names.items }
+        requires second_there { second < length self.now.names.items }
+        ensures { IfOk result (λ words. (words.0 ≡ name_at (taken_of self.now) first)
+            × (words.1 ≡ name_at (taken_of self.now) second)) }
+    {
+        let word = self.name(alloc, first)?;
+        let other = self.name(alloc, second)?;
+        Ok((word, other))
+    }
+
     /// The number that the name at this place is, where it is decimal digits.
     pub(crate) fn decimal(&self, place: usize) -> Option<u64>
         requires { place < length self.now.names.items }

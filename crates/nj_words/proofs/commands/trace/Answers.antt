@@ -1,11 +1,11 @@
-use Rattle.std.proofs.Common.{ap, rules, sym, ◌++◌, ◌∙◌}
+use Rattle.std.proofs.Common.{ap, arith, length, rules, sym, ◌++◌, ◌∙◌}
 use Rattle.std.specs.Prelude.{option_map}
 use Rattle.clap.specs.Walk.{texts}
 use Rattle.nj_words.specs.Words.{is_distinct}
 use Rattle.nj_words.specs.Commands.{name_at, trace_row}
 use Rattle.nj_words.specs.Parser.{form_of, taken_of, words_of}
 use Rattle.nj_words.specs.declared.Command.TheVariants.{Trace}
-use Rattle.nj_words.proofs.Making.{all_made, none_made, not_usage}
+use Rattle.nj_words.proofs.Making.{all_made, no_command, none_made, not_usage}
 use Rattle.nj_words.proofs.commands.trace.Goals as goal
 
 pub returns-in_err-given-clause-usage : goal.returns-in_err-given-clause-usage
@@ -27,7 +27,7 @@ returns-clause-read c =
     all_made trace_row c.as_slice.result.now c.as_slice-2.result.now (words_of c.args.words.now)
     (taken_of c.in_ok-given.given)
     (λ i. form_of (c.as_slice.ensures i) (c.as_slice-2.ensures i)) c.in_ok-given.ensures.given
-    ∙ (λ i. option_map (λ frame. Trace (sym c.in_ok-cart.ensures i) (sym c.in_ok-movie.ensures i) frame)
+    ∙ (λ i. option_map (λ frame. Trace (sym c.in_ok-cart.ensures.0 i) (sym c.in_ok-cart.ensures.1 i) frame)
     ((sym c.number.ensures.value ∙ c.in-Some.is) i))
 
 pub take-requires-clause-distinct : goal.take-requires-clause-distinct
@@ -37,6 +37,19 @@ pub returns-in_err-cart-clause-usage : goal.returns-in_err-cart-clause-usage
 returns-in_err-cart-clause-usage c =
     not_usage c.from_residual-in_err-cart.result c.from_residual-in_err-cart.ensures.1
 
-pub returns-in_err-movie-clause-usage : goal.returns-in_err-movie-clause-usage
-returns-in_err-movie-clause-usage c =
-    not_usage c.from_residual-in_err-movie.result c.from_residual-in_err-movie.ensures.1
+pub returns-in_err-cart-clause-read : goal.returns-in_err-cart-clause-read
+returns-in_err-cart-clause-read c =
+    no_command c.from_residual-in_err-cart.result _ c.from_residual-in_err-cart.ensures.1
+
+pub returns-in_err-cart-clause-in_range : goal.returns-in_err-cart-clause-in_range
+returns-in_err-cart-clause-in_range c =
+    no_command c.from_residual-in_err-cart.result _ c.from_residual-in_err-cart.ensures.1
+
+pub take-requires-clause-few : goal.take-requires-clause-few
+take-requires-clause-few c = omega (arith, ap length c.as_slice.ensures)
+
+pub pair-requires-clause-first_there : goal.pair-requires-clause-first_there
+pair-requires-clause-first_there c = omega (arith, c.in_ok-given.ensures.names_count, ap length c.as_slice.ensures)
+
+pub pair-requires-clause-second_there : goal.pair-requires-clause-second_there
+pair-requires-clause-second_there c = omega (arith, c.in_ok-given.ensures.names_count, ap length c.as_slice.ensures)
