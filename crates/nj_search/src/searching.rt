@@ -194,6 +194,28 @@ fn step_on<L: Ledger>(
 }
 
 // So many steps at most.
+fn make_steps<L: Ledger>(
+    alloc: Global,
+    search: &mut Search,
+    limit: u32,
+    keep: bool,
+    steps: &mut Steps<L>,
+) -> Result<Ended, AllocError>
+    requires spent { search.old.spent ≡ false }
+    requires limit { search.old.state.step + limit ≤ 16777215 }
+    ensures ended { IfOk result (λ ended. answer_of search.old.plan keep (rest_of search.old limit) ≡ ended) }
+    ensures frames { steps.new ≤ steps.old + frames_a_step search.old * limit }
+    ensures never_falls { steps.old ≤ steps.new }
+{
+    for _made in 0..limit {
+        if let Some(outcome) = step_on(alloc, search, steps)? {
+            return Ok(Ended::unsaved(outcome));
+        }
+    }
+    at_limit(alloc, search, keep)
+}
+
+// So many steps at most of a search that is let go behind them.
 fn search_on<L: Ledger>(
     alloc: Global,
     mut search: Search,
@@ -207,12 +229,9 @@ fn search_on<L: Ledger>(
     ensures frames { steps.new ≤ steps.old + frames_a_step search * limit }
     ensures never_falls { steps.old ≤ steps.new }
 {
-    for _made in 0..limit {
-        if let Some(outcome) = step_on(alloc, &mut search, steps)? {
-            return Ok(Ended::unsaved(outcome));
-        }
-    }
-    at_limit(alloc, &search, keep)
+    let ended = make_steps(alloc, &mut search, limit, keep, steps);
+    drop(search);
+    ended
 }
 
 // A search that was begun: it is over at its start, or goes on.
@@ -233,10 +252,14 @@ fn judge_start(alloc: Global, search: Search) -> Result<Begun, AllocError>
     match first.verdict {
         Verdict::Go => Ok(Begun::Going(search)),
         Verdict::Win => {
-            let movie = search.movie(alloc, 0)?;
-            Ok(Begun::Over(Outcome::won_at_once(first, movie)))
+            let movie = search.movie(alloc, 0);
+            drop(search);
+            Ok(Begun::Over(Outcome::won_at_once(first, movie?)))
         }
-        Verdict::Fail => Ok(Begun::Over(Outcome::Exhausted { step: 0 })),
+        Verdict::Fail => {
+            drop(search);
+            Ok(Begun::Over(Outcome::Exhausted { step: 0 }))
+        }
     }
 }
 

@@ -66,6 +66,32 @@ fn step_shared<R: Threads + Wait + Sync, G: Gate, L: Ledger + Send>(
 }
 
 // So many steps at most.
+fn share_steps<R: Threads + Wait + Sync, G: Gate, L: Ledger + Send>(
+    rt: &R,
+    alloc: Global,
+    search: &mut Search,
+    limit: u32,
+    keep: bool,
+    workers: u32,
+    gate: &G,
+    steps: &mut Vec<Steps<L>>,
+) -> Result<Ended, AllocError>
+    requires spent { search.old.spent ≡ false }
+    requires limit { search.old.state.step + limit ≤ 16777215 }
+    requires workers { (1 ≤ workers) × (workers ≤ 64) }
+    requires counters { workers ≤ length steps.old.items }
+    ensures ended { IfOk result (λ ended. answer_of search.old.plan keep (rest_of search.old limit) ≡ ended) }
+    ensures frames { AreCounted workers steps.old.items steps.new.items (frames_a_step search.old * limit) }
+{
+    for _made in 0..limit {
+        if let Some(outcome) = step_shared(rt, alloc, search, workers, gate, steps)? {
+            return Ok(Ended::unsaved(outcome));
+        }
+    }
+    at_limit(alloc, search, keep)
+}
+
+// So many steps at most of a search that is let go behind them.
 fn share_on<R: Threads + Wait + Sync, G: Gate, L: Ledger + Send>(
     rt: &R,
     alloc: Global,
@@ -83,12 +109,9 @@ fn share_on<R: Threads + Wait + Sync, G: Gate, L: Ledger + Send>(
     ensures ended { IfOk result (λ ended. answer_of search.plan keep (rest_of search limit) ≡ ended) }
     ensures frames { AreCounted workers steps.old.items steps.new.items (frames_a_step search * limit) }
 {
-    for _made in 0..limit {
-        if let Some(outcome) = step_shared(rt, alloc, &mut search, workers, gate, steps)? {
-            return Ok(Ended::unsaved(outcome));
-        }
-    }
-    at_limit(alloc, &search, keep)
+    let ended = share_steps(rt, alloc, &mut search, limit, keep, workers, gate, steps);
+    drop(search);
+    ended
 }
 
 // Searches as planned.

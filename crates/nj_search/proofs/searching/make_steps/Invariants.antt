@@ -1,5 +1,5 @@
 use Rattle.nj_search.proofs.Going.{AreMade}
-use Rattle.nj_search.proofs.searching.search_on.Given as goal
+use Rattle.nj_search.proofs.searching.make_steps.Given as goal
 
 -- so many steps were made, and what is left gives the whole outcome
 abbrev pub invariant-loop-made : goal.invariant-loop-made

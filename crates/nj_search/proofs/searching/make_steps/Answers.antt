@@ -4,7 +4,7 @@ use Rattle.nj_search_defs.specs.Outcome.{LimitAt}
 use Rattle.nj_search.specs.Ends.{answer_of}
 use Rattle.nj_search.specs.Rests.{rest_of}
 use Rattle.nj_search.proofs.Going.{frames_within, told_at_end, told_at_limit}
-use Rattle.nj_search.proofs.searching.search_on.Goals as goal
+use Rattle.nj_search.proofs.searching.make_steps.Goals as goal
 
 pub returns-in_err-outcome-clause-frames : goal.returns-in_err-outcome-clause-frames
 returns-in_err-outcome-clause-frames g c =
@@ -24,7 +24,7 @@ pub returns-clause-ended : goal.returns-clause-ended
 returns-clause-ended g c =
     let now = c.loop-made.search in
     IfOk-weaker c.at_limit.result (λ ended. answer_of now.plan c.args.keep (LimitAt now.state) ≡ ended)
-    (λ ended. answer_of c.args.search.plan c.args.keep (rest_of c.args.search c.args.limit) ≡ ended)
+    (λ ended. answer_of c.args.search.now.plan c.args.keep (rest_of c.args.search.now c.args.limit) ≡ ended)
     (λ ended told. told_at_limit _ _ _ _ _ _ c.args.keep ended c.loop-made-test.false c.loop-made.invariant told)
     c.at_limit.ensures
 

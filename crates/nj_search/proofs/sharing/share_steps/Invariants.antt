@@ -3,7 +3,7 @@ use Rattle.std.proofs.Common.{◌*◌}
 use Rattle.nj_workers.specs.Counted.{AreCounted}
 use Rattle.nj_search.specs.Rests.{frames_a_step}
 use Rattle.nj_search.proofs.Going.{AreMade}
-use Rattle.nj_search.proofs.sharing.share_on.Given as goal
+use Rattle.nj_search.proofs.sharing.share_steps.Given as goal
 
 abbrev pub invariant-loop-made : goal.invariant-loop-made
 invariant-loop-made g l = record {
